@@ -7,7 +7,7 @@ use crate::sorted::{Quiet, Sorted};
 use crate::timed::{Line, Timed};
 use anyhow::{Context, Result};
 use lert_io::OutOfMemory;
-use lert_landing::{Sum, add_total, end_totals};
+use lert_levels::landing::{Sum, add_total, end_totals};
 use lert_merge::{Ahead, Order};
 use lert_merge::order::Each;
 use std::alloc::Global;

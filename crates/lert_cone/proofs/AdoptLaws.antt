@@ -11,11 +11,11 @@ use Rattle.lert_bay.specs.Files.{Files}
 use Rattle.lert_bay.specs.Settled.{IsSettled}
 use Rattle.lert_frames.specs.Frame.{HoldsFrame}
 use Rattle.lert_gatelog.specs.Kept.{InEach, IsWhollySettled}
-use Rattle.lert_rows.specs.declared.bin_at.BinAt.{BinAt}
+use Rattle.lert_levels.specs.declared.rows.bin_at.BinAt.{BinAt}
 use Rattle.lert_levels.specs.Flushed.{InNamed}
-use Rattle.lert_rows.specs.Ranges.{filled}
-use Rattle.lert_rows.specs.Rows.{IsAt, AreRows, HoldsBins, range_of, row_of, tallied_in}
-use Rattle.lert_rows.proofs.RangeLaws.{bins-ranges}
+use Rattle.lert_levels.specs.rows.Ranges.{filled}
+use Rattle.lert_levels.specs.rows.Rows.{IsAt, AreRows, HoldsBins, range_of, row_of, tallied_in}
+use Rattle.lert_levels.proofs.rows.RangeLaws.{bins-ranges}
 use Rattle.lert_reports.specs.Log.{HasLog, listed_in, last_n0, last_directory, is_closed, most_record}
 use Rattle.lert_reports.specs.LogText.{LogRecord}
 use Rattle.lert_reports.proofs.LogOnce.{one_log}

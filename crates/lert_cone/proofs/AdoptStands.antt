@@ -4,8 +4,8 @@ use Rattle.lert_base.specs.Packet.{Packet}
 use Rattle.lert_bay.specs.Files.{Files, IfTold}
 use Rattle.lert_gatelog.specs.Gated.{Log}
 use Rattle.lert_gatelog.specs.Kept.{IsWhollySettled}
-use Rattle.lert_rows.specs.declared.bin_at.BinAt.{BinAt}
-use Rattle.lert_rows.specs.Rows.{IsAt}
+use Rattle.lert_levels.specs.declared.rows.bin_at.BinAt.{BinAt}
+use Rattle.lert_levels.specs.rows.Rows.{IsAt}
 use Rattle.lert_reports.specs.Log.{HasLog, HasRecords, last_n0, most_record}
 use Rattle.lert_reports.specs.LogText.{LogRecord}
 use Rattle.lert_reports.specs.declared.log_point.LogPoint.{LogPoint}

@@ -13,7 +13,7 @@ use Rattle.lert_gatelog.specs.Gated.{next_gate}
 use Rattle.lert_gatelog.specs.Kept.{InEach, KeepsOthers, KeepsBefore, IsWhollySettled}
 use Rattle.lert_journal.specs.Journal.{HasPackets, HasPacketsOrOneMore}
 use Rattle.lert_journal.specs.Payload.{payload_of, IsJournaled}
-use Rattle.lert_rows.specs.Rows.{HoldsBins}
+use Rattle.lert_levels.specs.rows.Rows.{HoldsBins}
 use Rattle.lert_reports.specs.Log.{HasLog, last_n0}
 use Rattle.lert_spec.specs.declared.numbers.Numbers.{Numbers}
 use Rattle.lert_spec.specs.Edges.{capacity}

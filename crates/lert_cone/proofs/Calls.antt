@@ -5,7 +5,7 @@ use Rattle.lert_bay.proofs.KeptLaws.{IsLawful, reads}
 use Rattle.lert_bay.specs.Files.{Files, IfTold, Turns}
 use Rattle.lert_bay.specs.Images.{Lasts}
 use Rattle.lert_gatelog.specs.Kept.{KeepsOthers, IsWhollySettled, OthersStay}
-use Rattle.lert_rows.specs.Landing.{KeepsRest}
+use Rattle.lert_levels.specs.rows.Landing.{KeepsRest}
 use Rattle.lert_cone.specs.Wrote.{LeavesAlone, IsShutIfTold}
 use Rattle.lert_cone.proofs.WroteLaws.{leaves_none, leaves_on, leaves_rest, leaves_others, leaves_read, settled_through, shut_through}
 

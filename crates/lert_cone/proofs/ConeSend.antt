@@ -10,9 +10,9 @@ use Rattle.lert_bay.specs.declared.bay.Bay as bay
 use Rattle.lert_frames.specs.contracts.reader.FrameReader as Reader
 use Rattle.lert_merge.specs.contracts.order.ahead.Ahead as Ahead
 use Rattle.lert_merge.specs.contracts.order.ahead.Ahead.TheInside as ahead
-use Rattle.lert_streams.specs.contracts.cursor.TableCursor as Cursor
-use Rattle.lert_streams.specs.contracts.room.StreamRoom as Streams
-use Rattle.lert_streams.specs.contracts.room.StreamRoom.TheInside as streams
+use Rattle.lert_levels.specs.contracts.streams.cursor.TableCursor as Cursor
+use Rattle.lert_levels.specs.contracts.streams.room.StreamRoom as Streams
+use Rattle.lert_levels.specs.contracts.streams.room.StreamRoom.TheInside as streams
 use Rattle.lert_levels.specs.contracts.merger.Reading as Reading
 use Rattle.lert_levels.specs.contracts.merger.Writing as Writing
 use Rattle.lert_levels.specs.contracts.levels.Levels as Levels

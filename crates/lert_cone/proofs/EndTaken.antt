@@ -5,7 +5,7 @@ use Rattle.lert_base.specs.Packet.{Packet, events_of}
 use Rattle.lert_bay.specs.Files.{Files, IfTold}
 use Rattle.lert_gatelog.specs.Gated.{IsGated}
 use Rattle.lert_gatelog.specs.Kept.{InEach, IsWithOrWithout}
-use Rattle.lert_rows.specs.Rows.{directory_text}
+use Rattle.lert_levels.specs.rows.Rows.{directory_text}
 use Rattle.lert_reports.specs.declared.log.LogKind.{LogKind}
 use Rattle.lert_reports.specs.Log.{most_record}
 use Rattle.lert_reports.specs.LogText.{LogRecord, log_payload_of}

@@ -11,9 +11,9 @@ use Rattle.lert_bay.proofs.KeptLaws.{IsLawful}
 use Rattle.lert_gatelog.specs.Gated.{IsGated, next_gate}
 use Rattle.lert_gatelog.specs.Kept.{InEach, OthersStay}
 use Rattle.lert_levels.specs.Flushed.{InNamed}
-use Rattle.lert_rows.specs.declared.bin_at.BinAt.{BinAt}
-use Rattle.lert_rows.specs.Landing.{KeepsRest, LeavesRest}
-use Rattle.lert_rows.specs.Rows.{AreRows, HoldsBins, IsAt, directory_text}
+use Rattle.lert_levels.specs.declared.rows.bin_at.BinAt.{BinAt}
+use Rattle.lert_levels.specs.rows.Landing.{KeepsRest, LeavesRest}
+use Rattle.lert_levels.specs.rows.Rows.{AreRows, HoldsBins, IsAt, directory_text}
 use Rattle.lert_reports.specs.declared.log.LogKind.{LogKind}
 use Rattle.lert_reports.specs.Log.{HasRecords, last_n0, most_record}
 use Rattle.lert_reports.specs.LogText.{LogRecord, log_payload, log_payload_of}

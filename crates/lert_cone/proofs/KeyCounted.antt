@@ -4,14 +4,14 @@ use Rattle.std.proofs.Common.{◌∙◌, subst, arith}
 use Rattle.std.specs.Result.{IsErrAnd}
 use Rattle.lert_bay.specs.Files.{Files}
 use Rattle.lert_gatelog.specs.Kept.{InEach}
-use Rattle.lert_rows.specs.declared.fault.FlushFault.{FlushFault}
-use Rattle.lert_rows.specs.declared.fault.FlushFault.TheVariants.{Failed as FlushFailed, Malformed}
+use Rattle.lert_levels.specs.declared.rows.fault.FlushFault.{FlushFault}
+use Rattle.lert_levels.specs.declared.rows.fault.FlushFault.TheVariants.{Failed as FlushFailed, Malformed}
 use Rattle.lert_levels.specs.Flushed.{InNamed}
-use Rattle.lert_rows.specs.Landing.{KeepsRest}
-use Rattle.lert_rows.specs.Loading.{OneBreaks}
+use Rattle.lert_levels.specs.rows.Landing.{KeepsRest}
+use Rattle.lert_levels.specs.rows.Loading.{OneBreaks}
 use Rattle.lert_levels.specs.OnDisk.{OnDisk}
-use Rattle.lert_rows.specs.Rows.{AreRows, HoldsBins}
-use Rattle.lert_rows.specs.Young.{Young}
+use Rattle.lert_levels.specs.rows.Rows.{AreRows, HoldsBins}
+use Rattle.lert_levels.specs.rows.Young.{Young}
 use Rattle.lert_spec.specs.declared.numbers.Numbers.{Numbers}
 use Rattle.lert_spec.specs.declared.report.Report.{Report}
 use Rattle.lert_spec.specs.Edges.{edge}

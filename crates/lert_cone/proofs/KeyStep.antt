@@ -12,10 +12,10 @@ use Rattle.lert_bay.proofs.KeptLaws.{IsLawful}
 use Rattle.lert_bay.specs.Settled.{Keeps, IsSettled}
 use Rattle.lert_gatelog.specs.Gated.{IsGated, next_gate}
 use Rattle.lert_gatelog.specs.Kept.{InEach, KeepsOthers, KeepsBefore, IsWhollySettled, IsWithOrWithout}
-use Rattle.lert_rows.specs.declared.bin_at.BinAt.{BinAt}
+use Rattle.lert_levels.specs.declared.rows.bin_at.BinAt.{BinAt}
 use Rattle.lert_levels.specs.Flushed.{InNamed}
-use Rattle.lert_rows.specs.Landing.{KeepsRest}
-use Rattle.lert_rows.specs.Rows.{IsAt, AreRows, HoldsBins, directory_text}
+use Rattle.lert_levels.specs.rows.Landing.{KeepsRest}
+use Rattle.lert_levels.specs.rows.Rows.{IsAt, AreRows, HoldsBins, directory_text}
 use Rattle.lert_reports.specs.declared.log.LogKind.{LogKind}
 use Rattle.lert_reports.specs.Log.{HasLog, AreRecords, last_n0, listed_in, most_record}
 use Rattle.lert_reports.specs.LogText.{LogRecord, log_payload, log_payload_of}

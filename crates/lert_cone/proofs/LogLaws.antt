@@ -10,9 +10,9 @@ use Rattle.std.proofs.lemmas.List.{append-nil, length-map, take-append-le, take_
 use Rattle.std.proofs.lemmas.List.Elements.{All-map}
 use Rattle.std.proofs.lemmas.List.Folds.{flat_map-map}
 use Rattle.std.proofs.lemmas.List.Sums.{length-filter}
-use Rattle.lert_rows.specs.declared.bin_at.BinAt.{BinAt}
-use Rattle.lert_rows.specs.Ranges.{Range, range_at, ranges}
-use Rattle.lert_rows.specs.Rows.{directory_text, range_of, row_of, IsAt, IsRow, AreRows}
+use Rattle.lert_levels.specs.declared.rows.bin_at.BinAt.{BinAt}
+use Rattle.lert_levels.specs.rows.Ranges.{Range, range_at, ranges}
+use Rattle.lert_levels.specs.rows.Rows.{directory_text, range_of, row_of, IsAt, IsRow, AreRows}
 use Rattle.lert_reports.specs.declared.log.LogKind.{LogKind}
 use Rattle.lert_reports.specs.Log.{AreRecords, is_closed, last_n0, last_at, listed_in, before_of, flushes_in}
 use Rattle.lert_reports.specs.LogRules.{IsInTurn, AreFrames, AreNew, KeepsRules}

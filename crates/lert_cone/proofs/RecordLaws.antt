@@ -5,9 +5,9 @@ use Rattle.std.proofs.lemmas.List.{take_all, get_or_default}
 use Rattle.std.proofs.lemmas.Nat.{mul-le}
 use Rattle.lert_gatelog.specs.Gated.{appendix, IsAppendix}
 use Rattle.lert_gatelog.proofs.GatedLaws.{length_appendix}
-use Rattle.lert_rows.specs.declared.bin_at.BinAt.{BinAt}
-use Rattle.lert_rows.specs.Rows.{AreRows, row_of, directory_text}
-use Rattle.lert_rows.proofs.MoveLaws.{directory_short}
+use Rattle.lert_levels.specs.declared.rows.bin_at.BinAt.{BinAt}
+use Rattle.lert_levels.specs.rows.Rows.{AreRows, row_of, directory_text}
+use Rattle.lert_levels.proofs.rows.MoveLaws.{directory_short}
 use Rattle.lert_reports.specs.declared.log.LogKind.{LogKind}
 use Rattle.lert_reports.specs.LogText.{log_payload}
 use Rattle.lert_reports.proofs.LogLaws.{log_payload_length}

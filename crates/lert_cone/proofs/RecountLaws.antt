@@ -11,10 +11,10 @@ use Rattle.lert_spec.specs.Limits.{IsValid}
 use Rattle.lert_spec.specs.Mix.{cone_of, tail_of}
 use Rattle.lert_spec.proofs.LookLaws.{AreKeys}
 use Rattle.lert_spec.proofs.TailLaws.{AreOfCone}
-use Rattle.lert_rows.specs.Ranges.{young_bins}
-use Rattle.lert_rows.specs.Rows.{IsAt, AreRows}
-use Rattle.lert_rows.specs.Young.{Young, IsNextPosition, with_event, added}
-use Rattle.lert_rows.proofs.YoungBins.{young-added, young-none}
+use Rattle.lert_levels.specs.rows.Ranges.{young_bins}
+use Rattle.lert_levels.specs.rows.Rows.{IsAt, AreRows}
+use Rattle.lert_levels.specs.rows.Young.{Young, IsNextPosition, with_event, added}
+use Rattle.lert_levels.proofs.rows.YoungBins.{young-added, young-none}
 use Rattle.lert_cone.specs.Tally.{Tallied, IsCounted, IsRecounted, IsRising, AreYoung}
 use Rattle.lert_cone.proofs.KeyLemmas.{AreKeys-push, AreOfCone-push}
 use Rattle.lert_cone.proofs.TallyLaws.{wide, aligned, next_free}

@@ -7,8 +7,8 @@ use Rattle.std.proofs.lemmas.Bool.{cases_eq, cases_lt, cases_Bool, eq-eqb, ne_eq
 use Rattle.std.proofs.lemmas.List.{take_at, take_all, take-append-drop, length-take-le}
 use Rattle.lert_base.specs.Packet.{Packet, events_of}
 use Rattle.lert_bay.specs.Files.{Files}
-use Rattle.lert_rows.specs.declared.bin_at.BinAt.{BinAt}
-use Rattle.lert_rows.specs.Rows.{IsAt}
+use Rattle.lert_levels.specs.declared.rows.bin_at.BinAt.{BinAt}
+use Rattle.lert_levels.specs.rows.Rows.{IsAt}
 use Rattle.lert_spec.specs.declared.numbers.Numbers.{Numbers}
 use Rattle.lert_spec.specs.declared.report.Report.{Report}
 use Rattle.lert_spec.specs.Edges.{edge}

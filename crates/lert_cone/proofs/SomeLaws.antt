@@ -12,11 +12,11 @@ use Rattle.lert_spec.specs.Edges.{span, edge}
 use Rattle.lert_spec.specs.Limits.{IsValid}
 use Rattle.lert_spec.proofs.EdgeLaws.{edge_descends_to}
 use Rattle.lert_spec.proofs.LookLaws.{slice_range-append}
-use Rattle.lert_rows.specs.declared.bin_at.BinAt.{BinAt}
-use Rattle.lert_rows.specs.Ranges.{young_bins}
-use Rattle.lert_rows.specs.Rows.{row_of, IsAt, HoldsBins, tallied_in}
-use Rattle.lert_rows.proofs.RangeLaws.{IsCut, cuts_are, edge_within}
-use Rattle.lert_rows.proofs.RowLaws.{All-ranges}
+use Rattle.lert_levels.specs.declared.rows.bin_at.BinAt.{BinAt}
+use Rattle.lert_levels.specs.rows.Ranges.{young_bins}
+use Rattle.lert_levels.specs.rows.Rows.{row_of, IsAt, HoldsBins, tallied_in}
+use Rattle.lert_levels.proofs.rows.RangeLaws.{IsCut, cuts_are, edge_within}
+use Rattle.lert_levels.proofs.rows.RowLaws.{All-ranges}
 use Rattle.lert_cone.specs.Framed.{HoldsSome}
 use Rattle.lert_cone.specs.Tally.{Tallied}
 

@@ -10,7 +10,7 @@ use Rattle.lert_gatelog.specs.Gated.{IsClosed, Log, next_gate}
 use Rattle.lert_io.specs.Fault.{HasRisen}
 use Rattle.lert_journal.specs.Payload.{payload_of}
 use Rattle.lert_journal.proofs.PayloadLaws.{length_payload}
-use Rattle.lert_rows.specs.declared.bin_at.BinAt.{BinAt}
+use Rattle.lert_levels.specs.declared.rows.bin_at.BinAt.{BinAt}
 use Rattle.lert_levels.proofs.LaterLaws.{HoldsBins-none}
 use Rattle.lert_reports.specs.Log.{most_record}
 use Rattle.lert_spec.specs.declared.numbers.Numbers.{Numbers}

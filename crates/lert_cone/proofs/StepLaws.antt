@@ -17,11 +17,11 @@ use Rattle.lert_gatelog.specs.Gated.{IsGated, next_gate}
 use Rattle.lert_gatelog.specs.Kept.{InEach, KeepsBefore, IsWithOrWithout}
 use Rattle.lert_gatelog.proofs.GatedLaws.{gated_behind, part_within, records_ascend}
 use Rattle.lert_journal.specs.Payload.{payload_of}
-use Rattle.lert_rows.specs.declared.bin_at.BinAt.{BinAt}
+use Rattle.lert_levels.specs.declared.rows.bin_at.BinAt.{BinAt}
 use Rattle.lert_levels.specs.Flushed.{InNamed}
-use Rattle.lert_rows.specs.Ranges.{filled}
-use Rattle.lert_rows.specs.Rows.{IsAt, AreRows, HoldsBins, range_of, row_of, tallied_in}
-use Rattle.lert_rows.proofs.RangeLaws.{bins-ranges}
+use Rattle.lert_levels.specs.rows.Ranges.{filled}
+use Rattle.lert_levels.specs.rows.Rows.{IsAt, AreRows, HoldsBins, range_of, row_of, tallied_in}
+use Rattle.lert_levels.proofs.rows.RangeLaws.{bins-ranges}
 use Rattle.lert_reports.specs.Log.{HasLog, AreRecords, listed_in, last_n0, last_directory, is_closed, log_header, most_record}
 use Rattle.lert_reports.specs.LogText.{LogRecord, log_payload_of}
 use Rattle.lert_spec.specs.declared.numbers.Numbers.{Numbers}

@@ -16,13 +16,13 @@ use Rattle.lert_spec.specs.Look.{look, closing}
 use Rattle.lert_spec.specs.Mix.{cone_of, tail_of}
 use Rattle.lert_spec.specs.Table.{IsTable}
 use Rattle.lert_spec.proofs.TallyLaws.{IsTable-tallied}
-use Rattle.lert_rows.specs.declared.bin_at.BinAt.{BinAt}
-use Rattle.lert_rows.specs.declared.fault.FlushFault.{FlushFault}
-use Rattle.lert_rows.specs.declared.fault.FlushFault.TheVariants.{Failed as FlushFailed, Malformed}
-use Rattle.lert_rows.specs.Loading.{RowBreaks, OneBreaks}
-use Rattle.lert_rows.specs.Ranges.{young_bins}
-use Rattle.lert_rows.specs.Rows.{IsAt, AreRows, HoldsBins}
-use Rattle.lert_rows.specs.Young.{Young, with_event}
+use Rattle.lert_levels.specs.declared.rows.bin_at.BinAt.{BinAt}
+use Rattle.lert_levels.specs.declared.rows.fault.FlushFault.{FlushFault}
+use Rattle.lert_levels.specs.declared.rows.fault.FlushFault.TheVariants.{Failed as FlushFailed, Malformed}
+use Rattle.lert_levels.specs.rows.Loading.{RowBreaks, OneBreaks}
+use Rattle.lert_levels.specs.rows.Ranges.{young_bins}
+use Rattle.lert_levels.specs.rows.Rows.{IsAt, AreRows, HoldsBins}
+use Rattle.lert_levels.specs.rows.Young.{Young, with_event}
 use Rattle.lert_cone.specs.declared.tally.TakeFault.{TakeFault}
 use Rattle.lert_cone.specs.declared.tally.TakeFault.TheVariants.{Unsound}
 use Rattle.lert_cone.specs.Due.{Dues, TookFrom, due_reports, started}

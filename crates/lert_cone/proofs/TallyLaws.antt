@@ -15,13 +15,13 @@ use Rattle.lert_spec.specs.Table.{count_of}
 use Rattle.lert_spec.proofs.EdgeLaws.{span_pos, steps, moves_by_one}
 use Rattle.lert_spec.proofs.LookLaws.{slice_range-append}
 use Rattle.lert_frames.specs.Frame.{HoldsFrame}
-use Rattle.lert_rows.specs.declared.bin_at.BinAt.{BinAt}
-use Rattle.lert_rows.specs.Ranges.{Range, ranges, young_bins}
-use Rattle.lert_rows.specs.Rows.{IsAt, HoldsBins, range_of, row_of}
-use Rattle.lert_rows.specs.Young.{Young, IsNextPosition, with_event}
-use Rattle.lert_rows.proofs.RangeLaws.{IsCut, cuts_are, depth_moves, depth_stays, ranges_still}
-use Rattle.lert_rows.proofs.Windows.{young_cover}
-use Rattle.lert_rows.proofs.YoungBins.{young-added, young-dropped, young-none}
+use Rattle.lert_levels.specs.declared.rows.bin_at.BinAt.{BinAt}
+use Rattle.lert_levels.specs.rows.Ranges.{Range, ranges, young_bins}
+use Rattle.lert_levels.specs.rows.Rows.{IsAt, HoldsBins, range_of, row_of}
+use Rattle.lert_levels.specs.rows.Young.{Young, IsNextPosition, with_event}
+use Rattle.lert_levels.proofs.rows.RangeLaws.{IsCut, cuts_are, depth_moves, depth_stays, ranges_still}
+use Rattle.lert_levels.proofs.rows.Windows.{young_cover}
+use Rattle.lert_levels.proofs.rows.YoungBins.{young-added, young-dropped, young-none}
 use Rattle.lert_cone.specs.Tally.{AreYoung, totals_at}
 use Rattle.lert_cone.proofs.TotalLaws.{edge_within}
 

@@ -9,7 +9,7 @@ use Rattle.lert_bay.proofs.Lasting.{lasts_none, lasts_on}
 use Rattle.lert_bay.specs.Kept.{Bays, ReadsBay}
 use Rattle.lert_gatelog.specs.Kept.{KeepsOthers, IsWhollySettled, OthersStay}
 use Rattle.lert_gatelog.proofs.GatedLaws.{byte_of_part, part_within, closed_behind}
-use Rattle.lert_rows.specs.Landing.{KeepsRest}
+use Rattle.lert_levels.specs.rows.Landing.{KeepsRest}
 use Rattle.lert_cone.specs.Wrote.{LeavesAlone, LeavesFile, IsShutIfTold}
 use Rattle.lert_cone.proofs.SoundLaws.{turns_back}
 

@@ -4,14 +4,14 @@ use Rattle.lert_bay.specs.Kept.{Bays, KeepsBay, OnlyReads}
 use Rattle.lert_bay.specs.Files.{Files, IfTold}
 use Rattle.lert_bay.specs.declared.bay.TheConstants.{FRAMES}
 use Rattle.lert_gatelog.specs.Kept.{InEach}
-use Rattle.lert_rows.specs.declared.fault.FlushFault.{FlushFault}
-use Rattle.lert_rows.specs.declared.fault.FlushFault.TheVariants.{Failed as FlushFailed, Malformed}
+use Rattle.lert_levels.specs.declared.rows.fault.FlushFault.{FlushFault}
+use Rattle.lert_levels.specs.declared.rows.fault.FlushFault.TheVariants.{Failed as FlushFailed, Malformed}
 use Rattle.lert_levels.specs.Flushed.{InNamed}
-use Rattle.lert_rows.specs.Landing.{KeepsRest}
-use Rattle.lert_rows.specs.Rows.{IsAt, AreRows, HoldsBins, moved}
-use Rattle.lert_rows.specs.Loading.{OneBreaks}
+use Rattle.lert_levels.specs.rows.Landing.{KeepsRest}
+use Rattle.lert_levels.specs.rows.Rows.{IsAt, AreRows, HoldsBins, moved}
+use Rattle.lert_levels.specs.rows.Loading.{OneBreaks}
 use Rattle.lert_levels.specs.OnDisk.{OnDisk}
-use Rattle.lert_rows.specs.Young.{Young}
+use Rattle.lert_levels.specs.rows.Young.{Young}
 use Rattle.lert_spec.specs.declared.piece.Piece.{Piece}
 use Rattle.lert_spec.specs.Bins.{tallied}
 use Rattle.lert_spec.specs.Edges.{edge, lookback, capacity}

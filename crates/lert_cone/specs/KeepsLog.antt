@@ -6,8 +6,8 @@ use Rattle.lert_bay.specs.Settled.{part}
 use Rattle.lert_bay.specs.declared.bay.TheConstants.{LOG, FRAMES}
 use Rattle.lert_frames.specs.Place.{frame_place, frame_len}
 use Rattle.lert_gatelog.specs.Kept.{InEach}
-use Rattle.lert_rows.specs.declared.bin_at.BinAt.{BinAt}
-use Rattle.lert_rows.specs.Rows.{IsAt}
+use Rattle.lert_levels.specs.declared.rows.bin_at.BinAt.{BinAt}
+use Rattle.lert_levels.specs.rows.Rows.{IsAt}
 use Rattle.lert_reports.specs.declared.log.LogKind.{LogKind}
 use Rattle.lert_reports.specs.Log.{HasRecords, last_n0, last_directory}
 use Rattle.lert_reports.specs.LogRules.{AreFrames}

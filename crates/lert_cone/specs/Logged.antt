@@ -1,6 +1,6 @@
 -- What the log of a cone holds after some of its events.
 use Rattle.std.specs.Prelude.{ℕ, ◌≡◌, Bool, List, length, map, drop, if◌then◌else◌}
-use Rattle.lert_rows.specs.declared.bin_at.BinAt.{BinAt}
+use Rattle.lert_levels.specs.declared.rows.bin_at.BinAt.{BinAt}
 use Rattle.lert_reports.specs.declared.log.LogKind.{LogKind}
 use Rattle.lert_reports.specs.Log.{AreRecords, is_closed, last_n0, last_directory, listed_in}
 use Rattle.lert_reports.specs.LogText.{LogRecord}

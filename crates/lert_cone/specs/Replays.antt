@@ -10,7 +10,7 @@ use Rattle.lert_gatelog.specs.declared.fault.LogFault.TheVariants.{Failed as Log
 use Rattle.lert_gatelog.specs.Gated.{IsClosed, next_gate}
 use Rattle.lert_journal.specs.Journal.{HoldsPacket}
 use Rattle.lert_journal.specs.Payload.{IsJournaled, payload_of}
-use Rattle.lert_rows.specs.declared.bin_at.BinAt.{BinAt}
+use Rattle.lert_levels.specs.declared.rows.bin_at.BinAt.{BinAt}
 use Rattle.lert_spec.specs.declared.report.Report.{Report}
 use Rattle.lert_cone.specs.declared.refusal.ReplayFault.{ReplayFault}
 use Rattle.lert_cone.specs.declared.refusal.ReplayFault.TheVariants.{Failed, Malformed, Unsound}

@@ -2,8 +2,8 @@
 use Rattle.std.specs.Prelude.{◌≡◌, ℕ, ◌+◌, ◌*◌, ◌≤◌, ◌^◌, max, [], replicate, All}
 use Rattle.lert_base.specs.Keys.{Keys}
 use Rattle.lert_levels.specs.OnDisk.{OnDisk}
-use Rattle.lert_rows.specs.Rows.{IsAt, AreRows}
-use Rattle.lert_rows.specs.Young.{Young}
+use Rattle.lert_levels.specs.rows.Rows.{IsAt, AreRows}
+use Rattle.lert_levels.specs.rows.Young.{Young}
 use Rattle.lert_reports.specs.Log.{most_record}
 use Rattle.lert_reports.specs.Stored.{Stored}
 use Rattle.lert_spec.specs.declared.numbers.Numbers.{Numbers}

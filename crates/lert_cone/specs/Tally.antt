@@ -12,13 +12,13 @@ use Rattle.lert_spec.specs.Limits.{IsValid}
 use Rattle.lert_spec.specs.Table.{count_of}
 use Rattle.lert_spec.proofs.LookLaws.{AreKeys}
 use Rattle.lert_spec.proofs.TailLaws.{AreOfCone}
-use Rattle.lert_rows.specs.declared.bin_at.BinAt.{BinAt}
-use Rattle.lert_rows.specs.Loading.{OneBreaks}
-use Rattle.lert_rows.specs.Ranges.{young_bins}
-use Rattle.lert_rows.specs.Rows.{IsAt, AreRows, HoldsBins}
-use Rattle.lert_rows.specs.Young.{Young}
-use Rattle.lert_rows.specs.declared.fault.FlushFault.{FlushFault}
-use Rattle.lert_rows.specs.declared.fault.FlushFault.TheVariants.{Failed as FlushFailed, Malformed}
+use Rattle.lert_levels.specs.declared.rows.bin_at.BinAt.{BinAt}
+use Rattle.lert_levels.specs.rows.Loading.{OneBreaks}
+use Rattle.lert_levels.specs.rows.Ranges.{young_bins}
+use Rattle.lert_levels.specs.rows.Rows.{IsAt, AreRows, HoldsBins}
+use Rattle.lert_levels.specs.rows.Young.{Young}
+use Rattle.lert_levels.specs.declared.rows.fault.FlushFault.{FlushFault}
+use Rattle.lert_levels.specs.declared.rows.fault.FlushFault.TheVariants.{Failed as FlushFailed, Malformed}
 use Rattle.lert_cone.specs.declared.tally.TakeFault.{TakeFault}
 use Rattle.lert_cone.specs.declared.tally.TakeFault.TheVariants.{Failed, Unsound}
 use Rattle.lert_cone.specs.Due.{Dues, unbegun}

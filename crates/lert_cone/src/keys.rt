@@ -2,7 +2,7 @@
 
 ghost use Rattle.std.specs.Prelude.{◌≡◌, ℕ, ◌+◌, ◌^◌, ◌≤◌, ◌<◌, [], ◌∷◌, ◌++◌, length, All};
 ghost use Rattle.lert_base.specs.Entries.{packet_of};
-ghost use Rattle.lert_rows.specs.Rows.{directory_text};
+ghost use Rattle.lert_levels.specs.rows.Rows.{directory_text};
 ghost use Rattle.lert_spec.specs.Mix.{cone_of};
 ghost use Rattle.lert_cone.specs.Appends.{AppendsRecord};
 ghost use Rattle.lert_cone.specs.Takes.{CanLog, CanReplay, CanTake, CanTakePacket, ReplaysKeys, TakesEnd, TakesKeys, TakesPacket};

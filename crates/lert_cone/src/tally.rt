@@ -6,7 +6,7 @@ ghost use Rattle.lert_spec.specs.Edges.{edge, capacity};
 ghost use Rattle.lert_spec.specs.Mix.{cone_of};
 ghost use Rattle.lert_spec.proofs.LookLaws.{AreKeys};
 ghost use Rattle.lert_spec.proofs.TailLaws.{AreOfCone};
-ghost use Rattle.lert_rows.specs.Rows.{IsAt, AreRows, directory_text};
+ghost use Rattle.lert_levels.specs.rows.Rows.{IsAt, AreRows, directory_text};
 
 use crate::due::Due;
 use crate::unread::Unread;

@@ -6,13 +6,13 @@ use Rattle.std.proofs.lemmas.Option.{none-some}
 use Rattle.lert_base.specs.declared.kept.Kept.{Kept}
 use Rattle.lert_bay.specs.declared.bay.TheConstants.{JOURNAL, LOG, FRAMES}
 use Rattle.lert_bay.specs.Files.{Files}
-use Rattle.lert_rows.specs.declared.bin_at.BinAt.{BinAt}
-use Rattle.lert_rows.specs.declared.fault.FlushFault.{FlushFault}
-use Rattle.lert_rows.specs.declared.fault.FlushFault.TheVariants.{Failed as CheckFailed, Malformed as CheckMalformed}
-use Rattle.lert_rows.specs.Checked.{rows_left}
+use Rattle.lert_levels.specs.declared.rows.bin_at.BinAt.{BinAt}
+use Rattle.lert_levels.specs.declared.rows.fault.FlushFault.{FlushFault}
+use Rattle.lert_levels.specs.declared.rows.fault.FlushFault.TheVariants.{Failed as CheckFailed, Malformed as CheckMalformed}
+use Rattle.lert_levels.specs.rows.Checked.{rows_left}
 use Rattle.lert_levels.specs.OnDisk.{OnDisk}
-use Rattle.lert_rows.specs.Rows.{IsAt, AreRows, directory_text}
-use Rattle.lert_rows.proofs.NamedLaws.{same_named}
+use Rattle.lert_levels.specs.rows.Rows.{IsAt, AreRows, directory_text}
+use Rattle.lert_levels.proofs.rows.NamedLaws.{same_named}
 use Rattle.lert_reports.specs.Log.{last_directory, last_n0, HasLog, LogLeavesAt}
 use Rattle.lert_reports.specs.LogText.{LogRecord, directory_bytes}
 use Rattle.lert_reports.proofs.LogOnce.{one_log, log_or_left, one_left}

@@ -7,10 +7,10 @@ use Rattle.lert_spec.specs.declared.numbers.Numbers.{Numbers}
 use Rattle.lert_spec.specs.declared.report.Report.{Report}
 use Rattle.lert_spec.specs.Edges.{span, edge, capacity}
 use Rattle.lert_spec.specs.Limits.{IsValid}
-use Rattle.lert_rows.specs.Named.{AreFramesAt, IsDirectory}
-use Rattle.lert_rows.specs.Ranges.{Range, ranges}
-use Rattle.lert_rows.proofs.PlacedLaws.{directory_of_frames, ranges_counted}
-use Rattle.lert_rows.proofs.RangeLaws.{cuts_none, edge_within}
+use Rattle.lert_levels.specs.rows.Named.{AreFramesAt, IsDirectory}
+use Rattle.lert_levels.specs.rows.Ranges.{Range, ranges}
+use Rattle.lert_levels.proofs.rows.PlacedLaws.{directory_of_frames, ranges_counted}
+use Rattle.lert_levels.proofs.rows.RangeLaws.{cuts_none, edge_within}
 use Rattle.lert_reports.specs.Log.{before_of, is_closed, last_directory, last_first, last_n0, last_offset, AreRecords}
 use Rattle.lert_reports.specs.LogRules.{AreFrames, KeepsRules}
 use Rattle.lert_reports.specs.LogText.{LogRecord, directory_bytes}

@@ -4,9 +4,9 @@ ghost use Rattle.std.specs.Prelude.{◌≡◌, ◌⊎◌, ℕ, ◌+◌, ◌≤�
 ghost use Rattle.lert_base.specs.declared.kept.Kept.{Kept as KeptOf};
 ghost use Rattle.lert_bay.specs.declared.bay.TheConstants.{JOURNAL, FRAMES};
 ghost use Rattle.lert_bay.specs.Files.{Files, IfTold};
-ghost use Rattle.lert_rows.specs.declared.bin_at.BinAt.{BinAt};
-ghost use Rattle.lert_rows.specs.Checked.{EachStands};
-ghost use Rattle.lert_rows.specs.Rows.{IsAt, AreRows, directory_text};
+ghost use Rattle.lert_levels.specs.declared.rows.bin_at.BinAt.{BinAt};
+ghost use Rattle.lert_levels.specs.rows.Checked.{EachStands};
+ghost use Rattle.lert_levels.specs.rows.Rows.{IsAt, AreRows, directory_text};
 ghost use Rattle.lert_files.specs.Headed.{HasOther};
 ghost use Rattle.lert_files.specs.Opened.{AreOpened, IsAsRead, IsRefused, LeaveAt, WritesNothing};
 ghost use Rattle.lert_files.specs.Read.{IsReadOf, IsPoint, AreReportsUpTo};

@@ -5,7 +5,7 @@ ghost use Rattle.lert_bay.specs.declared.bay.TheConstants.{LOG};
 ghost use Rattle.lert_bay.specs.Files.{IfTold};
 ghost use Rattle.lert_bay.specs.Kept.{OnlyReads};
 ghost use Rattle.lert_bay.specs.Settled.{part};
-ghost use Rattle.lert_rows.specs.Named.{IsDirectory};
+ghost use Rattle.lert_levels.specs.rows.Named.{IsDirectory};
 ghost use Rattle.lert_files.specs.Read.{IsReadOf, IsPoint, AreReportsUpTo};
 ghost use Rattle.lert_reports.specs.Log.{log_header, most_record, HasLog, LogLeavesAt};
 ghost use Rattle.lert_reports.specs.LogText.{LogRecord};

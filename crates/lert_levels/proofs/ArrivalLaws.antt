@@ -15,18 +15,18 @@ use Rattle.lert_spec.specs.Limits.{IsValid}
 use Rattle.lert_spec.specs.Table.{count_of, IsTable}
 use Rattle.lert_spec.proofs.EdgeLaws.{steps, moves_by_one, deepest_within}
 use Rattle.lert_spec.proofs.TallyLaws.{IsTable-tallied}
-use Rattle.lert_landing.specs.Summed.{sums_of, AreTables}
-use Rattle.lert_landing.proofs.SummedLaws.{IsTable-sums_of, count_of-sums_of}
-use Rattle.lert_rows.specs.declared.bin_at.BinAt.{BinAt}
-use Rattle.lert_rows.specs.Loading.{width_of, widths_in, held_in}
+use Rattle.lert_levels.specs.landing.Summed.{sums_of, AreTables}
+use Rattle.lert_levels.proofs.landing.SummedLaws.{IsTable-sums_of, count_of-sums_of}
+use Rattle.lert_levels.specs.declared.rows.bin_at.BinAt.{BinAt}
+use Rattle.lert_levels.specs.rows.Loading.{width_of, widths_in, held_in}
 use Rattle.lert_levels.specs.Merged.{streams_of, widths_of, Fills, AreBins}
 use Rattle.lert_levels.specs.Parts.{streams_to, oldest_stream, part_at, list_at, newest_in, in_part, part_table, HaveParts}
-use Rattle.lert_rows.specs.Ranges.{Range, ranges, filled, young_bins}
-use Rattle.lert_rows.specs.Rows.{range_of, row_of, IsAt, newest, begins, arrived, tallied_in}
+use Rattle.lert_levels.specs.rows.Ranges.{Range, ranges, filled, young_bins}
+use Rattle.lert_levels.specs.rows.Rows.{range_of, row_of, IsAt, newest, begins, arrived, tallied_in}
 use Rattle.lert_levels.proofs.PartLaws.{streams_more, stream_at}
-use Rattle.lert_rows.proofs.RangeLaws.{range_cuts, oldest_is, oldest_young, depth_moves}
-use Rattle.lert_rows.proofs.RowLaws.{row_among, Arrives, arrives}
-use Rattle.lert_rows.proofs.Windows.{counted, counted-join, window_table, young-ranges}
+use Rattle.lert_levels.proofs.rows.RangeLaws.{range_cuts, oldest_is, oldest_young, depth_moves}
+use Rattle.lert_levels.proofs.rows.RowLaws.{row_among, Arrives, arrives}
+use Rattle.lert_levels.proofs.rows.Windows.{counted, counted-join, window_table, young-ranges}
 
 abbrev nothing : BinAt
 nothing = record { from = 0; to = 0; frame = 0 }

@@ -12,16 +12,16 @@ use Rattle.lert_spec.specs.Edges.{edge, depth, lookback, capacity}
 use Rattle.lert_spec.specs.Limits.{IsValid}
 use Rattle.lert_spec.specs.Table.{count_of, IsTable}
 use Rattle.lert_spec.proofs.EdgeLaws.{deepest_within}
-use Rattle.lert_landing.specs.Summed.{sums_of}
-use Rattle.lert_landing.proofs.SummedLaws.{IsTable-sums_of, count_of-sums_of}
-use Rattle.lert_rows.specs.declared.bin_at.BinAt.{BinAt}
+use Rattle.lert_levels.specs.landing.Summed.{sums_of}
+use Rattle.lert_levels.proofs.landing.SummedLaws.{IsTable-sums_of, count_of-sums_of}
+use Rattle.lert_levels.specs.declared.rows.bin_at.BinAt.{BinAt}
 use Rattle.lert_levels.specs.Flushed.{AreNew, AreEvents, AreAllEvents}
 use Rattle.lert_levels.specs.Merged.{IsMade, streams_of, widths_of}
 use Rattle.lert_levels.specs.Parts.{Part, part_at, parts_at, part_table}
-use Rattle.lert_rows.specs.Ranges.{young_bins}
-use Rattle.lert_rows.specs.Rows.{IsAt, AreRows, tallied_in}
+use Rattle.lert_levels.specs.rows.Ranges.{young_bins}
+use Rattle.lert_levels.specs.rows.Rows.{IsAt, AreRows, tallied_in}
 use Rattle.lert_levels.proofs.ArrivalLaws.{tables_from_bins, part_holds}
-use Rattle.lert_rows.proofs.CoverLaws.{flush_totals, scan_totals}
+use Rattle.lert_levels.proofs.rows.CoverLaws.{flush_totals, scan_totals}
 use Rattle.lert_levels.proofs.HoldLaws.{rows_stand}
 
 pub matched : {T E : Type 0} (P : T → Type 0) (Q : E → Type 0) (result : Result T E) → IfOk result P → IfErr result Q → MatchResult result P Q

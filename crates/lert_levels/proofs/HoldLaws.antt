@@ -20,15 +20,15 @@ use Rattle.lert_spec.specs.Edges.{span, edge, depth}
 use Rattle.lert_spec.specs.Limits.{IsValid}
 use Rattle.lert_spec.proofs.Tables.{count_le-total}
 use Rattle.lert_spec.proofs.TallyLaws.{IsTable-tallied, total-tallied}
-use Rattle.lert_rows.specs.declared.bin_at.BinAt.{BinAt}
+use Rattle.lert_levels.specs.declared.rows.bin_at.BinAt.{BinAt}
 use Rattle.lert_levels.specs.Flushed.{AreNew, InNamed}
-use Rattle.lert_rows.specs.Landing.{LeavesRest, landing_frame, AreApart, AreLanded}
-use Rattle.lert_rows.specs.Loading.{Stands, AllStand}
-use Rattle.lert_rows.specs.Rows.{row_of, IsAt, IsRow, AreRows, HoldsBins, times_named, kept, arrived, moved, tallied_in}
-use Rattle.lert_rows.proofs.LandLaws.{holds_stays, landing_within}
-use Rattle.lert_rows.proofs.RangeLaws.{IsCut, cuts_are, edge_within}
-use Rattle.lert_rows.proofs.RowLaws.{row_among, All-ranges, All-kept, row_of-moved, lowest_is_free}
-use Rattle.lert_rows.proofs.Windows.{total-window}
+use Rattle.lert_levels.specs.rows.Landing.{LeavesRest, landing_frame, AreApart, AreLanded}
+use Rattle.lert_levels.specs.rows.Loading.{Stands, AllStand}
+use Rattle.lert_levels.specs.rows.Rows.{row_of, IsAt, IsRow, AreRows, HoldsBins, times_named, kept, arrived, moved, tallied_in}
+use Rattle.lert_levels.proofs.rows.LandLaws.{holds_stays, landing_within}
+use Rattle.lert_levels.proofs.rows.RangeLaws.{IsCut, cuts_are, edge_within}
+use Rattle.lert_levels.proofs.rows.RowLaws.{row_among, All-ranges, All-kept, row_of-moved, lowest_is_free}
+use Rattle.lert_levels.proofs.rows.Windows.{total-window}
 
 -- ---- what is read
 

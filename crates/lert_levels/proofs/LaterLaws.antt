@@ -7,11 +7,11 @@ use Rattle.lert_spec.specs.declared.numbers.Numbers.{Numbers}
 use Rattle.lert_spec.specs.Bins.{tallied}
 use Rattle.lert_spec.specs.Edges.{span, edge, depth}
 use Rattle.lert_spec.proofs.LookLaws.{slice_range-append}
-use Rattle.lert_rows.specs.declared.bin_at.BinAt.{BinAt}
-use Rattle.lert_rows.specs.Rows.{range_of, row_of, IsAt, HoldsBins, tallied_in}
+use Rattle.lert_levels.specs.declared.rows.bin_at.BinAt.{BinAt}
+use Rattle.lert_levels.specs.rows.Rows.{range_of, row_of, IsAt, HoldsBins, tallied_in}
 use Rattle.lert_levels.proofs.HoldLaws.{bins_end}
-use Rattle.lert_rows.proofs.MoveLaws.{row_of-none}
-use Rattle.lert_rows.proofs.RangeLaws.{cuts_none, edge_within, depth_moves, ranges_still}
+use Rattle.lert_levels.proofs.rows.MoveLaws.{row_of-none}
+use Rattle.lert_levels.proofs.rows.RangeLaws.{cuts_none, edge_within, depth_moves, ranges_still}
 
 -- before the first event no row has a bin
 pub IsAt-none : (s : Numbers) → IsAt s 0 (replicate s.levels [])

@@ -6,13 +6,13 @@ use Rattle.lert_frames.specs.declared.reader.FrameReader.{FrameReader}
 use Rattle.lert_spec.specs.declared.numbers.Numbers.{Numbers}
 use Rattle.lert_spec.specs.Edges.{capacity}
 use Rattle.lert_spec.specs.Limits.{IsValid}
-use Rattle.lert_rows.specs.declared.bin_at.BinAt.{BinAt}
-use Rattle.lert_rows.specs.Rows.{IsAt, IsRow, AreRows, directory_text, moved}
+use Rattle.lert_levels.specs.declared.rows.bin_at.BinAt.{BinAt}
+use Rattle.lert_levels.specs.rows.Rows.{IsAt, IsRow, AreRows, directory_text, moved}
 use Rattle.lert_levels.specs.OnDisk.{OnDisk, AreKept}
-use Rattle.lert_rows.proofs.MoveLaws.{directory_short, rows_few, written_back}
-use Rattle.lert_rows.proofs.NamedLaws.{named_few}
-use Rattle.lert_rows.proofs.RowLaws.{row_among, AreRows-moved, length-moved}
-use Rattle.lert_rows.specs.Named.{AreNamed}
+use Rattle.lert_levels.proofs.rows.MoveLaws.{directory_short, rows_few, written_back}
+use Rattle.lert_levels.proofs.rows.NamedLaws.{named_few}
+use Rattle.lert_levels.proofs.rows.RowLaws.{row_among, AreRows-moved, length-moved}
+use Rattle.lert_levels.specs.rows.Named.{AreNamed}
 
 -- ---- what a caller sees of the fields
 

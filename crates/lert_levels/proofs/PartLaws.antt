@@ -8,8 +8,8 @@ use Rattle.std.proofs.lemmas.List.{take_more, get_or-append-add, get_or_append_l
 use Rattle.std.proofs.lemmas.List.Sums.{sum_by-append, sum_by-cons}
 use Rattle.std.proofs.lemmas.Option.{none-some}
 use Rattle.lert_spec.specs.declared.numbers.Numbers.{Numbers}
-use Rattle.lert_rows.specs.declared.bin_at.BinAt.{BinAt}
-use Rattle.lert_rows.specs.Rows.{begins}
+use Rattle.lert_levels.specs.declared.rows.bin_at.BinAt.{BinAt}
+use Rattle.lert_levels.specs.rows.Rows.{begins}
 use Rattle.lert_levels.specs.Parts.{streams_to, oldest_stream, part_at, IsOfPart, set_two, HaveParts, ArePartsOf}
 
 -- a level more

@@ -10,16 +10,16 @@ use Rattle.lert_frames.specs.Frame.{frame_left, frame_pieces}
 use Rattle.lert_frames.specs.Place.{frame_place, frame_len}
 use Rattle.lert_frames.specs.Apart.{SamePlace}
 use Rattle.lert_frames.proofs.ApartLaws.{frame_stays}
-use Rattle.lert_rows.specs.Landing.{LeavesRest}
+use Rattle.lert_levels.specs.rows.Landing.{LeavesRest}
 use Rattle.lert_frames.specs.declared.reader.FrameReader.{FrameReader}
-use Rattle.lert_rows.specs.declared.bin_at.BinAt.{BinAt}
-use Rattle.lert_rows.specs.Loading.{width_of, OneBreaks}
+use Rattle.lert_levels.specs.declared.rows.bin_at.BinAt.{BinAt}
+use Rattle.lert_levels.specs.rows.Loading.{width_of, OneBreaks}
 use Rattle.lert_spec.specs.Bins.{Bin}
 use Rattle.lert_spec.specs.declared.numbers.Numbers.{Numbers}
-use Rattle.lert_streams.specs.Bin.{Bin as Stream, of_table, of_frame, IsSureBin}
-use Rattle.lert_streams.specs.Asked.{Begins}
-use Rattle.lert_streams.specs.BinSet.{BinSet, Reads, AreSure}
-use Rattle.lert_streams.specs.SetLaws.{LeavesIn}
+use Rattle.lert_levels.specs.streams.Bin.{Bin as Stream, of_table, of_frame, IsSureBin}
+use Rattle.lert_levels.specs.streams.Asked.{Begins}
+use Rattle.lert_levels.specs.streams.BinSet.{BinSet, Reads, AreSure}
+use Rattle.lert_levels.specs.streams.SetLaws.{LeavesIn}
 use Rattle.lert_levels.specs.Flushed.{InNamed}
 use Rattle.lert_levels.proofs.SourceLaws.{begun_more}
 use Rattle.lert_levels.specs.Sources.{Placed, placed_at, placed, Source, of_young, of_bin, sources, IsReaderOf, AreBegun, IsSecure, AreSecure, AnyOf, AllOf}

@@ -6,14 +6,14 @@ use Rattle.std.proofs.lemmas.Option.{none-some}
 use Rattle.lert_bay.specs.declared.bay.TheConstants.{FRAMES}
 use Rattle.lert_bay.specs.Files.{Files, IfTold, Turns}
 use Rattle.lert_frames.proofs.FrameLaws.{left_is}
-use Rattle.lert_rows.specs.declared.bin_at.BinAt.{BinAt}
-use Rattle.lert_rows.specs.declared.fault.FlushFault.{FlushFault}
-use Rattle.lert_rows.specs.declared.fault.FlushFault.TheVariants.{Failed, Malformed}
-use Rattle.lert_rows.specs.Landing.{LeavesRest, AreApart}
-use Rattle.lert_rows.specs.Loading.{width_of, Stands, AllStand, OneBreaks}
-use Rattle.lert_rows.specs.Rows.{IsAt, IsRow, AreRows, HoldsBins, moved}
-use Rattle.lert_rows.proofs.RangeLaws.{edge_within}
-use Rattle.lert_rows.proofs.RowLaws.{row_among}
+use Rattle.lert_levels.specs.declared.rows.bin_at.BinAt.{BinAt}
+use Rattle.lert_levels.specs.declared.rows.fault.FlushFault.{FlushFault}
+use Rattle.lert_levels.specs.declared.rows.fault.FlushFault.TheVariants.{Failed, Malformed}
+use Rattle.lert_levels.specs.rows.Landing.{LeavesRest, AreApart}
+use Rattle.lert_levels.specs.rows.Loading.{width_of, Stands, AllStand, OneBreaks}
+use Rattle.lert_levels.specs.rows.Rows.{IsAt, IsRow, AreRows, HoldsBins, moved}
+use Rattle.lert_levels.proofs.rows.RangeLaws.{edge_within}
+use Rattle.lert_levels.proofs.rows.RowLaws.{row_among}
 use Rattle.lert_spec.specs.Bins.{Bin}
 use Rattle.lert_spec.specs.Edges.{span, edge, depth, capacity}
 use Rattle.lert_spec.specs.Limits.{IsValid}

@@ -14,19 +14,19 @@ use Rattle.lert_frames.specs.Place.{tail_limit}
 use Rattle.lert_frames.proofs.FrameLaws.{told_begun}
 use Rattle.lert_frames.proofs.PlaceLaws.{span_fits}
 use Rattle.lert_merge.specs.order.Members.{given_at, limit_at}
-use Rattle.lert_rows.specs.declared.bin_at.BinAt.{BinAt}
-use Rattle.lert_rows.specs.Loading.{width_of, Stands, AllStand, held_in, widths_in}
-use Rattle.lert_rows.specs.Rows.{IsRow}
+use Rattle.lert_levels.specs.declared.rows.bin_at.BinAt.{BinAt}
+use Rattle.lert_levels.specs.rows.Loading.{width_of, Stands, AllStand, held_in, widths_in}
+use Rattle.lert_levels.specs.rows.Rows.{IsRow}
 use Rattle.lert_spec.specs.Bins.{Bin}
 use Rattle.lert_spec.specs.Edges.{span}
 use Rattle.lert_spec.specs.Limits.{IsValid}
 use Rattle.lert_spec.specs.Table.{total, AreGiven}
 use Rattle.lert_spec.specs.declared.numbers.Numbers.{Numbers}
 use Rattle.lert_spec.specs.declared.piece.Piece.{Piece}
-use Rattle.lert_streams.specs.Bin.{Bin as Stream, of_table, of_frame, to_come_of, given_of, limit_of, wide_of}
-use Rattle.lert_streams.specs.BinLaws.{in_order, table_told}
-use Rattle.lert_streams.specs.Tables.{fresh_bin}
-use Rattle.lert_streams.specs.SetLaws.{to_come_at}
+use Rattle.lert_levels.specs.streams.Bin.{Bin as Stream, of_table, of_frame, to_come_of, given_of, limit_of, wide_of}
+use Rattle.lert_levels.specs.streams.BinLaws.{in_order, table_told}
+use Rattle.lert_levels.specs.streams.Tables.{fresh_bin}
+use Rattle.lert_levels.specs.streams.SetLaws.{to_come_at}
 use Rattle.lert_levels.specs.Merged.{streams_of, widths_of, Fills, AreBins}
 use Rattle.lert_levels.specs.Sources.{placed_at, placed, Source, of_young, of_bin, sources, pieces_from, width_in, IsBegun, AreBegun}
 

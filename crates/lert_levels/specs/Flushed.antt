@@ -5,10 +5,10 @@ use Rattle.lert_spec.specs.declared.numbers.Numbers.{Numbers}
 use Rattle.lert_spec.specs.Bins.{Bin}
 use Rattle.lert_spec.specs.Edges.{edge, capacity}
 use Rattle.lert_spec.specs.declared.piece.Piece.{Piece}
-use Rattle.lert_rows.specs.declared.bin_at.BinAt.{BinAt}
+use Rattle.lert_levels.specs.declared.rows.bin_at.BinAt.{BinAt}
 use Rattle.lert_levels.specs.OnDisk.{OnDisk}
-use Rattle.lert_rows.specs.Ranges.{young_bins}
-use Rattle.lert_rows.specs.Rows.{row_of, IsAt, arrived, tallied_in, HoldsBins}
+use Rattle.lert_levels.specs.rows.Ranges.{young_bins}
+use Rattle.lert_levels.specs.rows.Rows.{row_of, IsAt, arrived, tallied_in, HoldsBins}
 
 -- the new bins, that of level 1 first, are the counts of their positions
 abbrev pub AreNew : Numbers → ℕ → List ℕ → List (List BinAt) → List (List Piece) → Type 0

@@ -3,15 +3,15 @@ use Rattle.std.specs.Prelude.{ℕ, ◌≡◌, ◌+◌, ◌-◌, ◌*◌, ◌<◌
 use Rattle.lert_bay.specs.declared.bay.TheConstants.{FRAMES}
 use Rattle.lert_bay.specs.Files.{Files, IfTold}
 use Rattle.lert_frames.specs.Frame.{HoldsFrame}
-use Rattle.lert_flush.specs.Merged.{AreTaken, picked}
-use Rattle.lert_landing.specs.Landings.{AreLandings}
-use Rattle.lert_landing.specs.Landed.{taken, IsLanding}
-use Rattle.lert_landing.specs.Summed.{sums_of}
-use Rattle.lert_landing.specs.declared.landing.Landing.{Landing}
+use Rattle.lert_levels.specs.flush.Merged.{AreTaken, picked}
+use Rattle.lert_levels.specs.landing.Landings.{AreLandings}
+use Rattle.lert_levels.specs.landing.Landed.{taken, IsLanding}
+use Rattle.lert_levels.specs.landing.Summed.{sums_of}
+use Rattle.lert_levels.specs.declared.landing.landing.Landing.{Landing}
 use Rattle.lert_merge.specs.declared.order.streams.Streams.{Ghosts as StreamsOf}
-use Rattle.lert_rows.specs.declared.bin_at.BinAt.{BinAt}
-use Rattle.lert_rows.specs.Landing.{AreApart, AreLanded, landing_frame}
-use Rattle.lert_rows.specs.Rows.{IsRow}
+use Rattle.lert_levels.specs.declared.rows.bin_at.BinAt.{BinAt}
+use Rattle.lert_levels.specs.rows.Landing.{AreApart, AreLanded, landing_frame}
+use Rattle.lert_levels.specs.rows.Rows.{IsRow}
 use Rattle.lert_spec.specs.Edges.{span}
 use Rattle.lert_spec.specs.Bins.{Bin}
 use Rattle.lert_spec.specs.declared.numbers.Numbers.{Numbers}

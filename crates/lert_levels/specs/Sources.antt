@@ -4,13 +4,13 @@ use Rattle.lert_frames.specs.Frame.{frame_left, frame_pieces}
 use Rattle.lert_frames.specs.Place.{frame_place, frame_len, tail_limit}
 use Rattle.lert_frames.specs.ToCome.{left_of, pieces_of}
 use Rattle.lert_frames.specs.declared.reader.FrameReader.{FrameReader}
-use Rattle.lert_rows.specs.declared.bin_at.BinAt.{BinAt}
-use Rattle.lert_rows.specs.Loading.{width_of}
+use Rattle.lert_levels.specs.declared.rows.bin_at.BinAt.{BinAt}
+use Rattle.lert_levels.specs.rows.Loading.{width_of}
 use Rattle.lert_spec.specs.Bins.{Bin}
 use Rattle.lert_spec.specs.Table.{total, AreGiven}
 use Rattle.lert_spec.specs.declared.numbers.Numbers.{Numbers}
 use Rattle.lert_spec.specs.declared.piece.Piece.{Piece}
-use Rattle.lert_streams.specs.Bin.{TableBin, Bin as Stream, of_table, of_frame}
+use Rattle.lert_levels.specs.streams.Bin.{TableBin, Bin as Stream, of_table, of_frame}
 
 -- a bin of a level, as it is named
 pub record Placed : Type 0 where

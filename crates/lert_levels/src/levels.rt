@@ -9,25 +9,25 @@ ghost use Rattle.lert_spec.specs.declared.piece.Piece.{Piece};
 ghost use Rattle.lert_spec.specs.Bins.{tallied};
 ghost use Rattle.lert_spec.specs.Edges.{edge, depth, lookback, capacity};
 ghost use Rattle.lert_spec.specs.Table.{IsTable};
-ghost use Rattle.lert_rows.specs.declared.bin_at.BinAt.{BinAt};
-ghost use Rattle.lert_rows.specs.Checked.{EachStands, held_after, rows_left};
+ghost use Rattle.lert_levels.specs.declared.rows.bin_at.BinAt.{BinAt};
+ghost use Rattle.lert_levels.specs.rows.Checked.{EachStands, held_after, rows_left};
 ghost use Rattle.lert_levels.specs.Flushed.{AreEvents, AreAllEvents, InNamed};
-ghost use Rattle.lert_rows.specs.Landing.{AreApart, KeepsRest};
-ghost use Rattle.lert_rows.specs.Loading.{AllStand, OneBreaks};
-ghost use Rattle.lert_rows.specs.Named.{IsDirectory};
+ghost use Rattle.lert_levels.specs.rows.Landing.{AreApart, KeepsRest};
+ghost use Rattle.lert_levels.specs.rows.Loading.{AllStand, OneBreaks};
+ghost use Rattle.lert_levels.specs.rows.Named.{IsDirectory};
 ghost use Rattle.lert_levels.specs.Ready.{HasMade};
 ghost use Rattle.lert_spec.specs.Limits.{IsValid};
-ghost use Rattle.lert_rows.specs.Rows.{row_of, IsAt, AreRows, HoldsBins, moved, directory_text};
+ghost use Rattle.lert_levels.specs.rows.Rows.{row_of, IsAt, AreRows, HoldsBins, moved, directory_text};
 
 use crate::merger::{Reading, Writing, count_rows, land_rows};
+use crate::rows::{
+    BinAt, FlushFault, Zero, check_rows, empty_rows, lay_directory, move_rows, restore_rows,
+    sync_frames,
+};
 use lert_base::{CountTable, Settings, Totals};
 use lert_bay::Bay;
 use lert_frames::FrameReader;
 use lert_io::OutOfMemory;
-use lert_rows::{
-    BinAt, FlushFault, Zero, check_rows, empty_rows, lay_directory, move_rows, restore_rows,
-    sync_frames,
-};
 use std::alloc::Global;
 use std::marker::Model;
 

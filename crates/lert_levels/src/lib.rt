@@ -4,11 +4,16 @@
 //! their frames.
 #![tactic(auto)]
 
+pub mod bound;
+pub mod flush;
+pub mod landing;
 mod levels;
 mod merger;
 mod parts;
 mod reading;
+pub mod rows;
 mod secure;
+pub mod streams;
 
-pub use lert_rows::{BinAt, FlushFault, Zero};
 pub use levels::Levels;
+pub use rows::{FlushFault, Zero};

@@ -4,29 +4,29 @@ ghost use Rattle.std.specs.Prelude.{◌≡◌, ℕ, ◌+◌, ◌*◌, ◌-◌, �
 ghost use Rattle.lert_bay.specs.declared.bay.TheConstants.{FRAMES};
 ghost use Rattle.lert_bay.specs.Files.{IfTold};
 ghost use Rattle.lert_bay.specs.Kept.{KeepsBay, OnlyReads};
-ghost use Rattle.lert_flush.specs.Merged.{AreParts, IsUnread, AreWide, HaveRoom, AreTaken};
-ghost use Rattle.lert_landing.specs.Landings.{home, AreLandings, AreLanding, IsOutside};
+ghost use Rattle.lert_levels.specs.flush.Merged.{AreParts, IsUnread, AreWide, HaveRoom, AreTaken};
+ghost use Rattle.lert_levels.specs.landing.Landings.{home, AreLandings, AreLanding, IsOutside};
 ghost use Rattle.lert_merge.specs.order.Ordering.{Breaks};
-ghost use Rattle.lert_rows.specs.Landing.{KeepsRest, AreApart};
-ghost use Rattle.lert_rows.specs.Loading.{OneBreaks};
-ghost use Rattle.lert_rows.specs.Rows.{IsRow};
+ghost use Rattle.lert_levels.specs.rows.Landing.{KeepsRest, AreApart};
+ghost use Rattle.lert_levels.specs.rows.Loading.{OneBreaks};
+ghost use Rattle.lert_levels.specs.rows.Rows.{IsRow};
 ghost use Rattle.lert_spec.specs.Edges.{capacity};
 ghost use Rattle.lert_spec.specs.declared.piece.Piece.{Piece};
 ghost use Rattle.lert_levels.specs.Merged.{IsMade, IsFrames};
 ghost use Rattle.lert_levels.specs.Ready.{AreStarted, AreReached, HaveLanded, HasMade, CanLand};
 ghost use Rattle.lert_levels.specs.Sources.{sources, AreBegun, AreSecure};
 
+use crate::flush::{Bins, merge_all, merge_bins};
+use crate::landing::{Landing, end_all};
 use crate::parts::lay_parts;
 use crate::reading::read_rows;
+use crate::rows::{BinAt, FlushFault, Zero, arrival};
 use crate::secure::secure_rows;
+use crate::streams::{BinStreams, StreamRoom};
 use lert_base::{CountTable, Settings, Totals};
 use lert_bay::Bay;
-use lert_flush::{Bins, merge_all, merge_bins};
 use lert_io::OutOfMemory;
-use lert_landing::{Landing, end_all};
 use lert_merge::{Ahead, Order};
-use lert_rows::{BinAt, FlushFault, Zero, arrival};
-use lert_streams::{BinStreams, StreamRoom};
 use std::alloc::Global;
 
 // A landing of each level on disk, that of level 1 first. Its only error is want of memory.

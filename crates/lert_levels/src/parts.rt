@@ -3,10 +3,10 @@
 ghost use Rattle.std.specs.Prelude.{◌≡◌, ℕ, ◌+◌, ◌*◌, ◌-◌, ◌<◌, ◌≤◌, ◌++◌, [], Some, None, length, map, replicate, IfSome, slice_index_or, vec_capacity};
 ghost use Rattle.lert_spec.specs.Edges.{capacity};
 ghost use Rattle.lert_levels.specs.Parts.{newest_stream, set_two, streams_to, HaveParts, ArePartsOf};
-ghost use Rattle.lert_rows.specs.Rows.{IsRow};
+ghost use Rattle.lert_levels.specs.rows.Rows.{IsRow};
 
+use crate::rows::{BinAt, begins};
 use lert_base::Settings;
-use lert_rows::{BinAt, begins};
 
 /// Puts down for each stream of the flush at position `m` which new bin its pieces go to, that of level 1 being number 0: the
 /// oldest bin of a level to that of the next one, with the newest bin of that level where both are joined. The streams are

@@ -1,12 +1,12 @@
 //! The streams of a flush: level 0 and some of the levels on disk.
 
 ghost use Rattle.std.specs.Prelude.{◌≡◌, ℕ, ◌+◌, ◌*◌, ◌<◌, ◌≤◌, ◌++◌, List, [], ◌∷◌, length, map, slice_index_or};
-ghost use Rattle.lert_rows.specs.Rows.{IsRow};
+ghost use Rattle.lert_levels.specs.rows.Rows.{IsRow};
 ghost use Rattle.lert_levels.specs.Sources.{Source, of_bin, placed, placed_at, AreBegun};
 
+use crate::rows::BinAt;
+use crate::streams::BinStreams;
 use lert_base::{CountTable, Settings};
-use lert_rows::BinAt;
-use lert_streams::BinStreams;
 
 /// Begins the frames of the rows' bins behind the other streams, from level 1 on, each level's oldest first. It reads nothing.
 pub fn read_rows<T: CountTable>(

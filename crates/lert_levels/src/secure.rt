@@ -4,14 +4,14 @@ ghost use Rattle.std.specs.Prelude.{◌≡◌, ℕ, ◌+◌, ◌<◌, ◌≤◌,
 ghost use Rattle.lert_bay.specs.declared.bay.TheConstants.{FRAMES};
 ghost use Rattle.lert_bay.specs.Files.{IfTold};
 ghost use Rattle.lert_bay.specs.Kept.{OnlyReads};
-ghost use Rattle.lert_rows.specs.Loading.{OneBreaks, RowBreaks};
-ghost use Rattle.lert_rows.specs.Rows.{IsRow};
+ghost use Rattle.lert_levels.specs.rows.Loading.{OneBreaks, RowBreaks};
+ghost use Rattle.lert_levels.specs.rows.Rows.{IsRow};
 ghost use Rattle.lert_levels.specs.Sources.{of_bin, placed_at, AllOf, IsSecure, AreSecure};
 
+use crate::rows::{BinAt, FlushFault};
+use crate::streams::StreamRoom;
 use lert_base::{CountTable, PieceFault, Settings};
 use lert_bay::{Bay, FRAMES};
-use lert_rows::{BinAt, FlushFault};
-use lert_streams::StreamRoom;
 
 /// Makes sure of the frames of the rows' bins: each that the file of frames hasn't wholly is read to its end. So a frame that is
 /// cut at the file's end is found while nothing is written. It changes no file and takes no memory.

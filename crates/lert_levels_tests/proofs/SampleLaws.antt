@@ -8,14 +8,14 @@ use Rattle.lert_spec.proofs.LimitLaws.{IsValid-from_unbroken}
 use Rattle.std.specs.List.{AllPairs}
 use Rattle.std.proofs.lemmas.List.Elements.{All-cons, All-nil}
 use Rattle.std.proofs.lemmas.List.Kept.{AllPairs-cons}
-use Rattle.lert_rows.proofs.PlacedLaws.{directory_of_frames}
-use Rattle.lert_rows.specs.declared.bin_at.BinAt.{BinAt}
-use Rattle.lert_rows.specs.Ranges.{ranges}
-use Rattle.lert_rows.specs.Named.{AreFramesAt, IsDirectory}
-use Rattle.lert_rows.specs.Rows.{IsAt, range_of, row_of}
+use Rattle.lert_levels.proofs.rows.PlacedLaws.{directory_of_frames}
+use Rattle.lert_levels.specs.declared.rows.bin_at.BinAt.{BinAt}
+use Rattle.lert_levels.specs.rows.Ranges.{ranges}
+use Rattle.lert_levels.specs.rows.Named.{AreFramesAt, IsDirectory}
+use Rattle.lert_levels.specs.rows.Rows.{IsAt, range_of, row_of}
 use Rattle.lert_levels.specs.OnDisk.{OnDisk}
 use Rattle.lert_levels_tests.specs.Samples.{small, IsFilledTo, IsReady}
-use Rattle.lert_rows.specs.Young.{Young}
+use Rattle.lert_levels.specs.rows.Young.{Young}
 
 -- no bin moves between two flush positions
 same_ranges : (k level : ℕ) → k ≤ 5 → 1 ≤ level → level ≤ 2 → ranges small (12 + 4 * k) level ≡ ranges small (15 + 4 * k) level

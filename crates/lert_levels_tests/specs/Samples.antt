@@ -2,8 +2,8 @@
 use Rattle.std.specs.Prelude.{ℕ, ◌≡◌, ◌+◌, ◌-◌}
 use Rattle.lert_spec.specs.declared.numbers.Numbers.{Numbers}
 use Rattle.lert_levels.specs.OnDisk.{OnDisk}
-use Rattle.lert_rows.specs.Rows.{IsAt}
-use Rattle.lert_rows.specs.Young.{Young}
+use Rattle.lert_levels.specs.rows.Rows.{IsAt}
+use Rattle.lert_levels.specs.rows.Young.{Young}
 
 -- three bins a level, of 4 events at level 0, 8 at level 1 and 16 at level 2
 abbrev pub small : Numbers

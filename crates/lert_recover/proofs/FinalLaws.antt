@@ -12,7 +12,7 @@ use Rattle.lert_cone.specs.Sound.{IsSound, IsJournal}
 use Rattle.lert_cone.specs.Unread.{unread}
 use Rattle.lert_cone.proofs.UnreadLaws.{length_unread, unread_is}
 use Rattle.lert_gatelog.specs.Gated.{IsClosed}
-use Rattle.lert_rows.specs.declared.bin_at.BinAt.{BinAt}
+use Rattle.lert_levels.specs.declared.rows.bin_at.BinAt.{BinAt}
 use Rattle.lert_reports.specs.Log.{is_closed, last_first, last_n0, last_offset, HasLog}
 use Rattle.lert_reports.specs.LogText.{LogRecord}
 use Rattle.lert_reports.proofs.LogOnce.{one_log}

@@ -17,11 +17,11 @@ use Rattle.lert_cone.specs.Wrote.{IsShut}
 use Rattle.lert_cone.proofs.AdoptLaws.{bins_there}
 use Rattle.lert_cone.proofs.UnreadLaws.{length_unread}
 use Rattle.lert_gatelog.specs.Gated.{IsClosed}
-use Rattle.lert_rows.specs.declared.bin_at.BinAt.{BinAt}
-use Rattle.lert_rows.specs.Loading.{AllStand}
-use Rattle.lert_rows.specs.Named.{IsDirectory}
-use Rattle.lert_rows.specs.Rows.{directory_text, tallied_in, IsAt}
-use Rattle.lert_rows.proofs.CheckLaws.{all_whole}
+use Rattle.lert_levels.specs.declared.rows.bin_at.BinAt.{BinAt}
+use Rattle.lert_levels.specs.rows.Loading.{AllStand}
+use Rattle.lert_levels.specs.rows.Named.{IsDirectory}
+use Rattle.lert_levels.specs.rows.Rows.{directory_text, tallied_in, IsAt}
+use Rattle.lert_levels.proofs.rows.CheckLaws.{all_whole}
 use Rattle.lert_levels.proofs.HoldLaws.{rows_stand}
 use Rattle.lert_reports.specs.Log.{is_closed, last_directory, last_first, last_n0, last_offset, AreRecords, HasLog}
 use Rattle.lert_reports.specs.LogText.{LogRecord, directory_bytes}

@@ -20,14 +20,14 @@ use Rattle.lert_spec.proofs.EdgeLaws.{span_pos, edge_descends_to}
 use Rattle.lert_spec.proofs.MixLaws.{unmixed, mix-unmixed}
 use Rattle.lert_spec.proofs.Tables.{count_of-below}
 use Rattle.lert_spec.proofs.TallyLaws.{tails, tails-append, IsTable-tallied, count_of-tallied, total-tallied, one_table, count_of-cons_same, count_of-cons_other}
-use Rattle.lert_rows.specs.declared.bin_at.BinAt.{BinAt}
-use Rattle.lert_rows.specs.Checked.{held_after, EachStands}
-use Rattle.lert_rows.specs.Loading.{width_of}
-use Rattle.lert_rows.specs.Ranges.{Range, range_at, ranges}
-use Rattle.lert_rows.specs.Rows.{range_of, IsAt, tallied_in}
-use Rattle.lert_rows.proofs.HeldLaws.{all_stand}
-use Rattle.lert_rows.proofs.RangeLaws.{range_cuts, edge_within, oldest_edge}
-use Rattle.lert_rows.proofs.Windows.{clamp, reaches}
+use Rattle.lert_levels.specs.declared.rows.bin_at.BinAt.{BinAt}
+use Rattle.lert_levels.specs.rows.Checked.{held_after, EachStands}
+use Rattle.lert_levels.specs.rows.Loading.{width_of}
+use Rattle.lert_levels.specs.rows.Ranges.{Range, range_at, ranges}
+use Rattle.lert_levels.specs.rows.Rows.{range_of, IsAt, tallied_in}
+use Rattle.lert_levels.proofs.rows.HeldLaws.{all_stand}
+use Rattle.lert_levels.proofs.rows.RangeLaws.{range_cuts, edge_within, oldest_edge}
+use Rattle.lert_levels.proofs.rows.Windows.{clamp, reaches}
 use Rattle.lert_cone.specs.Framed.{HoldsSome}
 
 -- ---- keys with given counts

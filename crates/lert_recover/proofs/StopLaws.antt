@@ -8,7 +8,7 @@ use Rattle.lert_cone.specs.Replay.{ReplayLeavesAt}
 use Rattle.lert_cone.specs.Sound.{IsSound}
 use Rattle.lert_cone.specs.Stands.{IsSameCone, Standing, WasSound}
 use Rattle.lert_cone.specs.Tally.{Shows}
-use Rattle.lert_rows.specs.declared.bin_at.BinAt.{BinAt}
+use Rattle.lert_levels.specs.declared.rows.bin_at.BinAt.{BinAt}
 use Rattle.lert_spec.specs.declared.numbers.Numbers.{Numbers}
 use Rattle.lert_spec.specs.declared.report.Report.{Report}
 use Rattle.lert_files.specs.declared.fault.ReopenFault.{ReopenFault}

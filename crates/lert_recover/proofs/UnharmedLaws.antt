@@ -17,7 +17,7 @@ use Rattle.lert_files.specs.Opened.{AreOpened, WritesNothing}
 use Rattle.lert_files.proofs.OpenedLaws.{no_other, opened_or_left}
 use Rattle.lert_files.proofs.QuietLaws.{quiet_reading}
 use Rattle.lert_reports.specs.LogText.{LogRecord}
-use Rattle.lert_rows.specs.declared.bin_at.BinAt.{BinAt}
+use Rattle.lert_levels.specs.declared.rows.bin_at.BinAt.{BinAt}
 use Rattle.lert_spec.specs.declared.numbers.Numbers.{Numbers}
 use Rattle.lert_spec.specs.Limits.{IsValid}
 use Rattle.lert_recover.specs.Unharmed.{BringsNone, IsUnharmed, KeepsLogIn}

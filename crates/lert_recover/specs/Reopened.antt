@@ -10,7 +10,7 @@ use Rattle.lert_cone.specs.declared.refusal.ReplayFault.TheVariants.{Failed as R
 use Rattle.lert_cone.specs.Sound.{IsSound}
 use Rattle.lert_cone.specs.Unread.{unread}
 use Rattle.lert_gatelog.specs.Gated.{IsClosed}
-use Rattle.lert_rows.specs.declared.bin_at.BinAt.{BinAt}
+use Rattle.lert_levels.specs.declared.rows.bin_at.BinAt.{BinAt}
 use Rattle.lert_files.specs.declared.fault.ReopenFault.{ReopenFault}
 use Rattle.lert_files.specs.declared.fault.ReopenFault.TheVariants.{Failed, Malformed, OtherSettings}
 use Rattle.lert_files.specs.Headed.{HasOther, IsHeaded}

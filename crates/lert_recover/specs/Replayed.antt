@@ -11,7 +11,7 @@ use Rattle.lert_cone.specs.Stands.{Standing}
 use Rattle.lert_gatelog.specs.Gated.{IsClosed, Records, next_gate}
 use Rattle.lert_journal.specs.Journal.{HoldsPacket}
 use Rattle.lert_journal.specs.Payload.{payload_of}
-use Rattle.lert_rows.specs.declared.bin_at.BinAt.{BinAt}
+use Rattle.lert_levels.specs.declared.rows.bin_at.BinAt.{BinAt}
 use Rattle.lert_files.specs.Opened.{AreOpened, LeaveAt}
 use Rattle.lert_reports.specs.Log.{is_closed, last_first, last_n0, last_offset}
 use Rattle.lert_reports.specs.LogText.{LogRecord}

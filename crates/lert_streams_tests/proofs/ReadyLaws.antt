@@ -8,11 +8,11 @@ use Rattle.lert_spec.specs.declared.piece.Piece.{Piece}
 use Rattle.lert_spec.specs.Edges.{span}
 use Rattle.lert_spec.specs.Table.{plus, total}
 use Rattle.lert_spec.proofs.Tables.{total-plus}
-use Rattle.lert_landing.specs.declared.landing.Landing.{Landing}
-use Rattle.lert_landing.specs.Landed.{taken, CanTake}
-use Rattle.lert_landing.specs.Landings.{Home, home}
-use Rattle.lert_landing.specs.Whole.{AreUpTo}
-use Rattle.lert_landing.proofs.SummedLaws.{plus_up_to}
+use Rattle.lert_levels.specs.declared.landing.landing.Landing.{Landing}
+use Rattle.lert_levels.specs.landing.Landed.{taken, CanTake}
+use Rattle.lert_levels.specs.landing.Landings.{Home, home}
+use Rattle.lert_levels.specs.landing.Whole.{AreUpTo}
+use Rattle.lert_levels.proofs.landing.SummedLaws.{plus_up_to}
 use Rattle.lert_streams_tests.specs.Ready.{IsReady}
 
 up_to : (last tail : ℕ) (pieces : List Piece) → last ≤ tail → AreUpTo last pieces → AreUpTo tail pieces

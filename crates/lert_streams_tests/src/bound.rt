@@ -2,7 +2,7 @@
 
 ghost use Rattle.std.specs.Prelude.{◌<◌};
 
-use lert_bound::Bound;
+use lert_levels::bound::Bound;
 use std::process::Abort;
 use std::test::Fail;
 

@@ -9,7 +9,7 @@ use crate::steps::{Step, may_come};
 use lert_base::Settings;
 use lert_bay::MemBay;
 use lert_io::Failed;
-use lert_landing::{Landing, add_to, end_all};
+use lert_levels::landing::{Landing, add_to, end_all};
 use std::alloc::Global;
 use std::process::Abort;
 

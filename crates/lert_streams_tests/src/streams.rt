@@ -8,7 +8,7 @@ use lert_bay::{Bay, FRAMES, MemBay};
 use lert_frames::frame_place;
 use lert_merge::{Ahead, Order};
 use lert_plain::PlainTable;
-use lert_streams::{BinStreams, StreamRoom};
+use lert_levels::streams::{BinStreams, StreamRoom};
 use std::alloc::Global;
 use std::process::Abort;
 

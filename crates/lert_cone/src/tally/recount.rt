@@ -1,7 +1,7 @@
 //! Keys taken again whose reports, and whose counts in the older levels, are there already.
 
 ghost use Rattle.std.specs.Prelude.{◌≡◌, ◌+◌, ◌-◌, ◌^◌, ◌<◌, ◌≤◌, nat_lt, [], ◌∷◌, ◌++◌, All, length, if◌then◌else◌};
-ghost use Rattle.lert_rows.specs.Young.{IsNextPosition, with_event};
+ghost use Rattle.lert_levels.specs.rows.Young.{IsNextPosition, with_event};
 ghost use Rattle.lert_spec.specs.Edges.{edge, capacity};
 ghost use Rattle.lert_spec.specs.Mix.{cone_of};
 ghost use Rattle.lert_cone.specs.Tally.{IsRecounted};

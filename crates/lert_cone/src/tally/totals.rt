@@ -4,7 +4,7 @@ ghost use Rattle.std.specs.Prelude.{◌≡◌, ◌≢◌, ◌-◌, ◌≤◌, []
 ghost use Rattle.lert_spec.specs.Edges.{edge, capacity};
 ghost use Rattle.lert_spec.specs.Limits.{IsValid};
 ghost use Rattle.lert_spec.specs.Table.{count_of};
-ghost use Rattle.lert_rows.specs.Rows.{IsAt};
+ghost use Rattle.lert_levels.specs.rows.Rows.{IsAt};
 ghost use Rattle.lert_cone.specs.Counts.{Brings, Flushes, Scans};
 ghost use Rattle.lert_cone.specs.Due.{Dues, TookFrom, started};
 ghost use Rattle.lert_cone.specs.Tally.{due_in};

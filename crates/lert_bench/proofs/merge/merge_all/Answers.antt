@@ -1,7 +1,7 @@
 use Rattle.std.proofs.Common.{◌≡◌, Some, subst, arith}
 use Rattle.std.specs.Prelude.{IfSome}
-use Rattle.lert_landing.proofs.SummedLaws.{plus_up_to}
-use Rattle.lert_landing.specs.Whole.{AreUpTo, Takes}
+use Rattle.lert_levels.proofs.landing.SummedLaws.{plus_up_to}
+use Rattle.lert_levels.specs.landing.Whole.{AreUpTo, Takes}
 use Rattle.lert_merge.specs.order.Ordering.{IsNotBelow}
 use Rattle.lert_spec.proofs.Tables.{total-plus}
 use Rattle.lert_spec.specs.Table.{plus}

@@ -1,5 +1,5 @@
 use Rattle.std.proofs.Common.{ℕ, ◌*◌, ◌≤◌, List}
-use Rattle.lert_landing.specs.Whole.{Takes, AreUpTo}
+use Rattle.lert_levels.specs.landing.Whole.{Takes, AreUpTo}
 use Rattle.lert_merge.specs.order.Ordering.{IsNotBelow}
 use Rattle.lert_spec.specs.declared.piece.Piece.{Piece}
 use Rattle.lert_spec.specs.Table.{total}

@@ -1,5 +1,5 @@
 use Rattle.std.proofs.Common.{ℕ, [], ◌∷◌, length, ap, arith, length-append, subst, sym, ◌∙◌, ◌≤◌, Ok, Err}
-use Rattle.lert_rows.specs.Rows.{directory_text}
+use Rattle.lert_levels.specs.rows.Rows.{directory_text}
 use Rattle.lert_reports.specs.declared.log.LogKind.{LogKind}
 use Rattle.lert_spec.specs.declared.numbers.Numbers.{Numbers}
 use Rattle.lert_spec.specs.Edges.{capacity}

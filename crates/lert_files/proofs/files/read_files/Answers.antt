@@ -1,6 +1,6 @@
 use Rattle.std.proofs.Common.{subst}
 use Rattle.lert_spec.specs.Limits.{IsValid}
-use Rattle.lert_rows.specs.Rows.{directory_text}
+use Rattle.lert_levels.specs.rows.Rows.{directory_text}
 use Rattle.lert_files.proofs.OpenedLaws.{differs_told, malformed_told, opened_told, other_told, passes_told, refuses_told}
 use Rattle.lert_files.proofs.files.read_files.Goals as goal
 

@@ -1,9 +1,9 @@
 use Rattle.std.proofs.Common.{ℕ, ◌≤◌, Err, refl, ap, sym, ◌∙◌, subst, arith}
 use Rattle.std.proofs.lemmas.Result.{err_from_is_err_and}
-use Rattle.lert_rows.specs.Checked.{EachStands}
+use Rattle.lert_levels.specs.rows.Checked.{EachStands}
 use Rattle.lert_levels.specs.OnDisk.{OnDisk}
-use Rattle.lert_rows.specs.Named.{IsDirectory}
-use Rattle.lert_rows.specs.Rows.{IsAt, AreRows}
+use Rattle.lert_levels.specs.rows.Named.{IsDirectory}
+use Rattle.lert_levels.specs.rows.Rows.{IsAt, AreRows}
 use Rattle.lert_spec.specs.declared.numbers.Numbers.{Numbers}
 use Rattle.lert_spec.specs.Edges.{capacity}
 use Rattle.lert_bay.specs.declared.bay.TheConstants.{JOURNAL, FRAMES}

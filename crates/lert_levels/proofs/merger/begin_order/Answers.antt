@@ -2,8 +2,8 @@ use Rattle.std.proofs.Common.{◌+◌, ◌*◌, ◌<◌, ◌≤◌, ◌∙◌, �
 use Rattle.std.proofs.lemmas.List.{length-map}
 use Rattle.lert_spec.specs.declared.numbers.Numbers.{Numbers}
 use Rattle.lert_spec.specs.Limits.{IsValid}
-use Rattle.lert_rows.specs.Rows.{IsRow}
-use Rattle.lert_streams.specs.BinSet.{BinSet}
+use Rattle.lert_levels.specs.rows.Rows.{IsRow}
+use Rattle.lert_levels.specs.streams.BinSet.{BinSet}
 use Rattle.lert_levels.specs.Sources.{sources, AreBegun}
 use Rattle.lert_levels.proofs.SourceLaws.{all_begun, begun_length, sources_few, sources_number}
 use Rattle.lert_levels.proofs.merger.begin_order.Goals as goal

@@ -4,7 +4,7 @@ use Rattle.std.proofs.lemmas.Result.{err_from_is_err_and}
 use Rattle.lert_bay.specs.Kept.{Bays}
 use Rattle.lert_bay.proofs.KeptLaws.{IsLawful, reads_as}
 use Rattle.lert_frames.proofs.FaultLaws.{not_err}
-use Rattle.lert_rows.proofs.ReadLaws.{failed_there, malformed_there}
+use Rattle.lert_levels.proofs.rows.ReadLaws.{failed_there, malformed_there}
 use Rattle.lert_levels.proofs.merger.count_bins.Given as given
 use Rattle.lert_levels.proofs.merger.count_bins.Goals as goal
 

@@ -5,14 +5,14 @@ use Rattle.lert_bay.specs.declared.bay.TheConstants.{FRAMES}
 use Rattle.lert_bay.specs.Files.{Files}
 use Rattle.lert_bay.specs.Kept.{Bays, KeepsBay}
 use Rattle.lert_bay.proofs.KeptLaws.{IsLawful, keeps_on}
-use Rattle.lert_rows.specs.Landing.{AreApart}
-use Rattle.lert_rows.specs.Loading.{OneBreaks}
-use Rattle.lert_rows.specs.Rows.{IsRow}
-use Rattle.lert_rows.specs.declared.fault.FlushFault.{FlushFault}
-use Rattle.lert_rows.specs.declared.fault.FlushFault.TheVariants.{Failed}
+use Rattle.lert_levels.specs.rows.Landing.{AreApart}
+use Rattle.lert_levels.specs.rows.Loading.{OneBreaks}
+use Rattle.lert_levels.specs.rows.Rows.{IsRow}
+use Rattle.lert_levels.specs.declared.rows.fault.FlushFault.{FlushFault}
+use Rattle.lert_levels.specs.declared.rows.fault.FlushFault.TheVariants.{Failed}
 use Rattle.lert_levels.specs.Ready.{HasMade}
 use Rattle.lert_levels.specs.Sources.{AreSecure}
-use Rattle.lert_rows.proofs.LandLaws.{rest_on, read_rest}
+use Rattle.lert_levels.proofs.rows.LandLaws.{rest_on, read_rest}
 use Rattle.lert_spec.specs.declared.numbers.Numbers.{Numbers}
 use Rattle.lert_levels.proofs.merger.land_rows.Given as given
 use Rattle.lert_levels.proofs.merger.land_rows.Goals as goal

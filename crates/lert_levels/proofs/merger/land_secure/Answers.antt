@@ -5,17 +5,17 @@ use Rattle.lert_bay.specs.Files.{Files}
 use Rattle.lert_bay.specs.Kept.{Bays}
 use Rattle.lert_bay.proofs.KeptLaws.{IsLawful}
 use Rattle.lert_frames.specs.Frame.{HoldsFrame}
-use Rattle.lert_landing.specs.Summed.{sums_of}
+use Rattle.lert_levels.specs.landing.Summed.{sums_of}
 use Rattle.lert_spec.specs.Edges.{span, capacity}
 use Rattle.std.specs.Prelude.{IsErrOf, sum}
-use Rattle.lert_flush.specs.Merged.{AreParts, picked}
-use Rattle.lert_landing.specs.Landings.{AreLandings, IsOutside}
+use Rattle.lert_levels.specs.flush.Merged.{AreParts, picked}
+use Rattle.lert_levels.specs.landing.Landings.{AreLandings, IsOutside}
 use Rattle.lert_frames.proofs.WriteLaws.{turns_back}
-use Rattle.lert_rows.specs.Landing.{LeavesRest, AreApart}
-use Rattle.lert_rows.specs.declared.fault.FlushFault.TheVariants.{Malformed}
-use Rattle.lert_rows.specs.Loading.{OneBreaks}
-use Rattle.lert_rows.specs.Rows.{IsRow}
-use Rattle.lert_rows.proofs.LandLaws.{rest_fewer}
+use Rattle.lert_levels.specs.rows.Landing.{LeavesRest, AreApart}
+use Rattle.lert_levels.specs.declared.rows.fault.FlushFault.TheVariants.{Malformed}
+use Rattle.lert_levels.specs.rows.Loading.{OneBreaks}
+use Rattle.lert_levels.specs.rows.Rows.{IsRow}
+use Rattle.lert_levels.proofs.rows.LandLaws.{rest_fewer}
 use Rattle.lert_spec.specs.Limits.{IsValid}
 use Rattle.lert_spec.specs.declared.numbers.Numbers.{Numbers}
 use Rattle.lert_levels.specs.Merged.{widths_of}

@@ -1,4 +1,4 @@
-use Rattle.lert_landing.specs.Landed.{IsLandingOf}
+use Rattle.lert_levels.specs.landing.Landed.{IsLandingOf}
 use Rattle.lert_levels.proofs.ReadyLaws.{count_more, each_more}
 use Rattle.lert_levels.proofs.merger.landings_of.Goals as goal
 

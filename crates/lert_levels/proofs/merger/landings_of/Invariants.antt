@@ -1,5 +1,5 @@
 use Rattle.std.proofs.Common.{◌≡◌, length}
-use Rattle.lert_landing.specs.Landings.{AreLandings}
+use Rattle.lert_levels.specs.landing.Landings.{AreLandings}
 use Rattle.lert_levels.proofs.merger.landings_of.Given as goal
 
 abbrev pub invariant-loop-lower : goal.invariant-loop-lower

@@ -1,12 +1,12 @@
 use Rattle.std.proofs.Common.{ℕ, ◌≡◌, ◌+◌, ◌<◌, ◌≤◌, ◌∙◌, List, [], length, map, subst, sym, ap, arith, length-set}
 use Rattle.std.proofs.lemmas.List.{length-map}
-use Rattle.lert_landing.specs.Landed.{taken, IsLanding}
-use Rattle.lert_landing.specs.declared.landing.Landing.{Landing}
-use Rattle.lert_rows.specs.declared.bin_at.BinAt.{BinAt}
-use Rattle.lert_rows.specs.Landing.{landing_frame}
-use Rattle.lert_rows.specs.Rows.{IsRow, arrived}
-use Rattle.lert_rows.proofs.LandLaws.{landing_within}
-use Rattle.lert_rows.proofs.ReadLaws.{row_here}
+use Rattle.lert_levels.specs.landing.Landed.{taken, IsLanding}
+use Rattle.lert_levels.specs.declared.landing.landing.Landing.{Landing}
+use Rattle.lert_levels.specs.declared.rows.bin_at.BinAt.{BinAt}
+use Rattle.lert_levels.specs.rows.Landing.{landing_frame}
+use Rattle.lert_levels.specs.rows.Rows.{IsRow, arrived}
+use Rattle.lert_levels.proofs.rows.LandLaws.{landing_within}
+use Rattle.lert_levels.proofs.rows.ReadLaws.{row_here}
 use Rattle.lert_spec.specs.declared.numbers.Numbers.{Numbers}
 use Rattle.lert_spec.specs.Limits.{IsValid}
 use Rattle.lert_levels.proofs.ReadyLaws.{set_more, landings_set}

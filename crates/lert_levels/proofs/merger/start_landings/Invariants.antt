@@ -1,8 +1,8 @@
 use Rattle.std.proofs.Common.{ℕ, ◌≡◌, ◌<◌, List, [], length, map, get_or}
-use Rattle.lert_landing.specs.Landed.{taken, IsLanding}
-use Rattle.lert_landing.specs.Landings.{AreLandings}
-use Rattle.lert_landing.specs.declared.landing.Landing.{Landing}
-use Rattle.lert_rows.specs.Landing.{landing_frame}
+use Rattle.lert_levels.specs.landing.Landed.{taken, IsLanding}
+use Rattle.lert_levels.specs.landing.Landings.{AreLandings}
+use Rattle.lert_levels.specs.declared.landing.landing.Landing.{Landing}
+use Rattle.lert_levels.specs.rows.Landing.{landing_frame}
 use Rattle.lert_levels.proofs.merger.start_landings.Given as goal
 
 -- the landings so far begin at their frames

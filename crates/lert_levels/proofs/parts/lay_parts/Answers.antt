@@ -2,9 +2,9 @@ use Rattle.std.proofs.Common.{◌≡◌, ◌+◌, ◌<◌, ◌∙◌, ◌++◌, 
 use Rattle.std.proofs.lemmas.List.{length-map}
 use Rattle.lert_spec.specs.declared.numbers.Numbers.{Numbers}
 use Rattle.lert_levels.specs.Parts.{ArePartsOf, streams_to, oldest_stream, newest_stream, part_at, set_two}
-use Rattle.lert_rows.specs.Rows.{IsRow}
+use Rattle.lert_levels.specs.rows.Rows.{IsRow}
 use Rattle.lert_levels.proofs.PartLaws.{streams_more, streams_few_more, parts_none, parts_more, oldest_added, newest_added, added_length, some_streams}
-use Rattle.lert_rows.proofs.ReadLaws.{row_here}
+use Rattle.lert_levels.proofs.rows.ReadLaws.{row_here}
 use Rattle.lert_levels.proofs.parts.lay_parts.Goals as goal
 
 pub loop-lower-init : goal.loop-lower-init

@@ -6,9 +6,9 @@ use Rattle.lert_bay.proofs.KeptLaws.{IsLawful, reads_none, reads_on, reads_as}
 use Rattle.lert_frames.proofs.FaultLaws.{not_err}
 use Rattle.lert_frames.proofs.WriteLaws.{same_err}
 use Rattle.lert_spec.specs.declared.numbers.Numbers.{Numbers}
-use Rattle.lert_rows.specs.Loading.{RowBreaks}
-use Rattle.lert_rows.specs.Rows.{IsRow}
-use Rattle.lert_rows.proofs.ReadLaws.{row_here, hand_to, hand_from}
+use Rattle.lert_levels.specs.rows.Loading.{RowBreaks}
+use Rattle.lert_levels.specs.rows.Rows.{IsRow}
+use Rattle.lert_levels.proofs.rows.ReadLaws.{row_here, hand_to, hand_from}
 use Rattle.lert_levels.specs.Sources.{of_bin, placed_at, AllOf, IsSecure, AreSecure}
 use Rattle.lert_levels.proofs.PlacedLaws.{rows_more}
 use Rattle.lert_levels.proofs.secure.secure_levels.Given as given

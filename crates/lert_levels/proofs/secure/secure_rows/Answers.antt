@@ -5,7 +5,7 @@ use Rattle.lert_bay.specs.declared.bay.TheConstants.{JOURNAL}
 use Rattle.lert_bay.specs.Kept.{Bays}
 use Rattle.lert_bay.proofs.KeptLaws.{IsLawful, reads_on, reads_as, reads_call}
 use Rattle.lert_frames.proofs.FaultLaws.{not_err}
-use Rattle.lert_rows.proofs.ReadLaws.{failed_there, malformed_there}
+use Rattle.lert_levels.proofs.rows.ReadLaws.{failed_there, malformed_there}
 use Rattle.lert_levels.proofs.ReachLaws.{no_place}
 use Rattle.lert_levels.proofs.secure.secure_rows.Given as given
 use Rattle.lert_levels.proofs.secure.secure_rows.Goals as goal

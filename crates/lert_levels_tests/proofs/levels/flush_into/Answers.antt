@@ -1,6 +1,6 @@
 use Rattle.std.proofs.Common.{ap, arith, ◌∙◌}
 use Rattle.lert_levels.specs.OnDisk.{OnDisk}
-use Rattle.lert_rows.specs.Young.{Young}
+use Rattle.lert_levels.specs.rows.Young.{Young}
 use Rattle.lert_levels_tests.proofs.SampleLaws.{ready_next}
 use Rattle.lert_levels_tests.proofs.levels.flush_into.Goals as goal
 

@@ -1,6 +1,6 @@
 use Rattle.std.proofs.Common.{[], ◌∷◌, sym, subst}
 use Rattle.lert_spec.specs.declared.numbers.Numbers.{Numbers}
-use Rattle.lert_rows.specs.Named.{IsDirectory}
+use Rattle.lert_levels.specs.rows.Named.{IsDirectory}
 use Rattle.lert_levels_tests.proofs.SampleLaws.{directory_32}
 use Rattle.lert_levels_tests.proofs.levels.restore.Goals as goal
 

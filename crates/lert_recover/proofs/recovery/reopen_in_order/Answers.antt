@@ -24,7 +24,7 @@ use Rattle.lert_recover.specs.Replayed.{FlushesNothing, HasReplayed, ReplaysSome
 use Rattle.lert_recover.specs.Reopened.{IsStopped}
 use Rattle.lert_levels.specs.OnDisk.{OnDisk}
 use Rattle.lert_reports.specs.Log.{last_first, last_n0}
-use Rattle.lert_rows.specs.Rows.{directory_text}
+use Rattle.lert_levels.specs.rows.Rows.{directory_text}
 use Rattle.lert_reports.specs.Stored.{Stored}
 use Rattle.lert_spec.specs.declared.numbers.Numbers.{Numbers}
 use Rattle.lert_spec.specs.Limits.{IsValid}

@@ -1,10 +1,10 @@
 use Rattle.std.proofs.Common.{◌≡◌, ◌∙◌, ℕ, false, All, List, [], replicate, length, ap, sym, subst, arith}
-use Rattle.lert_rows.specs.declared.bin_at.BinAt.{BinAt}
+use Rattle.lert_levels.specs.declared.rows.bin_at.BinAt.{BinAt}
 use Rattle.lert_levels.specs.OnDisk.{OnDisk}
 use Rattle.lert_levels.proofs.LaterLaws.{HoldsBins-none}
 use Rattle.lert_reports.specs.Stored.{Stored}
-use Rattle.lert_rows.specs.Rows.{IsAt, AreRows, HoldsBins}
-use Rattle.lert_rows.proofs.MoveLaws.{AreRows-none}
+use Rattle.lert_levels.specs.rows.Rows.{IsAt, AreRows, HoldsBins}
+use Rattle.lert_levels.proofs.rows.MoveLaws.{AreRows-none}
 use Rattle.lert_spec.specs.declared.report.Report.{Report}
 use Rattle.lert_spec.specs.Limits.{IsValid}
 use Rattle.lert_spec.specs.Mix.{cone_of}

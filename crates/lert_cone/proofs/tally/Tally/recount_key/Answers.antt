@@ -1,6 +1,6 @@
 use Rattle.std.proofs.Common.{◌≡◌, ◌∙◌, ℕ, ◌+◌, ◌-◌, ◌^◌, ◌<◌, List, suc, length, ap, sym, subst, arith, cond, ltb, refl, [], ◌∷◌, ◌++◌, append_assoc, length-append}
 use Rattle.lert_spec.specs.declared.numbers.Numbers.{Numbers}
-use Rattle.lert_rows.specs.Young.{IsNextPosition, with_event}
+use Rattle.lert_levels.specs.rows.Young.{IsNextPosition, with_event}
 use Rattle.lert_spec.specs.Edges.{edge}
 use Rattle.lert_spec.specs.Mix.{cone_of}
 use Rattle.lert_cone.specs.Tally.{Tallied, IsRecounted, due_in}

@@ -8,7 +8,7 @@ use Rattle.lert_cone.proofs.KeyCounted.{not_counted, no_room, key_counted}
 use Rattle.lert_cone.proofs.NextFlush.{flush_next, next_flushes, next_stays}
 use Rattle.lert_cone.proofs.TakeLaws.{rows_before, to_take}
 use Rattle.lert_cone.proofs.TallyLaws.{next_position}
-use Rattle.lert_rows.specs.Young.{IsNextPosition, Young}
+use Rattle.lert_levels.specs.rows.Young.{IsNextPosition, Young}
 use Rattle.lert_bay.specs.Kept.{Bays}
 use Rattle.lert_bay.proofs.KeptLaws.{IsLawful}
 use Rattle.lert_cone.proofs.tally.Tally.take.Given as given

@@ -10,13 +10,13 @@ use Rattle.lert_spec.specs.Bins.{Bin}
 use Rattle.lert_spec.specs.Edges.{span}
 use Rattle.lert_spec.specs.Table.{count_of}
 use Rattle.lert_levels.specs.Flushed.{InNamed}
-use Rattle.lert_rows.specs.Loading.{OneBreaks}
+use Rattle.lert_levels.specs.rows.Loading.{OneBreaks}
 use Rattle.lert_levels.specs.OnDisk.{OnDisk}
-use Rattle.lert_rows.specs.Ranges.{young_bins}
-use Rattle.lert_rows.specs.Rows.{IsAt, AreRows, HoldsBins}
-use Rattle.lert_rows.specs.Young.{Young}
-use Rattle.lert_rows.proofs.LandLaws.{rest_none}
-use Rattle.lert_rows.proofs.RowLaws.{IsAt-moved, AreRows-moved}
+use Rattle.lert_levels.specs.rows.Ranges.{young_bins}
+use Rattle.lert_levels.specs.rows.Rows.{IsAt, AreRows, HoldsBins}
+use Rattle.lert_levels.specs.rows.Young.{Young}
+use Rattle.lert_levels.proofs.rows.LandLaws.{rest_none}
+use Rattle.lert_levels.proofs.rows.RowLaws.{IsAt-moved, AreRows-moved}
 use Rattle.lert_cone.specs.Due.{TookFrom}
 use Rattle.lert_cone.proofs.TallyLaws.{young_total, flush_total, rows_still, dropped_edge, dropped_bins}
 use Rattle.lert_cone.proofs.NextFlush.{moves_deep, stays_shallow}

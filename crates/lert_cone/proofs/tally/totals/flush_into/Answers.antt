@@ -1,11 +1,11 @@
 use Rattle.std.proofs.Common.{◌≡◌, ◌∙◌, List, OnOk, Result, Ok, Err, ap, subst, sym, slice_range}
 use Rattle.lert_bay.specs.Files.{IfTold}
-use Rattle.lert_rows.specs.declared.fault.FlushFault.{FlushFault}
-use Rattle.lert_rows.specs.declared.fault.FlushFault.TheVariants.{Failed}
+use Rattle.lert_levels.specs.declared.rows.fault.FlushFault.{FlushFault}
+use Rattle.lert_levels.specs.declared.rows.fault.FlushFault.TheVariants.{Failed}
 use Rattle.lert_levels.specs.Flushed.{AreEvents}
 use Rattle.lert_levels.specs.OnDisk.{OnDisk}
-use Rattle.lert_rows.specs.Ranges.{young_bins}
-use Rattle.lert_rows.specs.Rows.{HoldsBins, moved}
+use Rattle.lert_levels.specs.rows.Ranges.{young_bins}
+use Rattle.lert_levels.specs.rows.Rows.{HoldsBins, moved}
 use Rattle.lert_spec.specs.declared.piece.Piece.{Piece}
 use Rattle.lert_spec.specs.Bins.{tallied}
 use Rattle.lert_spec.specs.Edges.{depth, lookback}

@@ -1,8 +1,8 @@
 use Rattle.std.proofs.Common.{◌≡◌, ◌∙◌, List, OnOk, Result, Ok, Err, ap, subst, sym}
-use Rattle.lert_rows.specs.declared.fault.FlushFault.{FlushFault}
-use Rattle.lert_rows.specs.declared.fault.FlushFault.TheVariants.{Failed}
+use Rattle.lert_levels.specs.declared.rows.fault.FlushFault.{FlushFault}
+use Rattle.lert_levels.specs.declared.rows.fault.FlushFault.TheVariants.{Failed}
 use Rattle.lert_levels.specs.Flushed.{AreAllEvents}
-use Rattle.lert_rows.specs.Ranges.{young_bins}
+use Rattle.lert_levels.specs.rows.Ranges.{young_bins}
 use Rattle.lert_spec.specs.declared.piece.Piece.{Piece}
 use Rattle.lert_spec.specs.Bins.{tallied}
 use Rattle.lert_cone.specs.Due.{Dues, TookFrom}

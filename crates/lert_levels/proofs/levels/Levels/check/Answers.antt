@@ -10,13 +10,13 @@ use Rattle.lert_bay.proofs.KeptLaws.{IsLawful, reads_as}
 use Rattle.lert_base.specs.declared.pieces.PieceFault.TheVariants.{Malformed}
 use Rattle.lert_frames.proofs.FaultLaws.{not_err}
 use Rattle.lert_spec.specs.Limits.{IsValid}
-use Rattle.lert_rows.specs.declared.bin_at.BinAt.{BinAt}
-use Rattle.lert_rows.specs.Checked.{EachStands, rows_left}
+use Rattle.lert_levels.specs.declared.rows.bin_at.BinAt.{BinAt}
+use Rattle.lert_levels.specs.rows.Checked.{EachStands, rows_left}
 use Rattle.lert_levels.specs.OnDisk.{OnDisk}
-use Rattle.lert_rows.specs.Rows.{AreRows}
-use Rattle.lert_rows.proofs.CheckLaws.{all_whole, check_refuses, check_passes, lent_rows}
-use Rattle.lert_rows.proofs.HeldLaws.{all_stand}
-use Rattle.lert_rows.proofs.ReadLaws.{failed_there, malformed_there}
+use Rattle.lert_levels.specs.rows.Rows.{AreRows}
+use Rattle.lert_levels.proofs.rows.CheckLaws.{all_whole, check_refuses, check_passes, lent_rows}
+use Rattle.lert_levels.proofs.rows.HeldLaws.{all_stand}
+use Rattle.lert_levels.proofs.rows.ReadLaws.{failed_there, malformed_there}
 use Rattle.lert_levels.proofs.LevelLaws.{lent_seen, read_on}
 use Rattle.lert_levels.proofs.levels.Levels.check.Given as given
 use Rattle.lert_levels.proofs.levels.Levels.check.Goals as goal

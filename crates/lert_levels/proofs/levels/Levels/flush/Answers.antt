@@ -10,10 +10,10 @@ use Rattle.lert_spec.specs.Edges.{capacity, depth}
 use Rattle.lert_levels.specs.Flushed.{InNamed}
 use Rattle.lert_levels.specs.Merged.{IsFrames}
 use Rattle.lert_levels.specs.OnDisk.{OnDisk}
-use Rattle.lert_rows.specs.Landing.{AreApart, Anywhere}
-use Rattle.lert_rows.specs.Rows.{IsAt, moved, tallied_in}
-use Rattle.lert_rows.proofs.LandLaws.{rest_on, rest_fewer}
-use Rattle.lert_rows.proofs.RowLaws.{IsAt-moved}
+use Rattle.lert_levels.specs.rows.Landing.{AreApart, Anywhere}
+use Rattle.lert_levels.specs.rows.Rows.{IsAt, moved, tallied_in}
+use Rattle.lert_levels.proofs.rows.LandLaws.{rest_on, rest_fewer}
+use Rattle.lert_levels.proofs.rows.RowLaws.{IsAt-moved}
 use Rattle.lert_levels.proofs.FlushLaws.{made_took, made_taken}
 use Rattle.lert_levels.proofs.HoldLaws.{named_apart, rows_stand}
 use Rattle.lert_levels.proofs.ReachLaws.{failed_by, no_break, no_place, reached_rows, reached_few, has_moved, deep}

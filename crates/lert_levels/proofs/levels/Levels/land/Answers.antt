@@ -3,13 +3,13 @@ use Rattle.std.specs.Prelude.{OnOk, vec_capacity}
 use Rattle.std.proofs.lemmas.List.{length-map, length-take, length-take-le}
 use Rattle.lert_bay.specs.declared.bay.TheConstants.{FRAMES}
 use Rattle.lert_bay.specs.Kept.{Bays}
-use Rattle.lert_landing.specs.Landings.{AreLandings}
-use Rattle.lert_landing.specs.declared.landing.Landing.{Landing}
-use Rattle.lert_rows.specs.declared.bin_at.BinAt.{BinAt}
-use Rattle.lert_rows.specs.Landing.{AreApart, KeepsRest}
-use Rattle.lert_rows.specs.Loading.{OneBreaks}
-use Rattle.lert_rows.specs.Rows.{AreRows}
-use Rattle.lert_rows.proofs.MoveLaws.{written_back}
+use Rattle.lert_levels.specs.landing.Landings.{AreLandings}
+use Rattle.lert_levels.specs.declared.landing.landing.Landing.{Landing}
+use Rattle.lert_levels.specs.declared.rows.bin_at.BinAt.{BinAt}
+use Rattle.lert_levels.specs.rows.Landing.{AreApart, KeepsRest}
+use Rattle.lert_levels.specs.rows.Loading.{OneBreaks}
+use Rattle.lert_levels.specs.rows.Rows.{AreRows}
+use Rattle.lert_levels.proofs.rows.MoveLaws.{written_back}
 use Rattle.lert_spec.specs.Edges.{capacity, depth, span}
 use Rattle.lert_spec.specs.Bins.{Bin}
 use Rattle.std.specs.List.{All}

@@ -5,7 +5,7 @@ use Rattle.lert_spec.specs.Edges.{capacity}
 use Rattle.lert_spec.specs.Limits.{IsValid}
 use Rattle.lert_levels.specs.OnDisk.{OnDisk}
 use Rattle.lert_levels.proofs.LevelLaws.{after_few, after_room, after_kept, after_seen}
-use Rattle.lert_rows.proofs.MoveLaws.{rows_few}
+use Rattle.lert_levels.proofs.rows.MoveLaws.{rows_few}
 use Rattle.lert_levels.proofs.levels.Levels.move_on.Goals as goal
 
 pub move_rows-requires-clause-few : goal.move_rows-requires-clause-few

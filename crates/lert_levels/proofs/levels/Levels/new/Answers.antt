@@ -2,9 +2,9 @@ use Rattle.std.proofs.Common.{ℕ, ◌≡◌, ◌+◌, ◌*◌, ◌≤◌, ◌�
 use Rattle.std.proofs.lemmas.Nat.{mul-le}
 use Rattle.std.proofs.lemmas.Result.{err_from_is_err_and}
 use Rattle.lert_spec.specs.declared.numbers.Numbers.{Numbers}
-use Rattle.lert_rows.specs.declared.bin_at.BinAt.{BinAt}
-use Rattle.lert_rows.specs.Rows.{AreRows, directory_text}
-use Rattle.lert_rows.proofs.MoveLaws.{all_empty, AreRows-none, short_directory}
+use Rattle.lert_levels.specs.declared.rows.bin_at.BinAt.{BinAt}
+use Rattle.lert_levels.specs.rows.Rows.{AreRows, directory_text}
+use Rattle.lert_levels.proofs.rows.MoveLaws.{all_empty, AreRows-none, short_directory}
 use Rattle.lert_levels.proofs.levels.Levels.new.Goals as goal
 
 -- rows without a bin have a directory that fits

@@ -3,7 +3,7 @@ use Rattle.std.proofs.lemmas.List.{length-map}
 use Rattle.std.specs.List.{All}
 use Rattle.lert_spec.specs.Edges.{capacity}
 use Rattle.lert_spec.specs.Limits.{IsValid}
-use Rattle.lert_rows.specs.Named.{IsDirectory, AreNamed}
+use Rattle.lert_levels.specs.rows.Named.{IsDirectory, AreNamed}
 use Rattle.lert_levels.specs.OnDisk.{OnDisk}
 use Rattle.lert_levels.proofs.LevelLaws.{restored_few, restored_room, restored_kept, restored_named}
 use Rattle.lert_levels.proofs.levels.Levels.restore.Goals as goal

@@ -8,10 +8,10 @@ use Rattle.lert_spec.specs.declared.piece.Piece.{Piece}
 use Rattle.lert_spec.specs.declared.numbers.Numbers.{Numbers}
 use Rattle.lert_spec.specs.Bins.{tallied}
 use Rattle.lert_spec.specs.Limits.{IsValid}
-use Rattle.lert_rows.specs.declared.bin_at.BinAt.{BinAt}
-use Rattle.lert_rows.specs.Loading.{AllStand, OneBreaks}
-use Rattle.lert_rows.specs.Rows.{IsRow, AreRows, tallied_in}
-use Rattle.lert_rows.proofs.CheckLaws.{lent_rows}
+use Rattle.lert_levels.specs.declared.rows.bin_at.BinAt.{BinAt}
+use Rattle.lert_levels.specs.rows.Loading.{AllStand, OneBreaks}
+use Rattle.lert_levels.specs.rows.Rows.{IsRow, AreRows, tallied_in}
+use Rattle.lert_levels.proofs.rows.CheckLaws.{lent_rows}
 use Rattle.lert_levels.specs.Merged.{IsMade, IsFrames}
 use Rattle.lert_levels.specs.OnDisk.{OnDisk}
 use Rattle.lert_levels.proofs.FlushLaws.{scan_took, scan_taken}

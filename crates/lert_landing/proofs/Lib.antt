@@ -1,6 +1,0 @@
-mod Examples
-pub mod SumLaws
-pub mod LandingLaws
-pub mod ApartLaws
-pub mod LandingsLaws
-pub mod SummedLaws

@@ -1,0 +1,98 @@
+-- One event more of a tail in the bytes of its place.
+use Rattle.std.proofs.Common.{◌≡◌, ℕ, ◌+◌, ◌%◌, ◌<◌, ◌≤◌, List, [], ◌∷◌, ◌++◌, Bool, true, false, if◌then◌else◌, ◌==◌, length, min, inl, inr, refl, ap, ap₂, sym, ◌∙◌, subst, arith}
+use Rattle.std.specs.Prelude.{slice_set}
+use Rattle.std.proofs.Math.ListN.{get_or}
+use Rattle.std.proofs.lemmas.Bool.{cases_eq, eqb-true}
+use Rattle.std.proofs.lemmas.List.{get_or_default, get_or-set_same, get_or-set_other, length-set}
+use Rattle.std.proofs.lemmas.List.Sums.{sum_by-append}
+use Rattle.std.proofs.lemmas.Nat.{mod_below}
+use Rattle.lert_levels.specs.declared.bound.pair.Pair.{Pair}
+use Rattle.lert_levels.specs.bound.Bytes.{nothing, pair_of, risen}
+use Rattle.lert_levels.specs.bound.Covers.{times, Covers, CoversCounts}
+
+-- what stands at a tail's place is its pair
+pub pair_at : (pairs : List Pair) (tail len place : ℕ) (pair : Pair) → 1 ≤ length pairs → len ≡ length pairs → place ≡ tail % len → pair ≡ get_or pairs place pair →
+    pair ≡ pair_of pairs tail
+pair_at pairs tail len place pair some len_is place_is is =
+    let there : place ≡ tail % length pairs = place_is ∙ ap (λ n. tail % n) len_is in
+    let within : place < length pairs = subst (λ n. n < length pairs) (sym there) (mod_below tail (length pairs) some) in
+    is ∙ (get_or_default pairs place pair nothing within ∙ ap (λ n. get_or pairs n nothing) there)
+
+pub bytes_added : (pairs : List Pair) (tail len place byte : ℕ) (pair : Pair) → 1 ≤ length pairs → len ≡ length pairs → place ≡ tail % len → pair ≡ get_or pairs place pair →
+    byte ≡ min (pair.present + 1) 255 →
+    slice_set pairs place (record { before = pair.before; present = byte }) ≡ slice_set pairs (tail % length pairs) (risen (pair_of pairs tail))
+bytes_added pairs tail len place byte pair some len_is place_is is byte_is =
+    let same : pair ≡ pair_of pairs tail = pair_at pairs tail len place pair some len_is place_is is in
+    let there : place ≡ tail % length pairs = place_is ∙ ap (λ n. tail % n) len_is in
+    let present_is : byte ≡ min ((pair_of pairs tail).present + 1) 255 = byte_is ∙ ap (λ (p : Pair). min (p.present + 1) 255) same in
+    ap₂ (λ (n : ℕ) (p : Pair). slice_set pairs n p) there (λ i. record { before = (same i).before; present = present_is i })
+
+-- ---- what the bytes cover
+
+once_or_not : (b : Bool) → (if b then 1 else 0) ≤ 1
+once_or_not true = omega arith
+once_or_not false = omega arith
+
+not_once : (b : Bool) → (b ≡ true → ⊥) → ◌≡◌ {A = ℕ} (if b then 1 else 0) 0
+not_once true no_way = absurd (no_way refl)
+not_once false no_way = refl
+
+-- `more` is how often each tail came just now: at most once, and others not at all
+module _ (pairs : List Pair) (tail : ℕ) (some : 1 ≤ length pairs) (more : ℕ → ℕ) (once : (other : ℕ) → more other ≤ 1)
+    (others : (other : ℕ) → (other ≡ tail → ⊥) → more other ≡ 0) where
+  abbrev pub now : List Pair
+  now = slice_set pairs (tail % length pairs) (risen (pair_of pairs tail))
+
+  at_other : (other : ℕ) → pair_of now other ≡ get_or now (other % length pairs) nothing
+  at_other other = ap (λ n. get_or now (other % n) nothing) (length-set pairs (tail % length pairs) (risen (pair_of pairs tail)))
+
+  same_place : (other : ℕ) → other % length pairs ≡ tail % length pairs → pair_of now other ≡ risen (pair_of pairs other)
+  same_place other is =
+      at_other other
+      ∙ (ap (λ n. get_or now n nothing) is
+      ∙ (get_or-set_same pairs (tail % length pairs) (risen (pair_of pairs tail)) nothing (mod_below tail (length pairs) some)
+      ∙ ap (λ n. risen (get_or pairs n nothing)) (sym is)))
+
+  other_place : (other : ℕ) → (other % length pairs ≡ tail % length pairs → ⊥) → pair_of now other ≡ pair_of pairs other
+  other_place other apart = at_other other ∙ get_or-set_other pairs (tail % length pairs) (other % length pairs) (risen (pair_of pairs tail)) nothing apart
+
+  pub added : (before present : ℕ → ℕ) → CoversCounts pairs before present → CoversCounts now before (λ other. present other + more other)
+  added before present held = record {
+    of_before = λ other. elim (cases_eq (other % length pairs) (tail % length pairs)) [
+      | inl is ↦ omega (arith, held.of_before other, ap (λ (p : Pair). p.before) (same_place other is))
+      | inr apart ↦ omega (arith, held.of_before other, ap (λ (p : Pair). p.before) (other_place other apart))
+    ];
+    of_present = λ other. elim (cases_eq (other % length pairs) (tail % length pairs)) [
+      | inl is ↦ omega (arith, held.of_present other, ap (λ (p : Pair). p.present) (same_place other is), once other)
+      | inr apart ↦ omega (
+        arith,
+        held.of_present other,
+        ap (λ (p : Pair). p.present) (other_place other apart),
+        others other (λ same. apart (ap (λ n. n % length pairs) same)),
+      )
+    ];
+  }
+
+-- of how often each tail came
+pub counts_added : (pairs : List Pair) (tail : ℕ) → 1 ≤ length pairs → (before present : ℕ → ℕ) → CoversCounts pairs before present →
+    CoversCounts (slice_set pairs (tail % length pairs) (risen (pair_of pairs tail))) before (λ other. present other + (if other == tail then 1 else 0))
+counts_added pairs tail some before present held =
+    added pairs tail some (λ other. if other == tail then 1 else 0) (λ other. once_or_not (other == tail))
+    (λ other apart. not_once (other == tail) (λ is. apart (eqb-true other tail is))) before present held
+
+one_more : (tail other : ℕ) (present : List ℕ) → times other (present ++ tail ∷ []) ≡ times other present + (if tail == other then 1 else 0)
+one_more tail other present =
+    sum_by-append (λ event. if event == other then 1 else 0) present (tail ∷ []) ∙ omega arith
+
+-- of two lists of events
+pub covers_added : (pairs : List Pair) (tail : ℕ) → 1 ≤ length pairs → (before present : List ℕ) → Covers pairs before present →
+    Covers (slice_set pairs (tail % length pairs) (risen (pair_of pairs tail))) before (present ++ tail ∷ [])
+covers_added pairs tail some before present held =
+    let after = added pairs tail some (λ other. if tail == other then 1 else 0) (λ other. once_or_not (tail == other))
+    (λ other apart. not_once (tail == other) (λ is. apart (sym (eqb-true tail other is))))
+    (λ other. times other before) (λ other. times other present) (record { of_before = held.of_before; of_present = held.of_present }) in
+    record {
+      of_before = after.of_before;
+      of_present = λ other. subst (λ n. min n 255 ≤ (pair_of (slice_set pairs (tail % length pairs) (risen (pair_of pairs tail))) other).present)
+          (sym (one_more tail other present)) (after.of_present other);
+    }

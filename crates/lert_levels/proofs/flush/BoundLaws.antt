@@ -1,0 +1,182 @@
+-- What the widths of the streams bound: the sums so far, and how many pieces still come.
+use Rattle.std.proofs.Common.{ℕ, zero, suc, ◌≡◌, ◌≢◌, ◌+◌, ◌-◌, ◌<◌, ◌≤◌, true, Option, None, List, [], ◌∷◌, ◌++◌, length, get_or, sum}
+use Rattle.std.proofs.Common.{ap, sym, ◌∙◌, subst, arith, inl, inr}
+use Rattle.std.proofs.lemmas.Bool.{cases_eq}
+use Rattle.lert_frames.specs.Place.{tail_limit}
+use Rattle.lert_frames.proofs.ReadingLaws.{total-append}
+use Rattle.lert_levels.specs.landing.Landed.{taken, CanTake, IsLandingOf}
+use Rattle.lert_levels.specs.landing.Summed.{sums_of}
+use Rattle.lert_levels.specs.landing.Whole.{AreUpTo}
+use Rattle.lert_levels.specs.declared.landing.landing.Landing.{Landing}
+use Rattle.lert_levels.specs.declared.landing.sum.Sum.{Sum}
+use Rattle.lert_merge.specs.order.Fronts.{front_at}
+use Rattle.lert_merge.specs.order.Ordering.{Ordering, HasTaken}
+use Rattle.lert_merge.specs.declared.order.streams.Streams.{Ghosts as StreamsOf}
+use Rattle.lert_spec.specs.declared.numbers.Numbers.{Numbers}
+use Rattle.lert_spec.specs.declared.piece.Piece.{Piece}
+use Rattle.lert_spec.specs.Edges.{span}
+use Rattle.lert_spec.specs.Table.{total, plus}
+use Rattle.lert_spec.proofs.Tables.{total-plus}
+use Rattle.lert_levels.specs.flush.Merged.{is_of, picked, with_piece, AreWide}
+use Rattle.lert_levels.proofs.flush.PickLaws.{each-picked, sums_less, picked_less}
+use Rattle.lert_levels.proofs.flush.SumsLaws.{total-sums_of, up_to-sums_of}
+use Rattle.lert_levels.proofs.flush.GatheringLaws.{IsGathering, HasGiven, more, within, len_more, here_more, elsewhere_more, taken_more, sums_are, part_are, next_some, next_below}
+
+-- ---- sums over the first streams
+
+abbrev pub over : (ℕ → ℕ) → ℕ → ℕ
+over f zero = 0
+over f (suc n) = over f n + f n
+
+over_le : (f h : ℕ → ℕ) (n : ℕ) → ((k : ℕ) → k < n → f k ≤ h k) → over f n ≤ over h n
+over_le f h zero less = omega arith
+over_le f h (suc n) less = omega (arith, over_le f h n (λ k below. less k (omega (arith, below))), less n (omega arith))
+
+over_less : (f h : ℕ → ℕ) (n at : ℕ) → at < n → ((k : ℕ) → k < n → k ≢ at → f k ≤ h k) → f at < h at → over f n < over h n
+over_less f h zero at below less here = absurd (omega (arith, below))
+over_less f h (suc n) at below less here = elim (cases_eq at n) [
+  | inl same ↦ (
+      let last : f n < h n = subst (λ k. f k < h k) same here in
+      omega (arith, last, over_le f h n (λ k under. less k (omega (arith, under)) (λ is. omega (arith, under, is, same)))))
+  | inr other ↦ omega (
+    arith,
+    less n (omega arith) (λ is. other (sym is)),
+    over_less f h n at (omega (arith, below, other)) (λ k under ne. less k (omega (arith, under)) ne) here,
+  )
+]
+
+-- how much may still come of a stream
+abbrev pub left_at : {S C : Type 0} → StreamsOf S C → (S → ℕ → ℕ) → Ordering S → ℕ → ℕ
+left_at members width order k = width order.streams k - (total (members.given order.streams k) - total (front_at order.ahead k))
+
+-- and of all
+abbrev pub left_over : {S C : Type 0} → StreamsOf S C → (S → ℕ → ℕ) → Ordering S → ℕ
+left_over members width order = over (left_at members width order) (members.count order.streams)
+
+module _ {S C : Type 0} (members : StreamsOf S C) (width : S → ℕ → ℕ) (summed : (streams : S) (k : ℕ) → k < members.count streams → total (members.given streams k) ≤ width streams k)
+    (width_same : (old new : S) → members.same old new → (k : ℕ) → width new k ≡ width old k) where
+  -- what came of a stream is within its width
+  pub came_fits : (first order : Ordering S) (k : ℕ) (pieces : List Piece) → members.same first.streams order.streams → k < members.count order.streams → HasTaken members order k pieces →
+      total pieces ≤ width first.streams k
+  came_fits first order k pieces kept below taken = omega (
+    arith,
+    summed order.streams k below,
+    ap total taken,
+    total-append pieces (front_at order.ahead k),
+    width_same first.streams order.streams kept k,
+  )
+
+  came_is : (order : Ordering S) (k : ℕ) (pieces : List Piece) → HasTaken members order k pieces → total (members.given order.streams k) - total (front_at order.ahead k) ≡ total pieces
+  came_is order k pieces taken = omega (arith, ap total taken, total-append pieces (front_at order.ahead k))
+
+  module _ {T : Type 0} (took : T → List Piece → Type 0) (first : Ordering S) (start : C) (lists : List (List Piece)) (now : Ordering S) (ctx : C)
+      (totals : T) (sums : Sum) (was : IsGathering members took first start lists now ctx totals sums) (new : Ordering S) (after : C) (next : ℕ × Piece)
+      (step : HasGiven members now ctx new after next) (same_on : (a b c : S) → members.same a b → members.same b c → members.same a c) where
+    abbrev n : ℕ
+    n = members.count first.streams
+
+    abbrev then : List (List Piece)
+    then = more members took first start lists now ctx totals sums was new after next step
+
+    count_is : members.count new.streams ≡ n
+    count_is = step.same.streams ∙ was.same.streams
+
+    kept_then : members.same first.streams new.streams
+    kept_then = same_on first.streams now.streams new.streams was.kept step.kept
+
+    within_then : next.0 < n
+    within_then = within members took first start lists now ctx totals sums was new after next step
+
+    len_then : length then ≡ n
+    len_then = len_more members took first start lists now ctx totals sums was new after next step
+
+    taken_then : (k : ℕ) → k < n → HasTaken members new k (get_or then k [])
+    taken_then = taken_more members took first start lists now ctx totals sums was new after next step
+
+    some : 1 ≤ next.1.count
+    some = next_some members took first start lists now ctx totals sums was new after next step
+
+    pub fits_then : (k : ℕ) → k < n → total (get_or then k []) ≤ width first.streams k
+    fits_then k below = came_fits first new k (get_or then k []) kept_then (omega (arith, below, count_is)) (taken_then k below)
+
+    -- the sums of all, and of a part
+    pub all_fit : (widths : List ℕ) → AreWide width first.streams widths n → total (sums_of lists) + next.1.count ≤ sum widths
+    all_fit widths wide =
+        let sums_then : plus (sums_of lists) next.1.tail next.1.count ≡ sums_of then = sums_are members took first start lists now ctx totals sums was new after next step in
+        omega (
+          arith,
+          total-plus (sums_of lists) next.1.tail next.1.count,
+          ap total sums_then,
+          total-sums_of then,
+          sums_less total [] then widths (wide.len ∙ sym len_then)
+              (λ k below. (let under : k < n = omega (arith, below, len_then) in let less : total (get_or then k []) ≤ get_or widths k 0 = omega (
+                arith,
+                fits_then k under,
+                wide.each k under,
+              ) in less)),
+        )
+
+    pub part_fits : (parts : List (Option ℕ)) → length parts ≡ n → (part : ℕ) → is_of (get_or parts next.0 None) part ≡ true → (widths : List ℕ) → AreWide width first.streams widths n →
+        total (sums_of (picked parts part lists)) + next.1.count ≤ sum (picked parts part widths)
+    part_fits parts len part own widths wide =
+        let its = sums_of (picked parts part lists) in
+        let is : plus its next.1.tail next.1.count ≡ sums_of (picked parts part then) =
+        sym (ap (λ b. with_piece b next.1 its) own) ∙ part_are members took first start lists now ctx totals sums was new after next step parts len part in
+        omega (
+          arith,
+          total-plus its next.1.tail next.1.count,
+          ap total is,
+          total-sums_of (picked parts part then),
+          picked_less total [] parts part then widths (wide.len ∙ sym len_then)
+              (λ k below. (let under : k < n = omega (arith, below, len_then) in let less : total (get_or then k []) ≤ get_or widths k 0 = omega (
+                arith,
+                fits_then k under,
+                wide.each k under,
+              ) in less)),
+        )
+
+    -- the landing of a part can take the piece
+    pub can_take : (s : Numbers) → ((k : ℕ) → k < n → members.limit first.streams k ≤ tail_limit s) → (parts : List (Option ℕ)) → length parts ≡ n → (part : ℕ) →
+        is_of (get_or parts next.0 None) part ≡ true → (widths : List ℕ) → AreWide width first.streams widths n → sum (picked parts part widths) ≤ span s (part + 1) →
+        (l : Landing) → IsLandingOf s (part + 1) l → taken l ≡ sums_of (picked parts part lists) → CanTake l next.1
+    can_take s limits parts len part own widths wide room l is taken_is =
+        let high : (k : ℕ) → k < length lists → AreUpTo next.1.tail (get_or lists k []) = was.up next.1.tail step.above in
+        let below : next.1.tail < tail_limit s = next_below members took first start lists now ctx totals sums was new after next step (tail_limit s) limits in
+        let spans : span l.writer.settings l.writer.level ≡ span s (part + 1) = λ i. span (is.settings i) (is.level_is i) in
+        record {
+          ascends = subst (AreUpTo next.1.tail) (sym taken_is)
+              (up_to-sums_of next.1.tail (picked parts part lists) (each-picked (AreUpTo next.1.tail) [] parts part lists high));
+          below = subst (λ (m : Numbers). next.1.tail < tail_limit m) (sym is.settings) below;
+          some = some;
+          fits = omega (arith, part_fits parts len part own widths wide, room, spans, ap total taken_is);
+        }
+
+    -- and less may still come
+    pub left_less : left_over members width new < left_over members width now
+    left_less =
+        let f = left_at members width new in
+        let h = left_at members width now in
+        let here : get_or then next.0 [] ≡ get_or lists next.0 [] ++ next.1 ∷ [] = here_more members took first start lists now ctx totals sums was new after next step in
+        let now_below : (k : ℕ) → k < n → k < members.count now.streams = λ k below. omega (arith, below, was.same.streams) in
+        let same_width : (k : ℕ) → width new.streams k ≡ width now.streams k = width_same now.streams new.streams step.kept in
+        let first_width : (k : ℕ) → width now.streams k ≡ width first.streams k = width_same first.streams now.streams was.kept in
+        let less : over f n < over h n = over_less f h n next.0 within_then
+        (λ k below other. omega (
+          arith,
+          same_width k,
+          came_is new k (get_or then k []) (taken_then k below),
+          came_is now k (get_or lists k []) (was.taken k below),
+          ap total (elsewhere_more members took first start lists now ctx totals sums was new after next step k other),
+        ))
+        (omega (
+          arith,
+          same_width next.0,
+          first_width next.0,
+          some,
+          came_is new next.0 (get_or then next.0 []) (taken_then next.0 within_then),
+          came_is now next.0 (get_or lists next.0 []) (was.taken next.0 within_then),
+          fits_then next.0 within_then,
+          ap total here,
+          total-append (get_or lists next.0 []) (next.1 ∷ []),
+        )) in
+        omega (arith, less, ap (over f) count_is, ap (over h) was.same.streams)

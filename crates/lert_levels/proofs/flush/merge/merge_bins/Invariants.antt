@@ -1,0 +1,23 @@
+use Rattle.lert_bay.specs.Kept.{Bays}
+use Rattle.lert_levels.proofs.flush.BoundLaws.{left_over}
+use Rattle.lert_levels.proofs.flush.MergingLaws.{IsMerging}
+use Rattle.lert_levels.proofs.flush.merge.merge_bins.Given as goal
+
+abbrev pub bays : (g : goal.Over) → Bays g.row.B.Denot
+bays g = record {
+  faults = g.B.Faulty.faults;
+  mark = g.B.Faulty.mark;
+  files = g.B.Bay.files;
+  leaves = g.B.Bay.leaves;
+  moment = g.B.Bay.moment;
+  left_since = g.B.Bay.left_since;
+  handed_out = g.B.Bay.handed_out;
+}
+
+-- what was taken so far
+abbrev pub invariant-loop-next : goal.invariant-loop-next
+invariant-loop-next g l = IsMerging g.S.Streams g.O.Totals.took (bays g) g.S.Bins.sure l.fn.parts l.fn.order l.fn.bay l.fn.landings l.order l.bay l.landings l.totals l.sum
+
+-- each piece leaves less room
+abbrev pub decreases-loop-next : goal.decreases-loop-next
+decreases-loop-next g l = left_over g.S.Streams g.S.Bins.width l.order

@@ -1,0 +1,6 @@
+pub mod Examples
+pub mod SumLaws
+pub mod LandingLaws
+pub mod ApartLaws
+pub mod LandingsLaws
+pub mod SummedLaws

@@ -1,0 +1,83 @@
+use Rattle.std.proofs.Common.{List, map, get_or, set, ap, sym, ◌∙◌}
+use Rattle.std.proofs.lemmas.List.{get_or_default, map-set}
+use Rattle.lert_bay.specs.Kept.{Bays}
+use Rattle.lert_frames.proofs.WithinLaws.{turns_to}
+use Rattle.lert_frames.proofs.WriteLaws.{on_ok, on_err_from}
+use Rattle.lert_levels.specs.rows.Landing.{IsApart, LeavesRest}
+use Rattle.lert_spec.specs.declared.piece.Piece.{Piece}
+use Rattle.lert_spec.specs.Table.{plus}
+use Rattle.lert_levels.specs.landing.Landed.{taken}
+use Rattle.lert_levels.proofs.landing.LandingsLaws.{apart_one, homes_set, taken_here, others_set, landing_set}
+use Rattle.lert_levels.proofs.landing.landings.add_to.Given as given
+use Rattle.lert_levels.proofs.landing.landings.add_to.Goals as goal
+
+abbrev bays : (g : given.Over) → Bays g.row.B.Denot
+bays g = record {
+  faults = g.B.Faulty.faults;
+  mark = g.B.Faulty.mark;
+  files = g.B.Bay.files;
+  leaves = g.B.Bay.leaves;
+  moment = g.B.Bay.moment;
+  left_since = g.B.Bay.left_since;
+  handed_out = g.B.Bay.handed_out;
+}
+
+pub bounds-landings-part : goal.bounds-landings-part
+bounds-landings-part g c = c.requires.part
+
+pub add-requires : goal.add-requires
+add-requires g c = c.requires.piece c.index-landings-part.result
+
+pub returns-clause-kept : goal.returns-clause-kept
+returns-clause-kept g c = c.add.ensures.lands.kept
+
+pub returns-clause-others : goal.returns-clause-others
+returns-clause-others g c k d other =
+    let xs = c.args.landings.now in
+    let i = c.args.part in
+    let l = get_or xs i c.index-landings-part.result in
+    others_set xs i l c.add.new.self c.requires.part (get_or_default xs i c.index-landings-part.result l c.requires.part) k d other
+
+pub returns-clause-taken : goal.returns-clause-taken
+returns-clause-taken g c =
+    let xs = c.args.landings.now in
+    let i = c.args.part in
+    let l = get_or xs i c.index-landings-part.result in
+    let l_is = get_or_default xs i c.index-landings-part.result l c.requires.part in
+    on_ok _ _ c.add.result c.add.ensures.taken (λ taken_is.
+    map-set taken xs i c.add.new.self
+    ∙ ap (set (map taken xs) i)
+    (taken_is ∙ ap (λ (ps : List Piece). plus ps c.args.piece.tail c.args.piece.count) (sym (taken_here xs i l c.add.new.self c.requires.part l_is))))
+
+pub returns-clause-failed : goal.returns-clause-failed
+returns-clause-failed g c =
+    let xs = c.args.landings.now in
+    on_err_from _ _ c.add.result c.add.ensures.failed (λ none. map-set taken xs c.args.part c.add.new.self ∙ ap (set (map taken xs) c.args.part) none)
+
+pub returns-clause-homes : goal.returns-clause-homes
+returns-clause-homes g c =
+    let xs = c.args.landings.now in
+    let i = c.args.part in
+    let l = get_or xs i c.index-landings-part.result in
+    let l_is = get_or_default xs i c.index-landings-part.result l c.requires.part in
+    homes_set xs i l c.add.new.self c.requires.part l_is c.add.ensures.lands.same
+
+pub returns-clause-landing : goal.returns-clause-landing
+returns-clause-landing g c s are seen told landing later told_later =
+    let xs = c.args.landings.now in
+    let i = c.args.part in
+    let l = get_or xs i c.index-landings-part.result in
+    let l_is = get_or_default xs i c.index-landings-part.result l c.requires.part in
+    let lands = c.add.ensures.lands in
+    let step = LeavesRest (IsApart l.writer.settings l.writer.level l.frame) in
+    landing_set xs i l c.add.new.self c.requires.part l_is s are seen later
+    (turns_to step (g.B.Bay.files c.args.bay.now) (g.B.Bay.files c.add.new.bay) seen later lands.rest.seen told told_later)
+    (lands.landing seen told (landing i c.index-landings-part.result c.requires.part) later told_later) landing
+
+pub returns-clause-rest : goal.returns-clause-rest
+returns-clause-rest g c =
+    let xs = c.args.landings.now in
+    let i = c.args.part in
+    let l = get_or xs i c.index-landings-part.result in
+    let l_is = get_or_default xs i c.index-landings-part.result l c.requires.part in
+    apart_one (bays g) xs i l c.args.bay.now c.add.new.bay c.requires.part l_is c.add.ensures.lands.rest

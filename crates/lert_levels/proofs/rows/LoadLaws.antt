@@ -1,0 +1,139 @@
+-- The tables of level 0 that are in use, as the pieces of its bins.
+use Rattle.std.proofs.Common.{ℕ, zero, suc, ◌≡◌, ◌+◌, ◌-◌, ◌*◌, ◌^◌, ◌<◌, ◌≤◌, min, List, [], ◌∷◌, All, length, get_or, map}
+use Rattle.std.proofs.Common.{take, refl, ap, sym, ◌∙◌, subst, arith, inl, inr}
+use Rattle.std.proofs.Math.Nat.{mul-le-mul_right, suc-mul}
+use Rattle.std.proofs.lemmas.Bool.{cases_lt}
+use Rattle.std.proofs.lemmas.List.{get_or-map, length-map, take-map}
+use Rattle.std.proofs.lemmas.List.Elements.{All-take}
+use Rattle.lert_spec.specs.declared.piece.Piece.{Piece}
+use Rattle.lert_spec.specs.Table.{total}
+use Rattle.lert_spec.specs.declared.numbers.Numbers.{Numbers}
+use Rattle.lert_spec.specs.Bins.{Bin}
+use Rattle.lert_spec.specs.Edges.{span}
+use Rattle.lert_levels.specs.rows.Young.{Young, bins_of, IsOfZero, IsFilled, AreFilled, AreNumbered}
+use Rattle.lert_levels.proofs.rows.YoungLaws.{bins_of-none, bins_of-some, bins_of-length, bits_of_zero}
+use Rattle.lert_levels.proofs.rows.YoungCounts.{width_within}
+
+-- ---- the tables in use
+
+pub used_pieces : (wide from to count : ℕ) (tables : List (List Piece)) → to ≤ from + count * wide → count * wide < (to - from) + wide →
+    take count tables ≡ map (λ (bin : Bin). bin.pieces) (bins_of wide from to tables)
+used_pieces wide from to zero tables covers few = ap (map (λ (bin : Bin). bin.pieces)) (sym (bins_of-none wide from to tables (omega arith)))
+used_pieces wide from to (suc count) [] covers few = refl
+used_pieces wide from to (suc count) (p ∷ tables) covers few =
+    let step = suc-mul count wide in
+    ap (λ lists. p ∷ lists) (used_pieces wide (from + wide) to count tables (omega arith) (omega arith))
+    ∙ sym (ap (map (λ (bin : Bin). bin.pieces)) (bins_of-some wide from to p tables (omega arith)))
+
+bins_of-each : (P : Bin → Type 0) (wide from to : ℕ) (tables : List (List Piece)) →
+    ((k start : ℕ) → start ≡ from + k * wide → start < to → k < length tables → P (record { from = start; to = min to (start + wide); pieces = get_or tables k [] })) →
+    All P (bins_of wide from to tables)
+bins_of-each P wide from to [] each = λ k d below. absurd (omega arith)
+bins_of-each P wide from to (p ∷ tables) each = elim (cases_lt from to) [
+  | inr over ↦ subst (All P) (sym (bins_of-none wide from to (p ∷ tables) over)) (λ k d below. absurd (omega arith))
+  | inl some ↦ (
+      let here = each 0 from (omega arith) some (omega arith) in
+      let rest = bins_of-each P wide (from + wide) to tables (λ k start is under within. (let step = suc-mul k wide in each (suc k) start (omega arith) under (omega arith))) in
+      let bin : Bin = record { from = from; to = min to (from + wide); pieces = p } in
+      let bins = bins_of wide (from + wide) to tables in
+      subst (All P) (sym (bins_of-some wide from to p tables some))
+      (λ k d below. elim k as (λ n. n < suc (length bins) → P (get_or (bin ∷ bins) n d)) [ zero ↦ λ _. here | suc k ↦ λ within. rest k d (omega arith) ] below))
+]
+
+bins_of-few : (wide from to : ℕ) (tables : List (List Piece)) → length (bins_of wide from to tables) ≤ length tables
+bins_of-few wide from to [] = omega arith
+bins_of-few wide from to (p ∷ tables) = elim (cases_lt from to) [
+  | inl some ↦ omega (arith, ap length (bins_of-some wide from to p tables some), bins_of-few wide (from + wide) to tables)
+  | inr over ↦ omega (arith, ap length (bins_of-none wide from to (p ∷ tables) over))
+]
+
+-- how many tables are in use
+pub record IsUsed {T : Type 0} (pieces : T → List Piece) (room quotient remainder : T → ℕ) (s : Numbers) (tables all : List T) (from to : ℕ) (young : Young) (count : ℕ) : Type 0
+  where
+    pub filled : AreFilled pieces room quotient remainder s all from to
+    pub seen : record { settings = s; from = from; to = to; bins = bins_of (span s 0) from to (map pieces all) } ≡ young
+    pub same : tables ≡ all
+    pub covers : to ≤ from + count * span s 0
+    pub few : count * span s 0 < (to - from) + span s 0
+
+pub used_within : {T : Type 0} {pieces : T → List Piece} {room quotient remainder : T → ℕ} {s : Numbers} {tables all : List T} {from to : ℕ} {young : Young} {count : ℕ} →
+    IsUsed pieces room quotient remainder s tables all from to young count → count ≤ length tables
+used_within {T} {pieces} {room} {quotient} {remainder} {s} {tables} {all} {from} {to} {young} {count} used =
+    let few = used.few in
+    let within = used.filled.within in
+    let len : length tables ≡ s.bins = ap length used.same ∙ used.filled.len in
+    elim (cases_lt s.bins count) [
+      | inl more ↦ absurd (let products = mul-le-mul_right (span s 0) (let next : suc s.bins ≤ count = more in next) in let step = suc-mul s.bins (span s 0) in omega arith)
+      | inr few ↦ omega arith
+    ]
+
+pub used_are : {T : Type 0} {pieces : T → List Piece} {room quotient remainder : T → ℕ} {s : Numbers} {tables all : List T} {from to : ℕ} {young : Young} {count : ℕ} →
+    IsUsed pieces room quotient remainder s tables all from to young count → map pieces (take count tables) ≡ map (λ (bin : Bin). bin.pieces) young.bins
+used_are {T} {pieces} {room} {quotient} {remainder} {s} {tables} {all} {from} {to} {young} {count} used =
+    sym (take-map pieces count tables)
+    ∙ ap (λ (ts : List T). take count (map pieces ts)) used.same
+    ∙ used_pieces (span s 0) from to count (map pieces all) used.covers used.few
+    ∙ ap (λ (y : Young). map (λ (bin : Bin). bin.pieces) y.bins) used.seen
+
+pub used_rooms : {T : Type 0} {pieces : T → List Piece} {room quotient remainder : T → ℕ} {s : Numbers} {tables all : List T} {from to : ℕ} {young : Young} {count : ℕ} →
+    IsUsed pieces room quotient remainder s tables all from to young count →
+    All (λ table. (room table ≤ 2 ^ 47) × (quotient table + remainder table ≡ 64 - young.settings.cone_bits)) (take count tables)
+used_rooms {T} {pieces} {room} {quotient} {remainder} {s} {tables} {all} {from} {to} {young} {count} used =
+    subst (λ (y : Young). All (λ table. (room table ≤ 2 ^ 47) × (quotient table + remainder table ≡ 64 - y.settings.cone_bits)) (take count tables)) used.seen
+    (All-take (λ table. (room table ≤ 2 ^ 47) × (quotient table + remainder table ≡ 64 - s.cone_bits)) count tables
+    (subst (All (λ table. (room table ≤ 2 ^ 47) × (quotient table + remainder table ≡ 64 - s.cone_bits))) (sym used.same)
+    (λ k d below. let numbers = (used.filled.each k d below).of_zero in
+    (omega (arith, numbers.events, width_within s used.filled.valid), bits_of_zero s used.filled.valid numbers))))
+
+pub used_of_zero : {T : Type 0} {pieces : T → List Piece} {room quotient remainder : T → ℕ} {s : Numbers} {tables all : List T} {from to : ℕ} {young : Young} {count : ℕ} →
+    IsUsed pieces room quotient remainder s tables all from to young count →
+    All (λ table. IsOfZero young.settings (room table) (quotient table) (remainder table)) (take count tables)
+used_of_zero {T} {pieces} {room} {quotient} {remainder} {s} {tables} {all} {from} {to} {young} {count} used =
+    subst (λ (y : Young). All (λ table. IsOfZero y.settings (room table) (quotient table) (remainder table)) (take count tables)) used.seen
+    (All-take (λ table. IsOfZero s (room table) (quotient table) (remainder table)) count tables
+    (subst (All (λ table. IsOfZero s (room table) (quotient table) (remainder table))) (sym used.same) (λ k d below. (used.filled.each k d below).of_zero)))
+
+pub used_widths : {T : Type 0} {pieces : T → List Piece} {room quotient remainder : T → ℕ} {s : Numbers} {tables all : List T} {from to : ℕ} {young : Young} {count : ℕ} →
+    IsUsed pieces room quotient remainder s tables all from to young count → All (λ (bin : Bin). total bin.pieces ≡ bin.to - bin.from) young.bins
+used_widths {T} {pieces} {room} {quotient} {remainder} {s} {tables} {all} {from} {to} {young} {count} used =
+    subst (λ (y : Young). All (λ (bin : Bin). total bin.pieces ≡ bin.to - bin.from) y.bins) used.seen
+    (bins_of-each (λ (bin : Bin). total bin.pieces ≡ bin.to - bin.from) (span s 0) from to (map pieces all)
+    (λ k start is under within. some_width all used.filled.each k start is under (omega (arith, length-map all pieces))))
+  where
+    some_width : (all : List T) → ((k : ℕ) (d : T) → k < length all → IsFilled s from to k (pieces (get_or all k d)) (room (get_or all k d)) (quotient (get_or all k d))
+        (remainder (get_or all k d))) →
+        (k start : ℕ) → start ≡ from + k * span s 0 → start < to → k < length all → total (get_or (map pieces all) k []) ≡ min to (start + span s 0) - start
+    some_width [] each k start is under within = absurd (omega arith)
+    some_width (first ∷ rest) each k start is under within =
+        let here = each k first within in
+        ap total (get_or-map pieces (first ∷ rest) k first [] within) ∙ here.summed ∙ omega arith
+
+pub used_narrow : {T : Type 0} {pieces : T → List Piece} {room quotient remainder : T → ℕ} {s : Numbers} {tables all : List T} {from to : ℕ} {young : Young} {count : ℕ} →
+    IsUsed pieces room quotient remainder s tables all from to young count → All (λ (bin : Bin). bin.to - bin.from ≤ span young.settings 0) young.bins
+used_narrow {T} {pieces} {room} {quotient} {remainder} {s} {tables} {all} {from} {to} {young} {count} used =
+    subst (λ (y : Young). All (λ (bin : Bin). bin.to - bin.from ≤ span y.settings 0) y.bins) used.seen
+    (bins_of-each (λ (bin : Bin). bin.to - bin.from ≤ span s 0) (span s 0) from to (map pieces all) (λ k start is under within. omega arith))
+
+pub used_some : {T : Type 0} {pieces : T → List Piece} {room quotient remainder : T → ℕ} {s : Numbers} {tables all : List T} {from to : ℕ} {young : Young} {count : ℕ} →
+    IsUsed pieces room quotient remainder s tables all from to young count → young.from < young.to → 1 ≤ length young.bins
+used_some {T} {pieces} {room} {quotient} {remainder} {s} {tables} {all} {from} {to} {young} {count} used =
+    subst (λ (y : Young). y.from < y.to → 1 ≤ length y.bins) used.seen
+    (λ under. bins_of-length (span s 0) from to (map pieces all) under (omega (arith, length-map all pieces, used.filled.len, used.filled.valid.limits.bins_from)))
+
+pub used_few : {T : Type 0} {pieces : T → List Piece} {room quotient remainder : T → ℕ} {s : Numbers} {tables all : List T} {from to : ℕ} {young : Young} {count : ℕ} →
+    IsUsed pieces room quotient remainder s tables all from to young count → length young.bins ≤ young.settings.bins
+used_few {T} {pieces} {room} {quotient} {remainder} {s} {tables} {all} {from} {to} {young} {count} used =
+    subst (λ (y : Young). length y.bins ≤ y.settings.bins) used.seen
+    (omega (arith, bins_of-few (span s 0) from to (map pieces all), length-map all pieces, used.filled.len))
+
+pub used : {T : Type 0} (pieces : T → List Piece) (room quotient remainder : T → ℕ) {s : Numbers} {tables all : List T} {from to : ℕ} {young : Young} {count end : ℕ} →
+    AreFilled pieces room quotient remainder s all from to → record { settings = s; from = from; to = to; bins = bins_of (span s 0) from to (map pieces all) } ≡ young → tables ≡ all →
+    AreNumbered s from to count end → IsUsed pieces room quotient remainder s tables all from to young count
+used pieces room quotient remainder filled seen same numbered =
+    record {
+      filled = filled;
+      seen = seen;
+      same = same;
+      covers = omega (arith, numbered.end_is, numbered.covers);
+      few = omega (arith, numbered.end_is, numbered.few, filled.ordered);
+    }

@@ -1,0 +1,182 @@
+-- A directory from lists of frames, one for each level: there are rows that it names.
+use Rattle.std.proofs.Common.{ℕ, ◌≡◌, ◌≢◌, ◌+◌, ◌-◌, ◌*◌, ◌/◌, ◌<◌, ◌≤◌, zero, suc, cond, ltb, eqb, List, [], ◌∷◌, ◌++◌, length, map, filter}
+use Rattle.std.proofs.Common.{get_or, min, max, count_by, refl, ap, ap₂, sym, ◌∙◌, arith, inl, inr, subst}
+use Rattle.std.specs.List.{All, AllPairs, range_with_len}
+use Rattle.std.proofs.lemmas.Bool.{cases_eq, cases_lt, eq-eqb, ne_eqb, lt-ltb, le-ltb}
+use Rattle.std.proofs.lemmas.List.{length-map, get_or-map}
+use Rattle.std.proofs.lemmas.List.Elements.{All-head, All-tail}
+use Rattle.std.proofs.lemmas.List.Sums.{sum_by-cons}
+use Rattle.lert_spec.specs.declared.numbers.Numbers.{Numbers}
+use Rattle.lert_spec.specs.Edges.{span, edge, capacity}
+use Rattle.lert_spec.specs.Limits.{IsValid}
+use Rattle.lert_spec.proofs.LimitLaws.{capacity_to}
+use Rattle.lert_levels.specs.declared.rows.bin_at.BinAt.{BinAt}
+use Rattle.lert_levels.specs.rows.Named.{AreFramesAt, IsDirectory, frames_text}
+use Rattle.lert_levels.specs.rows.Ranges.{Range, range_at, ranges}
+use Rattle.lert_levels.specs.rows.Rows.{range_of, row_of, IsRow, times_named, directory_text}
+use Rattle.lert_levels.proofs.rows.DirectoryLaws.{row_text}
+use Rattle.lert_levels.proofs.rows.RangeLaws.{IsCut, cuts_are, edge_within, ranges_few}
+use Rattle.lert_levels.proofs.rows.RowLaws.{All-ranges}
+
+-- ---- bins of some positions, in these frames
+
+placed : List Range → List ℕ → List BinAt
+placed [] frames = []
+placed (range ∷ positions) [] = []
+placed (range ∷ positions) (frame ∷ frames) = record { from = range.from; to = range.to; frame = frame } ∷ placed positions frames
+
+placed_ranges : (positions : List Range) (frames : List ℕ) → length frames ≡ length positions → map range_of (placed positions frames) ≡ positions
+unfolding placed
+placed_ranges [] frames len = refl
+placed_ranges (range ∷ positions) [] len = absurd (omega arith)
+placed_ranges (range ∷ positions) (frame ∷ frames) len = ap (λ rs. range ∷ rs) (placed_ranges positions frames (omega arith))
+
+placed_frames : (positions : List Range) (frames : List ℕ) → length frames ≡ length positions → map (λ (bin : BinAt). bin.frame) (placed positions frames) ≡ frames
+unfolding placed
+placed_frames [] [] len = refl
+placed_frames [] (frame ∷ frames) len = absurd (omega arith)
+placed_frames (range ∷ positions) [] len = absurd (omega arith)
+placed_frames (range ∷ positions) (frame ∷ frames) len = ap (λ fs. frame ∷ fs) (placed_frames positions frames (omega arith))
+
+-- ---- no frame twice
+
+none_named : (row : List BinAt) (frame : ℕ) → All (λ (bin : BinAt). bin.frame ≢ frame) row → times_named row frame ≡ 0
+none_named [] frame other = refl
+none_named (bin ∷ row) frame other =
+    let parts = sum_by-cons (λ (b : BinAt). cond {A = ℕ} (eqb b.frame frame) 1 0) bin row in
+    let here = ap (λ t. cond {A = ℕ} t 1 0) (ne_eqb bin.frame frame (All-head (λ (b : BinAt). b.frame ≢ frame) bin row other)) in
+    omega (arith, none_named row frame (All-tail (λ (b : BinAt). b.frame ≢ frame) bin row other))
+
+once_named : (row : List BinAt) → AllPairs (λ one other. one ≢ other) (map (λ (bin : BinAt). bin.frame) row) → (frame : ℕ) → times_named row frame ≤ 1
+once_named [] distinct frame = omega arith
+once_named (bin ∷ row) distinct frame =
+    let parts = sum_by-cons (λ (b : BinAt). cond {A = ℕ} (eqb b.frame frame) 1 0) bin row in
+    let count = length-map row (λ (b : BinAt). b.frame) in
+    elim (cases_eq bin.frame frame) [
+      | inl same ↦ (
+          let here = ap (λ t. cond {A = ℕ} t 1 0) (eq-eqb bin.frame frame same) in
+          let others : All (λ (b : BinAt). b.frame ≢ frame) row = λ k d below twice.
+          distinct 0 (suc k) d.frame (omega arith) (omega (arith, below, count)) (same ∙ sym twice ∙ sym (get_or-map (λ (b : BinAt). b.frame) row k d d.frame below)) in
+          omega (arith, none_named row frame others))
+      | inr other ↦ (
+          let here = ap (λ t. cond {A = ℕ} t 1 0) (ne_eqb bin.frame frame other) in
+          omega (arith, once_named row (λ i j d before below. distinct (suc i) (suc j) d (omega arith) (omega arith)) frame))
+    ]
+
+-- ---- a level's row
+
+module _ (s : Numbers) (valid : IsValid s) (n : ℕ) (within : n ≤ capacity s) where
+  base : 1 ≤ s.base
+  base = omega (arith, valid.limits.base_from)
+
+  ratio : 1 ≤ s.ratio
+  ratio = omega (arith, valid.limits.ratio_from)
+
+  is_row : (level : ℕ) → 1 ≤ level → level ≤ s.levels → (frames : List ℕ) → AreFramesAt s n level frames → IsRow s level (placed (ranges s n level) frames)
+  is_row level from last frames are =
+      let row = placed (ranges s n level) frames in
+      let high = edge s (level - 1) n in
+      let positions = placed_ranges (ranges s n level) frames are.counted in
+      let numbers = placed_frames (ranges s n level) frames are.counted in
+      let many = ap length positions in
+      let count = length-map row range_of in
+      let cuts : All (IsCut (span s level) high) (map range_of row) = subst (All (IsCut (span s level) high)) (sym positions)
+      (cuts_are (span s level) (edge s level n) high 0 (suc (n / span s level))) in
+      let each = All-ranges (IsCut (span s level) high) row cuts in
+      record {
+        few = omega (arith, ranges_few s base ratio level n (omega (arith, valid.limits.bins_from)) from);
+        distinct = once_named row (subst (AllPairs (λ one other. one ≢ other)) (sym numbers) are.distinct);
+        frames = λ k d below.
+            (let known : All (λ frame. frame ≤ s.bins) (map (λ (bin : BinAt). bin.frame) row) = subst (All (λ frame. frame ≤ s.bins)) (sym numbers) are.known in
+            subst (λ frame. frame ≤ s.bins) (get_or-map (λ (bin : BinAt). bin.frame) row k d d.frame below) (known k d.frame (omega (arith, length-map row (λ (bin : BinAt). bin.frame)))));
+        some = λ k d below. (each k d below).some;
+        widths = λ k d below. (each k d below).width;
+        ends = λ k d below. omega (arith, (each k d below).end, edge_within s (level - 1) n, capacity_to s valid);
+      }
+
+  -- ---- the rows from a level on
+
+  placed_rows : ℕ → List (List ℕ) → List (List BinAt)
+  placed_rows level [] = []
+  placed_rows level (frames ∷ levels) = placed (ranges s n level) frames ∷ placed_rows (suc level) levels
+
+  many_rows : (level : ℕ) (levels : List (List ℕ)) → length (placed_rows level levels) ≡ length levels
+  unfolding placed_rows
+  many_rows level [] = refl
+  many_rows level (frames ∷ levels) = ap suc (many_rows (suc level) levels)
+
+  row_there : (level : ℕ) (levels : List (List ℕ)) (k : ℕ) → k < length levels → get_or (placed_rows level levels) k [] ≡ placed (ranges s n (level + k)) (get_or levels k [])
+  unfolding placed_rows
+  row_there level [] k below = absurd (omega arith)
+  row_there level (frames ∷ levels) zero below = ap (λ l. placed (ranges s n l) frames) (let same : level ≡ level + 0 = omega arith in same)
+  row_there level (frames ∷ levels) (suc k) below =
+      row_there (suc level) levels k (omega arith) ∙ ap (λ l. placed (ranges s n l) (get_or levels k [])) (let same : suc level + k ≡ level + suc k = omega arith in same)
+
+  text_there : (level : ℕ) (levels : List (List ℕ)) → ((k : ℕ) → k < length levels → length (get_or levels k []) ≡ length (ranges s n (level + k))) →
+      directory_text (placed_rows level levels) ≡ frames_text levels
+  unfolding placed_rows
+  text_there level [] counted = refl
+  text_there level (frames ∷ levels) counted =
+      let here : length frames ≡ length (ranges s n level) = counted 0 (omega arith) ∙ ap (λ l. length (ranges s n l)) (let same : level + 0 ≡ level = omega arith in same) in
+      let numbers = placed_frames (ranges s n level) frames here in
+      let many : length (placed (ranges s n level) frames) ≡ length frames = sym (length-map (placed (ranges s n level) frames) (λ (bin : BinAt). bin.frame)) ∙ ap length numbers in
+      let front : row_text (placed (ranges s n level) frames) ≡ length frames ∷ frames = ap₂ (λ m fs. m ∷ fs) many numbers in
+      ap₂ (λ a b. a ++ b) front
+      (text_there (suc level) levels (λ k below. counted (suc k) (omega arith) ∙ ap (λ l. length (ranges s n l)) (let same : level + suc k ≡ suc level + k = omega arith in same)))
+
+  -- a directory names rows where each level has as many frames as bins, of those that it has, and none twice
+  pub directory_of_frames : (levels : List (List ℕ)) → length levels ≡ s.levels → ((k : ℕ) → k < s.levels → AreFramesAt s n (k + 1) (get_or levels k [])) →
+      IsDirectory s n (frames_text levels)
+  directory_of_frames levels len are =
+      let rows = placed_rows 1 levels in
+      let count : length rows ≡ s.levels = many_rows 1 levels ∙ len in
+      let row_is : (level : ℕ) → 1 ≤ level → level ≤ s.levels → row_of rows level ≡ placed (ranges s n level) (get_or levels (level - 1) []) =
+      λ level from last. row_there 1 levels (level - 1) (omega arith) ∙ ap (λ l. placed (ranges s n l) (get_or levels (level - 1) [])) (let same : 1 + (level - 1) ≡ level = omega arith in
+      same) in
+      let frames_are : (level : ℕ) → 1 ≤ level → level ≤ s.levels → AreFramesAt s n level (get_or levels (level - 1) []) =
+      λ level from last. subst (λ l. AreFramesAt s n l (get_or levels (level - 1) [])) (let same : level - 1 + 1 ≡ level = omega arith in same) (are (level - 1) (omega arith)) in
+      record {
+        rows = rows;
+        named = record {
+          at = record {
+            levels = count;
+            each = λ level from last. ap (map range_of) (row_is level from last) ∙ placed_ranges (ranges s n level) (get_or levels (level - 1) []) (frames_are level from last).counted;
+          };
+          are = record {
+            levels = count;
+            each = λ level from last. subst (IsRow s level) (sym (row_is level from last)) (is_row level from last (get_or levels (level - 1) []) (frames_are level from last));
+          };
+          text_is = text_there 1 levels (λ k below. (are k (omega arith)).counted ∙ ap (λ l. length (ranges s n l)) (let same : k + 1 ≡ 1 + k = omega arith in same));
+        };
+      }
+
+-- ---- how many bins a level has, counted by its intervals
+
+counted_by : (wide low high : ℕ) (ks : List ℕ) →
+    length (filter (λ range. ltb range.from range.to) (map (range_at wide low high) ks)) ≡ count_by (λ k. ltb (max low (k * wide)) (min high ((k + 1) * wide))) ks
+counted_by wide low high [] = refl
+counted_by wide low high (k ∷ ks) =
+    let rest = filter (λ (range : Range). ltb range.from range.to) (map (range_at wide low high) ks) in
+    let parts = sum_by-cons (λ j. cond {A = ℕ} (ltb (max low (j * wide)) (min high ((j + 1) * wide))) 1 0) k ks in
+    let more = counted_by wide low high ks in
+    let same : suc k * wide ≡ (k + 1) * wide = ap (λ j. j * wide) (let next : suc k ≡ k + 1 = omega arith in next) in
+    let test = ap (λ e. ltb (max low (k * wide)) (min high e)) same in
+    elim (cases_lt (max low (k * wide)) (min high ((k + 1) * wide))) [
+      | inl some ↦ (
+          let yes = lt-ltb (max low (k * wide)) (min high ((k + 1) * wide)) some in
+          let one = ap (λ t. cond {A = ℕ} t 1 0) yes in
+          let longer = ap (λ t. length (cond {A = List Range} t (range_at wide low high k ∷ rest) rest)) (test ∙ yes) in
+          omega arith)
+      | inr none ↦ (
+          let no_more = le-ltb (max low (k * wide)) (min high ((k + 1) * wide)) none in
+          let zero_more = ap (λ t. cond {A = ℕ} t 1 0) no_more in
+          let same_len = ap (λ t. length (cond {A = List Range} t (range_at wide low high k ∷ rest) rest)) (test ∙ no_more) in
+          omega arith)
+    ]
+
+pub ranges_counted : (s : Numbers) (n level : ℕ) →
+    length (ranges s n level) ≡ count_by (λ k. ltb (max (edge s level n) (k * span s level)) (min (edge s (level - 1) n) ((k + 1) * span s level))) (range_with_len 0 (n / span s level + 1))
+ranges_counted s n level =
+    counted_by (span s level) (edge s level n) (edge s (level - 1) n) (range_with_len 0 (suc (n / span s level)))
+    ∙ ap (λ m. count_by (λ k. ltb (max (edge s level n) (k * span s level)) (min (edge s (level - 1) n) ((k + 1) * span s level))) (range_with_len 0 m))
+    (let next : suc (n / span s level) ≡ n / span s level + 1 = omega arith in next)

@@ -1,0 +1,242 @@
+-- What the bound of level 0 covers, as an event is added and the oldest bin is dropped.
+use Rattle.std.proofs.Common.{ℕ, zero, suc, ◌≡◌, ◌≢◌, ◌+◌, ◌-◌, ◌*◌, ◌/◌, ◌%◌, ◌<◌, ◌≤◌, cond, eqb, List, [], ◌∷◌, ◌++◌, length, get_or}
+use Rattle.std.proofs.Common.{set, map, refl, ap, sym, ◌∙◌}
+use Rattle.std.proofs.Common.{subst, arith, inl, inr, take, drop, sum_by}
+use Rattle.std.proofs.Math.Nat.{div-add-mod, mul-le-mul_right, suc-mul, mul_comm}
+use Rattle.std.proofs.lemmas.Bool.{cases_lt, cases_eq, cases_order}
+use Rattle.std.proofs.lemmas.Bool.Decides.{nat_tests}
+use Rattle.std.proofs.lemmas.List.Sums.{sum_by-cons, sum_by_push, sum_by-set, sum_by-take-drop, sum_by-take-le}
+use Rattle.lert_levels.specs.declared.bound.pair.Pair.{Pair}
+use Rattle.lert_levels.specs.bound.Covers.{CoversCounts}
+use Rattle.lert_spec.specs.declared.numbers.Numbers.{Numbers}
+use Rattle.lert_spec.specs.declared.piece.Piece.{Piece}
+use Rattle.lert_spec.specs.Bins.{Bin}
+use Rattle.lert_spec.specs.Edges.{span}
+use Rattle.lert_spec.specs.Table.{count_of, plus}
+use Rattle.lert_spec.proofs.Tables.{plus_here, plus_before, plus_behind}
+use Rattle.lert_levels.specs.rows.Young.{Young, bins_of, AreFilled, AreBounded, times_in}
+use Rattle.lert_levels.proofs.rows.YoungLaws.{AreEmpty, some_bins}
+use Rattle.lert_levels.proofs.rows.YoungAdds.{Adds, add_place, add_behind}
+use Rattle.lert_levels.proofs.rows.YoungCounts.{counts_are}
+use Rattle.lert_levels.proofs.rows.YoungDrops.{Drops}
+
+-- fewer events are covered too
+covers_fewer : (pairs : List Pair) (before present before' present' : ℕ → ℕ) → CoversCounts pairs before present →
+    ((tail : ℕ) → before' tail ≤ before tail) → ((tail : ℕ) → present' tail ≤ present tail) → CoversCounts pairs before' present'
+covers_fewer pairs before present before' present' covers less fewer = record {
+  of_before = λ tail. omega (arith, covers.of_before tail, less tail);
+  of_present = λ tail. omega (arith, covers.of_present tail, fewer tail);
+}
+
+-- one more of a tail is at most one more of it, and no more of another, in any order of the pieces
+count_of-plus_le : (ps : List Piece) (tail other : ℕ) → count_of (plus ps tail 1) other ≤ count_of ps other + cond {A = ℕ} (eqb other tail) 1 0
+count_of-plus_le [] tail other = grind (arith, nat_tests)
+count_of-plus_le (p ∷ ps) tail other = elim (cases_order p.tail tail) [
+  | inl same ↦ rw (plus_here p ps tail 1 same) (grind (arith, nat_tests))
+  | inr (inl below) ↦ rw (plus_behind p ps tail 1 below) (let h = count_of-plus_le ps tail other in grind (arith, nat_tests))
+  | inr (inr above) ↦ rw (plus_before p ps tail 1 above) (grind (arith, nat_tests))
+]
+
+take-set_behind : {T : Type 0} (count at : ℕ) (tables : List T) (new : T) → count ≤ at → take count (set tables at new) ≡ take count tables
+take-set_behind zero at tables new behind = refl
+take-set_behind (suc count) at [] new behind = refl
+take-set_behind (suc count) zero (table ∷ tables) new behind = absurd (omega arith)
+take-set_behind (suc count) (suc at) (table ∷ tables) new behind = ap (λ ts. table ∷ ts) (take-set_behind count at tables new (omega arith))
+
+module _ {T : Type 0} (pieces : T → List Piece) where
+  -- a table changed among the others
+  times_in-set : (count at : ℕ) (tables : List T) (old new : T) (tail more : ℕ) → count ≤ at → at < length tables → old ≡ get_or tables at old →
+      count_of (pieces new) tail ≤ count_of (pieces old) tail + more →
+      times_in pieces (drop count (set tables at new)) tail ≤ times_in pieces (drop count tables) tail + more
+  times_in-set count at tables old new tail more behind within is grows =
+      let f : T → ℕ = λ table. count_of (pieces table) tail in
+      let front : sum_by f (take count (set tables at new)) ≡ sum_by f (take count tables) = ap (sum_by f) (take-set_behind count at tables new behind) in
+      let same : f old ≡ f (get_or tables at old) = ap f is in
+      omega (arith, front, same, grows, sum_by-set f tables at new old within, sum_by-take-drop f (set tables at new) count, sum_by-take-drop f tables count)
+
+  -- nothing stands in tables that are empty from a number on
+  none_behind : (count : ℕ) (tables : List T) (tail : ℕ) → ((k : ℕ) (d : T) → count ≤ k → k < length tables → pieces (get_or tables k d) ≡ []) →
+      times_in pieces (drop count tables) tail ≡ 0
+  none_behind zero [] tail empty = refl
+  none_behind zero (table ∷ tables) tail empty =
+      let f : T → ℕ = λ t. count_of (pieces t) tail in
+      let here : f table ≡ 0 = ap (λ ps. count_of ps tail) (empty 0 table (omega arith) (omega arith)) in
+      omega (arith, here, sum_by-cons f table tables, none_behind zero tables tail (λ k d low below. empty (suc k) d (omega arith) (omega arith)))
+  none_behind (suc count) [] tail empty = refl
+  none_behind (suc count) (table ∷ tables) tail empty = none_behind count tables tail (λ k d low below. empty (suc k) d (omega arith) (omega arith))
+
+  -- an empty table behind others adds nothing to any part of them
+  module _ (new : T) (empty : pieces new ≡ []) (tail : ℕ) where
+    absent : count_of (pieces new) tail ≡ 0
+    absent = ap (λ ps. count_of ps tail) empty
+
+    take_more : (count : ℕ) (tables : List T) → times_in pieces (take count (tables ++ new ∷ [])) tail ≤ times_in pieces (take count tables) tail
+    take_more zero tables = omega arith
+    take_more (suc count) [] = omega (arith, absent, sum_by-take-le (λ (t : T). count_of (pieces t) tail) (new ∷ []) (suc count))
+    take_more (suc count) (table ∷ tables) =
+        omega (
+          arith,
+          take_more count tables,
+          sum_by-cons (λ (t : T). count_of (pieces t) tail) table (take count tables),
+          sum_by-cons (λ (t : T). count_of (pieces t) tail) table (take count (tables ++ new ∷ [])),
+        )
+
+    drop_more : (count : ℕ) (tables : List T) → times_in pieces (drop count (tables ++ new ∷ [])) tail ≤ times_in pieces (drop count tables) tail
+    drop_more zero tables = omega (arith, absent, sum_by_push (λ (t : T). count_of (pieces t) tail) tables new)
+    drop_more (suc count) [] = omega (arith, absent, sum_by-take-drop (λ (t : T). count_of (pieces t) tail) (new ∷ []) (suc count))
+    drop_more (suc count) (table ∷ tables) = drop_more count tables
+
+    -- all that stay are behind the oldest one
+    all_behind : (count : ℕ) (first : T) (rest : List T) → count ≤ 1 → times_in pieces (rest ++ new ∷ []) tail ≤ times_in pieces (drop count (first ∷ rest)) tail
+    all_behind zero first rest few =
+        omega (arith, absent, sum_by_push (λ (t : T). count_of (pieces t) tail) rest new, sum_by-cons (λ (t : T). count_of (pieces t) tail) first rest)
+    all_behind (suc zero) first rest few = drop_more zero rest
+    all_behind (suc (suc count)) first rest few = absurd (omega arith)
+
+-- ---- no event yet
+
+pub empty_bounded : {T : Type 0} (pieces : T → List Piece) (room quotient remainder : T → ℕ) (s : Numbers) (tables : List T) (count : ℕ) (pairs : List Pair) →
+    AreEmpty pieces room quotient remainder s tables count → CoversCounts pairs (λ _. 0) (λ _. 0) → AreBounded pieces s tables 0 0 pairs 0
+empty_bounded pieces room quotient remainder s tables count pairs empty covers = record {
+  full = omega arith;
+  covers = covers_fewer pairs (λ _. 0) (λ _. 0) (times_in pieces (take 0 tables)) (times_in pieces (drop 0 tables)) covers
+      (λ tail. omega arith)
+      (λ tail. omega (arith, none_behind pieces 0 tables tail (λ k d low below. (empty.each k d below).unused (omega arith))));
+}
+
+-- ---- one more event
+
+pub added_bounded : {T : Type 0} {pieces : T → List Piece} {room quotient remainder : T → ℕ} {s : Numbers} {tables : List T} {from to : ℕ} {young : Young} {m begin wide at : ℕ} →
+    Adds pieces room quotient remainder s tables from to young m begin wide at → (old new : T) (tail : ℕ) → old ≡ get_or tables at old → pieces new ≡ plus (pieces old) tail 1 →
+    (pairs pairs' : List Pair) (earlier : ℕ) → AreBounded pieces s tables from to pairs earlier →
+    ((before present : ℕ → ℕ) → CoversCounts pairs before present → CoversCounts pairs' before (λ other. present other + cond (eqb other tail) 1 0)) →
+    AreBounded pieces s (set tables at new) begin m pairs' earlier
+added_bounded {T} {pieces} {room} {quotient} {remainder} {s} {tables} {from} {to} {young} {m} {begin} {wide} {at} adds old new tail is pieces_are pairs pairs' earlier bounded more =
+    let behind = add_behind adds earlier bounded.full in
+    let first : ℕ → ℕ = times_in pieces (take earlier tables) in
+    let others : ℕ → ℕ = times_in pieces (drop earlier tables) in
+    record {
+      full = behind.1;
+      covers = covers_fewer pairs' first (λ other. others other + cond {A = ℕ} (eqb other tail) 1 0)
+          (times_in pieces (take earlier (set tables at new))) (times_in pieces (drop earlier (set tables at new)))
+          (more first others bounded.covers)
+          (λ other. omega (arith, ap (λ ts. times_in pieces ts other) (take-set_behind earlier at tables new behind.0)))
+          (λ other.
+          let one : count_of (pieces new) other ≤ count_of (pieces old) other + cond {A = ℕ} (eqb other tail) 1 0 =
+          subst (λ ps. count_of ps other ≤ count_of (pieces old) other + cond {A = ℕ} (eqb other tail) 1 0) (sym pieces_are) (count_of-plus_le (pieces old) tail other) in
+          times_in-set pieces earlier at tables old new other (cond {A = ℕ} (eqb other tail) 1 0) behind.0 (add_place adds) is one);
+    }
+
+-- ---- the oldest bin dropped
+
+module _ {T : Type 0} (pieces : T → List Piece) (s : Numbers) (first new : T) (rest : List T) (from to wide : ℕ) (pairs : List Pair) (earlier : ℕ) (wide_is : wide ≡ span s 0)
+    (whole : from + wide ≤ to) (empty : pieces new ≡ []) (bounded : AreBounded pieces s (first ∷ rest) from to pairs earlier) where
+  abbrev left : List T
+  left = rest ++ new ∷ []
+
+  -- a bin of the generation before is left
+  some_left : (count : ℕ) → earlier ≡ suc count → AreBounded pieces s left (from + wide) to pairs count
+  some_left count is =
+      let before = subst (AreBounded pieces s (first ∷ rest) from to pairs) is bounded in
+      let step = suc-mul count (span s 0) in
+      let full = before.full in
+      record {
+        full = omega arith;
+        covers = covers_fewer pairs (times_in pieces (take (suc count) (first ∷ rest))) (times_in pieces (drop (suc count) (first ∷ rest)))
+            (times_in pieces (take count left)) (times_in pieces (drop count left)) before.covers
+            (λ tail. omega (arith, take_more pieces new empty tail count rest, sum_by-cons (λ (t : T). count_of (pieces t) tail) first (take count rest)))
+            (λ tail. drop_more pieces new empty tail count rest);
+      }
+
+  -- none is left, and the bound doesn't turn
+  none_left : earlier ≤ 1 → AreBounded pieces s left (from + wide) to pairs 0
+  none_left few = record {
+    full = omega arith;
+    covers = covers_fewer pairs (times_in pieces (take earlier (first ∷ rest))) (times_in pieces (drop earlier (first ∷ rest)))
+        (times_in pieces (take 0 left)) (times_in pieces (drop 0 left)) bounded.covers
+        (λ tail. omega arith)
+        (λ tail. all_behind pieces new empty tail earlier first rest few);
+  }
+
+  -- none is left, and it turns
+  turned_left : (pairs' : List Pair) (count : ℕ) → earlier ≤ 1 → 1 ≤ wide → (to - (from + wide)) % wide ≡ 0 → count ≡ (to - (from + wide)) / wide →
+      ((before present : ℕ → ℕ) → CoversCounts pairs before present → CoversCounts pairs' present (λ _. 0)) →
+      ((k : ℕ) (d : T) → k < length left → to ≤ from + wide + k * span s 0 → pieces (get_or left k d) ≡ []) →
+      AreBounded pieces s left (from + wide) to pairs' count
+  turned_left pairs' count few positive full count_is turned unused =
+      let stay = to - (from + wide) in
+      let parts = div-add-mod stay wide in
+      let turned_round : wide * (stay / wide) ≡ count * span s 0 =
+      mul_comm wide (stay / wide) ∙ ap (λ n. n * wide) (sym count_is) ∙ ap (λ w. count * w) wide_is in
+      let all : stay ≡ count * span s 0 = omega arith in
+      record {
+        full = omega arith;
+        covers = covers_fewer pairs' (times_in pieces (drop earlier (first ∷ rest))) (λ _. 0) (times_in pieces (take count left)) (times_in pieces (drop count left))
+            (turned (times_in pieces (take earlier (first ∷ rest))) (times_in pieces (drop earlier (first ∷ rest))) bounded.covers)
+            (λ tail. omega (arith, sum_by-take-le (λ (t : T). count_of (pieces t) tail) left count, all_behind pieces new empty tail earlier first rest few))
+            (λ tail. omega (arith, none_behind pieces count left tail (λ k d low below. (let more = mul-le-mul_right (span s 0) low in unused k d below (omega arith)))));
+      }
+
+  -- whether it turns or not
+  left_bounded : (pairs' : List Pair) (count : ℕ) → 1 ≤ wide →
+      (1 < earlier → (pairs' ≡ pairs) × (count ≡ earlier - 1)) →
+      (earlier ≤ 1 → (to - (from + wide)) % wide ≢ 0 → (pairs' ≡ pairs) × (count ≡ 0)) →
+      (earlier ≤ 1 → (to - (from + wide)) % wide ≡ 0 → (count ≡ (to - (from + wide)) / wide)
+      × ((before present : ℕ → ℕ) → CoversCounts pairs before present → CoversCounts pairs' present (λ _. 0))) →
+      ((k : ℕ) (d : T) → k < length left → to ≤ from + wide + k * span s 0 → pieces (get_or left k d) ≡ []) →
+      AreBounded pieces s left (from + wide) to pairs' count
+  left_bounded pairs' count positive some part none unused = elim (cases_lt 1 earlier) [
+    | inl many ↦ (
+        let same = some many in
+        subst (λ ps. AreBounded pieces s left (from + wide) to ps count) (sym same.0) (some_left count (omega (arith, same.1))))
+    | inr few ↦ elim (cases_eq ((to - (from + wide)) % wide) 0) [
+      | inl full ↦ (let turned = none few full in turned_left pairs' count few positive full turned.0 turned.1 unused)
+      | inr rest ↦ (
+          let same = part few rest in
+          subst (λ ps. AreBounded pieces s left (from + wide) to ps count) (sym same.0)
+          (subst (λ n. AreBounded pieces s left (from + wide) to pairs n) (sym same.1) (none_left few)))
+    ]
+  ]
+
+drop_bounded : {T : Type 0} (pieces : T → List Piece) (room quotient remainder : T → ℕ) (tables : List T) {s : Numbers} {from to wide : ℕ}
+    (new : T) (pairs pairs' : List Pair) (earlier count : ℕ) →
+    1 ≤ length tables → wide ≡ span s 0 → 1 ≤ wide → from + wide ≤ to → pieces new ≡ [] → AreBounded pieces s tables from to pairs earlier →
+    AreFilled pieces room quotient remainder s (drop 1 (set tables 0 new) ++ take 1 (set tables 0 new)) (from + wide) to →
+    (1 < earlier → (pairs' ≡ pairs) × (count ≡ earlier - 1)) →
+    (earlier ≤ 1 → (to - (from + wide)) % wide ≢ 0 → (pairs' ≡ pairs) × (count ≡ 0)) →
+    (earlier ≤ 1 → (to - (from + wide)) % wide ≡ 0 → (count ≡ (to - (from + wide)) / wide)
+    × ((before present : ℕ → ℕ) → CoversCounts pairs before present → CoversCounts pairs' present (λ _. 0))) →
+    AreBounded pieces s (drop 1 (set tables 0 new) ++ take 1 (set tables 0 new)) (from + wide) to pairs' count
+drop_bounded pieces room quotient remainder [] new pairs pairs' earlier count some wide_is positive whole empty bounded filled stays part none = absurd (omega arith)
+drop_bounded pieces room quotient remainder (first ∷ rest) {s} {from} {to} {wide} new pairs pairs' earlier count some wide_is positive whole empty bounded filled stays part none =
+    left_bounded pieces s first new rest from to wide pairs earlier wide_is whole empty bounded pairs' count positive stays part none
+    (λ k d below over. (filled.each k d below).unused over)
+
+pub dropped_bounded : {T : Type 0} {pieces : T → List Piece} {room quotient remainder : T → ℕ} {s : Numbers} {tables : List T} {from to : ℕ} {young : Young} {wide : ℕ} {new : T}
+    {after : List T} →
+    Drops pieces room quotient remainder s tables from to young wide new after → AreFilled pieces room quotient remainder s after (from + wide) to → pieces new ≡ [] →
+    (pairs pairs' : List Pair) (earlier count : ℕ) → AreBounded pieces s tables from to pairs earlier →
+    (1 < earlier → (pairs' ≡ pairs) × (count ≡ earlier - 1)) →
+    (earlier ≤ 1 → (to - (from + wide)) % wide ≢ 0 → (pairs' ≡ pairs) × (count ≡ 0)) →
+    (earlier ≤ 1 → (to - (from + wide)) % wide ≡ 0 → (count ≡ (to - (from + wide)) / wide)
+    × ((before present : ℕ → ℕ) → CoversCounts pairs before present → CoversCounts pairs' present (λ _. 0))) →
+    AreBounded pieces s after (from + wide) to pairs' count
+dropped_bounded {T} {pieces} {room} {quotient} {remainder} {s} {tables} {from} {to} {young} {wide} {new} {after} drops filled empty pairs pairs' earlier count bounded stays part none =
+    let fits = subst (λ (y : Young). y.from + span y.settings 0 ≤ y.to) (sym drops.seen) drops.whole in
+    let wide_is = drops.wide_is in
+    let some : 1 ≤ length tables = omega (arith, drops.filled.len, some_bins s drops.filled.valid) in
+    subst (λ (ts : List T). AreBounded pieces s ts (from + wide) to pairs' count) (sym drops.after_is)
+    (drop_bounded pieces room quotient remainder tables new pairs pairs' earlier count some wide_is drops.positive (omega arith) empty bounded
+    (subst (λ (ts : List T). AreFilled pieces room quotient remainder s ts (from + wide) to) drops.after_is filled) stays part none)
+
+-- ---- a tail that the bound refuses
+
+pub fewer_in_bins : {T : Type 0} (pieces : T → List Piece) (room quotient remainder : T → ℕ) {s : Numbers} {tables : List T} {from to : ℕ} {young : Young} →
+    AreFilled pieces room quotient remainder s tables from to → record { settings = s; from = from; to = to; bins = bins_of (span s 0) from to (map pieces tables) } ≡ young →
+    (earlier tail count : ℕ) → times_in pieces (take earlier tables) tail + times_in pieces (drop earlier tables) tail < count →
+    sum_by (λ bin. count_of bin.pieces tail) young.bins < count
+fewer_in_bins {T} pieces room quotient remainder {s} {tables} {from} {to} {young} filled seen earlier tail count fewer =
+    let all : sum_by (λ (bin : Bin). count_of bin.pieces tail) young.bins ≡ times_in pieces tables tail =
+    ap (λ (y : Young). sum_by (λ (bin : Bin). count_of bin.pieces tail) y.bins) (sym seen)
+    ∙ counts_are pieces tail (span s 0) from to tables (λ k d below behind. (filled.each k d below).unused behind) in
+    omega (arith, all, sum_by-take-drop (λ (t : T). count_of (pieces t) tail) tables earlier, fewer)

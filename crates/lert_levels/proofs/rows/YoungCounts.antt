@@ -1,0 +1,83 @@
+-- How often a tail stands in the tables of level 0.
+use Rattle.std.proofs.Common.{ℕ, suc, ◌≡◌, ◌+◌, ◌*◌, ◌^◌, ◌<◌, ◌≤◌, min, List, [], ◌∷◌, length, get_or, map, refl, ap, ap₂, sym, ◌∙◌, subst, arith, inl}
+use Rattle.std.proofs.Common.{inr, sum_by, take}
+use Rattle.std.proofs.Math.Nat.{suc-mul, pow-zero}
+use Rattle.std.proofs.lemmas.Bool.{cases_lt, cases_eq}
+use Rattle.std.proofs.lemmas.List.{take_all}
+use Rattle.lert_spec.specs.declared.numbers.Numbers.{Numbers}
+use Rattle.lert_spec.specs.declared.piece.Piece.{Piece}
+use Rattle.lert_spec.specs.Bins.{Bin}
+use Rattle.lert_spec.specs.Edges.{span}
+use Rattle.lert_spec.specs.Limits.{IsValid}
+use Rattle.lert_spec.specs.Table.{count_of, total}
+use Rattle.lert_spec.proofs.TallyLaws.{count_of-cons_same, count_of-cons_other}
+use Rattle.std.proofs.lemmas.List.Sums.{sum_by-cons, sum_by_more}
+use Rattle.lert_levels.specs.rows.Young.{Young, bins_of, AreFilled}
+use Rattle.lert_levels.proofs.rows.YoungLaws.{bins_of-none, bins_of-some}
+
+pub count_of_le-total : (ps : List Piece) (tail : ℕ) → count_of ps tail ≤ total ps
+count_of_le-total [] tail = omega arith
+count_of_le-total (p ∷ ps) tail = let rest = count_of_le-total ps tail in elim (cases_eq p.tail tail) [
+  | inl same ↦ omega (arith, count_of-cons_same p ps tail same)
+  | inr differs ↦ omega (arith, count_of-cons_other p ps tail differs)
+]
+
+pub width_within : (s : Numbers) → IsValid s → span s 0 ≤ 65536
+width_within s valid = let one : s.ratio ^ 0 ≡ 1 = pow-zero s.ratio in omega (arith, valid.limits.base_to, ap (λ n. s.base * n) one)
+
+-- what was counted in the first tables
+pub record IsCounted {T : Type 0} (pieces : T → List Piece) (tables : List T) (tail number count : ℕ) : Type 0 where
+  pub is : count ≡ sum_by (λ table. count_of (pieces table) tail) (take number tables)
+  pub few : count ≤ number * 65536
+
+pub counted_more : {T : Type 0} (pieces : T → List Piece) (room quotient remainder : T → ℕ) (s : Numbers) (all tables : List T) (from to : ℕ) →
+    AreFilled pieces room quotient remainder s all from to → tables ≡ all →
+    (tail number count : ℕ) → IsCounted pieces tables tail number count → number < length tables → (table : T) → table ≡ get_or tables number table → (more : ℕ) →
+    more ≡ count_of (pieces table) tail →
+    IsCounted pieces tables tail (number + 1) (count + more)
+counted_more {T} pieces room quotient remainder s all tables from to filled same_tables tail number count counted below table is more more_is =
+    let here = (subst (λ (ts : List T). AreFilled pieces room quotient remainder s ts from to) (sym same_tables) filled).each number table below in
+    let few = count_of_le-total (pieces table) tail in
+    let same : total (pieces (get_or tables number table)) ≡ total (pieces table) = ap (λ (t : T). total (pieces t)) (sym is) in
+    let narrow = width_within s filled.valid in
+    record {
+      is = ap₂ (λ a b. a + b) counted.is (more_is ∙ ap (λ (t : T). count_of (pieces t) tail) is) ∙ sym (sum_by_more (λ (t : T). count_of (pieces t) tail) tables number table below);
+      few = omega (arith, counted.few, here.summed);
+    }
+
+pub counted_fits : {T : Type 0} (pieces : T → List Piece) (room quotient remainder : T → ℕ) (s : Numbers) (all tables : List T) (from to : ℕ) →
+    AreFilled pieces room quotient remainder s all from to → tables ≡ all →
+    (tail number count : ℕ) → IsCounted pieces tables tail number count → number ≤ length tables → count < 2 ^ 63
+counted_fits pieces room quotient remainder s all tables from to filled same_tables tail number count counted below =
+    let len = filled.len in
+    omega (arith, counted.few, filled.valid.limits.bins_to, ap length same_tables)
+
+pub counts_are : {T : Type 0} (pieces : T → List Piece) (tail wide from to : ℕ) (tables : List T) →
+    ((k : ℕ) (d : T) → k < length tables → to ≤ from + k * wide → pieces (get_or tables k d) ≡ []) →
+    sum_by (λ (bin : Bin). count_of bin.pieces tail) (bins_of wide from to (map pieces tables)) ≡ sum_by (λ table. count_of (pieces table) tail) tables
+counts_are pieces tail wide from to [] unused = refl
+counts_are {T} pieces tail wide from to (table ∷ tables) unused =
+    let rest = counts_are pieces tail wide (from + wide) to tables (λ k d below over. (let one = suc-mul k wide in unused (suc k) d (omega arith) (omega arith))) in
+    let all = sum_by-cons (λ (t : T). count_of (pieces t) tail) table tables in
+    elim (cases_lt from to) [
+      | inl some ↦ (
+          let bins = bins_of-some wide from to (pieces table) (map pieces tables) some in
+          ap (sum_by (λ (bin : Bin). count_of bin.pieces tail)) bins
+          ∙ sum_by-cons (λ (bin : Bin). count_of bin.pieces tail) (record { from = from; to = min to (from + wide); pieces = pieces table }) (bins_of wide (from + wide) to (map pieces tables))
+          ∙ omega arith)
+      | inr none ↦ (
+          let over = bins_of-none wide from to (map pieces (table ∷ tables)) none in
+          let later = ap (sum_by (λ (bin : Bin). count_of bin.pieces tail)) (bins_of-none wide (from + wide) to (map pieces tables) (omega arith)) in
+          let empty : count_of (pieces table) tail ≡ 0 = ap (λ ps. count_of ps tail) (unused 0 table (omega arith) (omega arith)) in
+          ap (sum_by (λ (bin : Bin). count_of bin.pieces tail)) over ∙ omega (arith, later))
+    ]
+
+pub counted_all : {T : Type 0} (pieces : T → List Piece) (room quotient remainder : T → ℕ) (s : Numbers) (all tables : List T) (from to : ℕ) →
+    AreFilled pieces room quotient remainder s all from to → tables ≡ all →
+    (young : Young) → record { settings = s; from = from; to = to; bins = bins_of (span s 0) from to (map pieces all) } ≡ young →
+    (tail number count : ℕ) → IsCounted pieces tables tail number count → length tables ≤ number → count ≡ sum_by (λ bin. count_of bin.pieces tail) young.bins
+counted_all {T} pieces room quotient remainder s all tables from to filled same_tables young seen tail number count counted over =
+    counted.is
+    ∙ ap (sum_by (λ (t : T). count_of (pieces t) tail)) (take_all number tables over ∙ same_tables)
+    ∙ sym (counts_are pieces tail (span s 0) from to all (λ k d below behind. (filled.each k d below).unused behind))
+    ∙ ap (λ (y : Young). sum_by (λ (bin : Bin). count_of bin.pieces tail) y.bins) seen

@@ -1,0 +1,17 @@
+-- What the landings of a merge write.
+use Rattle.std.specs.Prelude.{◌≡◌, List, map}
+use Rattle.lert_bay.specs.declared.bay.TheConstants.{FRAMES}
+use Rattle.lert_bay.specs.Files.{IfTold}
+use Rattle.lert_bay.specs.Kept.{Bays, KeepsBay}
+use Rattle.lert_levels.specs.landing.Landings.{home, AreLandings, AreLanding, IsOutside}
+use Rattle.lert_levels.specs.declared.landing.landing.Landing.{Landing}
+use Rattle.lert_levels.specs.rows.Landing.{KeepsRest}
+use Rattle.lert_spec.specs.declared.numbers.Numbers.{Numbers}
+
+-- Whatever calls answered: the same landings wrote into the places of their frames alone, and what they took stands there.
+pub record LandingsWrite {B : Type 0} (bays : Bays B) (old : List Landing) (before : B) (new : List Landing) (after : B) (Failed : Type 0) : Type 0 where
+  pub homes : map home new ≡ map home old
+  pub landing : (s : Numbers) → AreLandings s old → IfTold (bays.files before) (λ seen. AreLanding old (seen FRAMES) →
+      IfTold (bays.files after) (λ later. AreLanding new (later FRAMES)))
+  pub rest : KeepsRest bays (IsOutside old) before after
+  pub kept : KeepsBay bays before after Failed

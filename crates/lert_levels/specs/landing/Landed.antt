@@ -1,0 +1,47 @@
+-- What a landing took, and what of it stands in the file.
+use Rattle.std.specs.Prelude.{ℕ, ◌≡◌, ◌+◌, ◌<◌, ◌≤◌, List}
+use Rattle.lert_bay.specs.declared.bay.TheConstants.{FRAMES}
+use Rattle.lert_bay.specs.Files.{IfTold}
+use Rattle.lert_bay.specs.Kept.{Bays, KeepsBay}
+use Rattle.lert_frames.specs.Place.{tail_limit}
+use Rattle.lert_frames.specs.Writing.{IsWriting}
+use Rattle.lert_levels.specs.rows.Landing.{IsApart, KeepsRest}
+use Rattle.lert_spec.specs.declared.numbers.Numbers.{Numbers}
+use Rattle.lert_spec.specs.declared.piece.Piece.{Piece}
+use Rattle.lert_spec.specs.Edges.{span}
+use Rattle.lert_spec.specs.Table.{total}
+use Rattle.lert_levels.specs.declared.landing.landing.Landing.{Landing}
+use Rattle.lert_levels.specs.landing.Whole.{whole, AreUpTo}
+
+-- the table of the sums of its pieces
+abbrev pub taken : Landing → List Piece
+taken l = whole l.writer.put l.sum
+
+-- what was put of it stands in this file of frames, or in the writer
+abbrev pub IsLanding : Landing → List ℕ → Type 0
+IsLanding l file = IsWriting l.writer file
+
+-- a landing of a level
+pub record IsLandingOf (s : Numbers) (level : ℕ) (l : Landing) : Type 0 where
+  pub settings : l.writer.settings ≡ s
+  pub level_is : l.writer.level ≡ level
+
+-- a piece may come: no tail so far is greater, and the bin has room for its count
+pub record CanTake (l : Landing) (piece : Piece) : Type 0 where
+  pub ascends : AreUpTo piece.tail (taken l)
+  pub below : piece.tail < tail_limit l.writer.settings
+  pub some : 1 ≤ piece.count
+  pub fits : total (taken l) + piece.count ≤ span l.writer.settings l.writer.level
+
+-- the same frame lands
+pub record SameLanding (old new : Landing) : Type 0 where
+  pub settings : new.writer.settings ≡ old.writer.settings
+  pub level : new.writer.level ≡ old.writer.level
+  pub frame : new.frame ≡ old.frame
+
+-- whatever a landing's calls answered: they wrote into its frame's place alone, and what it put stands in the file
+pub record Lands {B : Type 0} (bays : Bays B) (old new : Landing) (before after : B) (Failed : Type 0) : Type 0 where
+  pub same : SameLanding old new
+  pub landing : IfTold (bays.files before) (λ seen. IsLanding old (seen FRAMES) → IfTold (bays.files after) (λ later. IsLanding new (later FRAMES)))
+  pub rest : KeepsRest bays (IsApart old.writer.settings old.writer.level old.frame) before after
+  pub kept : KeepsBay bays before after Failed

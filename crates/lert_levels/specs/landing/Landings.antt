@@ -1,0 +1,33 @@
+-- The landings of several levels, that of level 1 first.
+use Rattle.std.specs.Prelude.{ℕ, ◌+◌, ◌<◌, List, All, length, slice_index_or}
+use Rattle.lert_frames.specs.Frame.{HoldsFrame}
+use Rattle.lert_levels.specs.rows.Landing.{IsApart}
+use Rattle.lert_spec.specs.declared.numbers.Numbers.{Numbers}
+use Rattle.lert_levels.specs.declared.landing.landing.Landing.{Landing}
+use Rattle.lert_levels.specs.landing.Landed.{taken, IsLanding, IsLandingOf}
+
+-- which frame a landing is to stand in
+pub record Home : Type 0 where
+  pub settings : Numbers
+  pub level : ℕ
+  pub frame : ℕ
+
+abbrev pub home : Landing → Home
+home l = record { settings = l.writer.settings; level = l.writer.level; frame = l.frame }
+
+-- one of each level from the first on
+abbrev pub AreLandings : Numbers → List Landing → Type 0
+AreLandings s landings = (k : ℕ) (d : Landing) → k < length landings → IsLandingOf s (k + 1) (slice_index_or landings k d)
+
+-- what each of them put stands in this file of frames, or in its writer
+abbrev pub AreLanding : List Landing → List ℕ → Type 0
+AreLanding landings file = All (λ l. IsLanding l file) landings
+
+-- a range of the file of frames apart from the places of all of them
+abbrev pub IsOutside : List Landing → ℕ → ℕ → Type 0
+IsOutside landings from to = All (λ l. IsApart l.writer.settings l.writer.level l.frame from to) landings
+
+-- what each of them took stands in its frame
+abbrev pub HaveEnded : Numbers → List Landing → List ℕ → Type 0
+HaveEnded s landings file = (k : ℕ) (d : Landing) → k < length landings →
+    HoldsFrame s (k + 1) (slice_index_or landings k d).frame file (taken (slice_index_or landings k d))

@@ -1,0 +1,99 @@
+-- Level 0 in memory: the bins of the newest positions, oldest first, each with a table of its own.
+use Rattle.std.specs.Prelude.{ℕ, suc, ◌≡◌, ◌≢◌, ◌+◌, ◌-◌, ◌*◌, ◌%◌, ◌<◌, ◌≤◌, ◌==◌, nat_lt, min, List, [], ◌∷◌, ◌++◌, length}
+use Rattle.std.specs.Prelude.{if◌then◌else◌, slice_index_or, take, drop, sum_by}
+use Rattle.lert_levels.specs.declared.bound.pair.Pair.{Pair}
+use Rattle.lert_levels.specs.bound.Covers.{CoversCounts}
+use Rattle.lert_spec.specs.declared.numbers.Numbers.{Numbers}
+use Rattle.lert_spec.specs.declared.piece.Piece.{Piece}
+use Rattle.lert_spec.specs.Bins.{Bin}
+use Rattle.lert_spec.specs.Edges.{span, capacity, quotient_bits, width}
+use Rattle.lert_spec.specs.Limits.{IsValid}
+use Rattle.lert_spec.specs.Table.{count_of, total, plus}
+
+-- what level 0 is seen as: its settings, and the bins of the positions above `from`, up to `to`
+pub record Young : Type 0 where
+  pub settings : Numbers
+  pub from : ℕ
+  pub to : ℕ
+  pub bins : List Bin
+
+-- the newest bin with one more event, of this tail at this position
+abbrev pub grown : List Bin → ℕ → ℕ → List Bin
+grown [] tail m = []
+grown (bin ∷ []) tail m = record { from = bin.from; to = m; pieces = plus bin.pieces tail 1 } ∷ []
+grown (bin ∷ next ∷ bins) tail m = bin ∷ grown (next ∷ bins) tail m
+
+-- a bin of this event alone
+abbrev pub begun : ℕ → ℕ → Bin
+begun tail m = record { from = m - 1; to = m; pieces = record { tail = tail; count = 1 } ∷ [] }
+
+-- the bins with one more event: where its position is the first of an aligned interval it begins a bin of its own, and
+-- otherwise it is in the newest one
+abbrev pub added : Numbers → List Bin → ℕ → ℕ → List Bin
+added s bins tail m = if (m - 1) % span s 0 == 0 then bins ++ begun tail m ∷ [] else grown bins tail m
+
+-- level 0 with one more event
+abbrev pub with_event : Young → ℕ → ℕ → Young
+with_event young tail m = record {
+  settings = young.settings;
+  from = if young.from == young.to then m - 1 else young.from;
+  to = m;
+  bins = added young.settings young.bins tail m;
+}
+
+-- a position that may be added: the one behind the last, or, where there is none, the first one of an aligned interval;
+-- and a table is free for its bin
+pub record IsNextPosition (young : Young) (m : ℕ) : Type 0 where
+  pub first : 1 ≤ m
+  pub last : m ≤ capacity young.settings
+  pub follows : young.from ≢ young.to → m ≡ suc young.to
+  pub begins : young.from ≡ young.to → (m - 1) % span young.settings 0 ≡ 0
+  pub free : young.from ≢ young.to → m ≤ young.from + young.settings.bins * span young.settings 0
+
+-- tables as bins: each of a width, the first one above `from`, as far as the positions go
+abbrev pub bins_of : ℕ → ℕ → ℕ → List (List Piece) → List Bin
+bins_of wide from to [] = []
+bins_of wide from to (pieces ∷ tables) =
+    if nat_lt from to
+    then record { from = from; to = min to (from + wide); pieces = pieces } ∷ bins_of wide (from + wide) to tables
+    else []
+
+-- a table with the room, the quotient bits and the width of level 0
+pub record IsOfZero (s : Numbers) (room quotient remainder : ℕ) : Type 0 where
+  pub events : room ≡ span s 0
+  pub quotients : quotient ≡ quotient_bits s 0
+  pub remainders : remainder ≡ width s 0
+
+-- the table with this number has the events of its bin, and none where no position is in it
+pub record IsFilled (s : Numbers) (from to number : ℕ) (pieces : List Piece) (room quotient remainder : ℕ) : Type 0 where
+  pub summed : total pieces ≡ min (span s 0) (to - (from + number * span s 0))
+  pub unused : to ≤ from + number * span s 0 → pieces ≡ []
+  pub of_zero : IsOfZero s room quotient remainder
+
+-- what stands between two calls
+pub record AreFilled {T : Type 0} (pieces : T → List Piece) (room quotient remainder : T → ℕ) (s : Numbers) (tables : List T) (from to : ℕ) : Type 0 where
+  pub valid : IsValid s
+  pub len : length tables ≡ s.bins
+  pub aligned : from % span s 0 ≡ 0
+  pub ordered : from ≤ to
+  pub within : to ≤ from + s.bins * span s 0
+  pub last : to ≤ capacity s
+  pub each : (k : ℕ) (d : T) → k < length tables →
+      IsFilled s from to k (pieces (slice_index_or tables k d)) (room (slice_index_or tables k d))
+      (quotient (slice_index_or tables k d)) (remainder (slice_index_or tables k d))
+
+-- so many bins, the newest of which has room up to `end`
+pub record AreNumbered (s : Numbers) (from to bins end : ℕ) : Type 0 where
+  pub end_is : end ≡ from + bins * span s 0
+  pub covers : to ≤ end
+  pub few : end < to + span s 0
+
+-- how often a tail stands in tables
+abbrev pub times_in : {T : Type 0} → (T → List Piece) → List T → ℕ → ℕ
+times_in pieces tables tail = sum_by (λ table. count_of (pieces table) tail) tables
+
+-- the bound of the tails covers those of the first bins, which are full, in the generation before, and those of all others in
+-- the present one
+pub record AreBounded {T : Type 0} (pieces : T → List Piece) (s : Numbers) (tables : List T) (from to : ℕ) (pairs : List Pair) (earlier : ℕ) : Type 0 where
+  pub full : from + earlier * span s 0 ≤ to
+  pub covers : CoversCounts pairs (times_in pieces (take earlier tables)) (times_in pieces (drop earlier tables))

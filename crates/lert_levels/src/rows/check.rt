@@ -1,0 +1,89 @@
+//! A check of the frames in which the bins of levels stand.
+
+ghost use Rattle.std.specs.Prelude.{◌≡◌, ℕ, ◌+◌, ◌<◌, ◌≤◌, ◌^◌, List, [], Some, None, length, map, OnOk, IsErrOf, slice_index_or};
+ghost use Rattle.lert_bay.specs.declared.bay.TheConstants.{FRAMES};
+ghost use Rattle.lert_bay.specs.Files.{IfTold};
+ghost use Rattle.lert_bay.specs.Kept.{OnlyReads};
+ghost use Rattle.lert_spec.specs.Edges.{span};
+ghost use Rattle.lert_levels.specs.rows.Checked.{pieces_in, RowStands, EachStands, bin_left, row_left, rows_left};
+ghost use Rattle.lert_levels.specs.rows.Loading.{width_of, Stands};
+ghost use Rattle.lert_levels.specs.rows.Rows.{IsRow};
+
+use crate::rows::bin_at::BinAt;
+use lert_base::{PieceFault, Settings};
+use lert_bay::Bay;
+use lert_frames::FrameReader;
+
+/// Reads the frame of each bin of the rows, from level 1 on, each level's oldest first. It changes no file and no image. It
+/// takes no memory.
+pub fn check_rows<B: Bay>(
+    settings: &Settings,
+    rows: &[Vec<BinAt>],
+    reader: &mut FrameReader,
+    bay: &mut B,
+) -> Result<(), PieceFault>
+    requires few { length rows.now ≤ settings.now.levels }
+    requires rows { (k : ℕ) → k < length rows.now → IsRow settings.now (k + 1) (slice_index_or (map (λ row. row.items) rows.now) k []) }
+    requires reader { reader.old.settings ≡ settings.now }
+    ensures stand { IfTold (B.files bay.old) (λ seen. OnOk result (EachStands settings.now (seen FRAMES) (map (λ row. row.items) rows.now))) }
+    ensures whole { IfTold (B.files bay.old) (λ seen. OnOk result (rows_left settings.now (seen FRAMES) (map (λ row. row.items) rows.now) ≡ None)) }
+    ensures malformed { IfTold (B.files bay.old) (λ seen. (at : ℕ) → IsErrOf result (PieceFault.Malformed at) →
+        rows_left settings.now (seen FRAMES) (map (λ row. row.items) rows.now) ≡ Some at) }
+    ensures reader { reader.new.settings ≡ settings.now }
+    ensures only_reads { OnlyReads B.Bay bay.old bay.new (IsErrOf result PieceFault.Failed) }
+{
+    let _valid = settings.numbers();
+    for (lower, row) in rows.iter().enumerate() {
+        check_row(reader, lower as u32 + 1, row, bay)?;
+    }
+    Ok(())
+}
+
+// Reads the frame of each bin of a level's row, the oldest first.
+fn check_row<B: Bay>(
+    reader: &mut FrameReader,
+    level: u32,
+    row: &[BinAt],
+    bay: &mut B,
+) -> Result<(), PieceFault>
+    requires first { 1 ≤ level }
+    requires last { level ≤ reader.old.settings.levels }
+    requires row { IsRow reader.old.settings level row.now }
+    ensures stand { IfTold (B.files bay.old) (λ seen. OnOk result (RowStands reader.old.settings (seen FRAMES) level row.now)) }
+    ensures whole { IfTold (B.files bay.old) (λ seen. OnOk result (row_left reader.old.settings (seen FRAMES) level row.now ≡ None)) }
+    ensures malformed { IfTold (B.files bay.old) (λ seen. (at : ℕ) → IsErrOf result (PieceFault.Malformed at) →
+        row_left reader.old.settings (seen FRAMES) level row.now ≡ Some at) }
+    ensures settings { reader.new.settings ≡ reader.old.settings }
+    ensures only_reads { OnlyReads B.Bay bay.old bay.new (IsErrOf result PieceFault.Failed) }
+{
+    for bin in row {
+        check_bin(reader, level, bin, bay)?;
+    }
+    Ok(())
+}
+
+// Reads the frame of a bin of a level, and lets its pieces go.
+fn check_bin<B: Bay>(
+    reader: &mut FrameReader,
+    level: u32,
+    bin: &BinAt,
+    bay: &mut B,
+) -> Result<(), PieceFault>
+    requires first { 1 ≤ level }
+    requires last { level ≤ reader.old.settings.levels }
+    requires frame { bin.now.frame ≤ reader.old.settings.bins }
+    requires some { bin.now.from < bin.now.to }
+    requires width { width_of bin.now ≤ span reader.old.settings level }
+    requires end { bin.now.to < 2 ^ 32 }
+    ensures stand { IfTold (B.files bay.old) (λ seen. OnOk result (Stands reader.old.settings level (seen FRAMES) (pieces_in reader.old.settings (seen FRAMES) level) bin.now)) }
+    ensures whole { IfTold (B.files bay.old) (λ seen. OnOk result (bin_left reader.old.settings (seen FRAMES) level bin.now ≡ None)) }
+    ensures malformed { IfTold (B.files bay.old) (λ seen. (at : ℕ) → IsErrOf result (PieceFault.Malformed at) →
+        bin_left reader.old.settings (seen FRAMES) level bin.now ≡ Some at) }
+    ensures settings { reader.new.settings ≡ reader.old.settings }
+    ensures only_reads { OnlyReads B.Bay bay.old bay.new (IsErrOf result PieceFault.Failed) }
+{
+    let frame = u32::from(bin.frame);
+    let width = bin.to - bin.from;
+    reader.start_at(level, frame, width);
+    reader.check(bay, frame, width)
+}

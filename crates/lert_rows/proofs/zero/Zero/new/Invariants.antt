@@ -1,5 +1,0 @@
-use Rattle.lert_rows.proofs.YoungLaws.{AreEmpty}
-use Rattle.lert_rows.proofs.zero.Zero.new.Given as goal
-
-abbrev pub invariant-loop : goal.invariant-loop
-invariant-loop g l = AreEmpty g.T.CountTable.pieces g.T.CountTable.room g.T.CountTable.quotient_bits g.T.CountTable.width l.settings l.tables.items l.counter

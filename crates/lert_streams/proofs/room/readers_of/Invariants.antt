@@ -1,9 +1,0 @@
-use Rattle.std.proofs.Common.{◌≡◌, length}
-use Rattle.lert_streams.specs.Tables.{AreReadersOf}
-use Rattle.lert_streams.proofs.room.readers_of.Given as goal
-
-abbrev pub invariant-loop : goal.invariant-loop
-invariant-loop l = record {
-  of_settings : AreReadersOf l.fn.settings l.readers.items;
-  len : length l.readers.items ≡ l.counter;
-}
