@@ -5,8 +5,8 @@ ghost use Rattle.std.specs.Prelude.{◌≡◌, ◌≤◌, length};
 use crate::plain::Plain;
 use crate::sorted::{Counting, Sorted};
 use lert_base::Piece;
-use lert_merge::{Ahead, Heads, Merge, Order};
 use lert_merge::order::Each;
+use lert_merge::{Ahead, Heads, Merge, Order};
 use std::alloc::Global;
 use std::process::Abort;
 

@@ -6,9 +6,9 @@ use crate::bins::{SMALL, empty_bay, pieces_of, settings_of, write_frame};
 use lert_base::{CountTable, Piece};
 use lert_bay::{Bay, FRAMES, MemBay};
 use lert_frames::frame_place;
+use lert_levels::streams::{BinStreams, StreamRoom};
 use lert_merge::{Ahead, Order};
 use lert_plain::PlainTable;
-use lert_levels::streams::{BinStreams, StreamRoom};
 use std::alloc::Global;
 use std::process::Abort;
 

@@ -3,17 +3,17 @@ use Rattle.std.proofs.Common.{◌≡◌, ◌<◌, ℕ, List, [], length, Option,
 use Rattle.std.proofs.lemmas.Option.{slice_get_within}
 use Rattle.lert_bay.specs.Files.{Files}
 use Rattle.lert_bay.specs.Kept.{Bays}
-use Rattle.lert_cones.proofs.AskedLaws.{traces_same}
+use Rattle.lert_top.proofs.cones.AskedLaws.{traces_same}
 use Rattle.lert_ingest.proofs.BayLaws.{are_same}
 use Rattle.lert_ingest.specs.Bays.{AreLater}
 use Rattle.lert_ingest.specs.Traces.{AreTracesLater}
 use Rattle.lert_ingest.specs.declared.status.Status.TheVariants.{OutOfMemory, PlaceFault, Usage}
-use Rattle.lert_recovery.proofs.JournalLaws.{journals_same}
-use Rattle.lert_recovery.proofs.RecoverEnding.{has_recovered}
-use Rattle.lert_recovery.proofs.SoundLaws.{sound_same}
-use Rattle.lert_recovery.specs.Moments.{AreReturnedSpared}
-use Rattle.lert_recovery.specs.Recovered.{HasRecovered}
-use Rattle.lert_run.specs.Ran.{HasPutBack}
+use Rattle.lert_top.proofs.recovery.JournalLaws.{journals_same}
+use Rattle.lert_top.proofs.recovery.RecoverEnding.{has_recovered}
+use Rattle.lert_top.proofs.recovery.SoundLaws.{sound_same}
+use Rattle.lert_top.specs.recovery.Moments.{AreReturnedSpared}
+use Rattle.lert_top.specs.recovery.Recovered.{HasRecovered}
+use Rattle.lert_top.specs.runs.Ran.{HasPutBack}
 use Rattle.lert_spec.specs.declared.numbers.Numbers.{Numbers}
 
 pub usage_not_place : (rule : ℕ) → Usage rule ≡ PlaceFault → ⊥

@@ -6,11 +6,15 @@
 //! The program stands on it.
 #![tactic(auto)]
 
+pub mod cones;
+pub mod drills;
 mod generate;
+pub mod recovery;
+pub mod runs;
 mod top;
 
 pub use generate::gen_to;
 pub use lert_ingest::Status;
 pub use lert_place::{MemPlace, Opening, Place, Wanted};
-pub use lert_recovery::recover_to;
+pub use recovery::recover_to;
 pub use top::run;

@@ -6,25 +6,25 @@ use Rattle.lert_args.specs.declared.line.Line.{Line}
 use Rattle.lert_args.specs.declared.line.Line.TheVariants.{Run, Recover, Gen, Drill}
 use Rattle.lert_args.specs.Word.{word_at}
 use Rattle.lert_args.proofs.SoundLines.{AreBelow, along_drill, along_gen, along_recover, along_run, command_number, drill_keeps, gen_keeps, recover_placed, run_keeps, run_placed, word_at-slice_get}
-use Rattle.lert_drill.specs.Drilled.{DrillShows}
+use Rattle.lert_top.specs.drills.Drilled.{DrillShows}
 use Rattle.lert_ingest.specs.declared.status.Status.TheVariants.{Done, OutOfMemory, PlaceFault, Usage}
 use Rattle.lert_ingest.specs.Bays.{AreLater}
-use Rattle.lert_cones.specs.Asked.{IsAsked, IsAskedForBays}
-use Rattle.lert_cones.proofs.AskedLaws.{nothing_handed}
-use Rattle.lert_cones.proofs.StatusLaws.{no_memory_no_place, no_memory_no_usage, no_memory_not_done, some_is}
-use Rattle.lert_cones.specs.Closed.{AreReturnedClosed}
-use Rattle.lert_run.specs.Ran.{HasPutBack}
-use Rattle.lert_run.specs.Run.{HasRun}
-use Rattle.lert_run.proofs.RunLaws.{run_none}
+use Rattle.lert_top.specs.cones.Asked.{IsAsked, IsAskedForBays}
+use Rattle.lert_top.proofs.cones.AskedLaws.{nothing_handed}
+use Rattle.lert_top.proofs.cones.StatusLaws.{no_memory_no_place, no_memory_no_usage, no_memory_not_done, some_is}
+use Rattle.lert_top.specs.cones.Closed.{AreReturnedClosed}
+use Rattle.lert_top.specs.runs.Ran.{HasPutBack}
+use Rattle.lert_top.specs.runs.Run.{HasRun}
+use Rattle.lert_top.proofs.runs.RunLaws.{run_none}
 use Rattle.lert_spec.specs.declared.numbers.Numbers.{Numbers}
-use Rattle.lert_recovery.specs.Recovered.{HasRecovered}
+use Rattle.lert_top.specs.recovery.Recovered.{HasRecovered}
 use Rattle.std.specs.Prelude.{slice_get}
 use Rattle.lert_bay.specs.Kept.{Bays}
 use Rattle.lert_place.specs.Openings.{AreReturned, bays_granted, traces_granted}
 use Rattle.lert_top.specs.Generated.{TraceShows}
 use Rattle.lert_top.proofs.NoLine.{below_none, later_none, put_back_none, recovered_none, rule_is, sound_none, usage_not_place}
 use Rattle.lert_top.proofs.OtherLines.{none_back, none_back_same, of_another, of_no_rule}
-use Rattle.lert_recovery.specs.Moments.{AreReturnedSpared}
+use Rattle.lert_top.specs.recovery.Moments.{AreReturnedSpared}
 use Rattle.lert_top.proofs.top.run.Given as given
 use Rattle.lert_top.proofs.top.run.Goals.{In-Err-Usage}
 use Rattle.lert_top.proofs.top.run.Goals as goal

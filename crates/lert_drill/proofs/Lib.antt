@@ -1,6 +1,0 @@
-mod DealtLaws
-mod DrillLaws
-mod DrillTexts
-mod HeavyTimes
-mod NewBays
-mod SameKeys

@@ -1,0 +1,6 @@
+pub mod DealtLaws
+pub mod DrillLaws
+pub mod DrillTexts
+pub mod HeavyTimes
+pub mod NewBays
+pub mod SameKeys

@@ -1,0 +1,260 @@
+use Rattle.std.proofs.Common.{◌≡◌, ℕ, ◌<◌, ◌^◌, List, ◌++◌, ◌∷◌, [], length, slice_get, Some, refl, ap, sym, ◌∙◌, subst, arith, append_assoc, length-append}
+use Rattle.std.proofs.lemmas.List.{length-map}
+use Rattle.std.proofs.lemmas.List.Elements.{All-pop}
+use Rattle.std.proofs.lemmas.Option.{same_Some, slice_get_within}
+use Rattle.lert_cone.specs.Stands.{Standing}
+use Rattle.lert_spec.specs.declared.numbers.Numbers.{Numbers}
+use Rattle.lert_ingest.specs.Bays.{AreLater, bays_of}
+use Rattle.lert_ingest.specs.Cones.{IsNewRoom}
+use Rattle.lert_top.specs.recovery.Recovered.{AreJournalsSame, AreSoundStill, IsOpenOver, IsUnopened, IsSoundStill, reopen_status}
+use Rattle.lert_ingest.proofs.BayLaws.{are_same, slice_get-behind}
+use Rattle.lert_top.proofs.cones.ConeLaws.{back_later, bay_there, call_later, each-push, made_later, none_left}
+use Rattle.lert_top.proofs.recovery.JournalLaws.{journals_back, journals_made, journals_same}
+use Rattle.lert_top.proofs.recovery.RecoverLaws.{WasRefused, open_over, unopened_by}
+use Rattle.lert_top.proofs.recovery.SoundLaws.{sound_back, sound_made, sound_same, stays_by, stays_open}
+use Rattle.lert_bay.proofs.KeptLaws.{IsLawful}
+use Rattle.lert_top.specs.recovery.Moments.{AreSpared, IsSpared}
+use Rattle.lert_top.proofs.recovery.MomentLaws.{throughout_back, throughout_by, throughout_made, throughout_same}
+use Rattle.lert_top.proofs.recovery.reopened_cones.reopen_rooms.Given as given
+use Rattle.lert_top.proofs.recovery.reopened_cones.reopen_rooms.Invariants.{bays as bays_in}
+use Rattle.lert_top.proofs.recovery.reopened_cones.reopen_rooms.Goals as goal
+
+lawful : (g : given.Over) → IsLawful (bays_in g)
+lawful g = record { as_read = g.met.B.Bay.as_read; since_now = g.met.B.Bay.since_now; only_now = g.met.B.Bay.only_now; since_earlier = g.met.B.Bay.since_earlier }
+
+pub returns-in-Err-clause-room : goal.returns-in-Err-clause-room
+returns-in-Err-clause-room g c = c.push_front_reserved.ensures.capacity ∙ (c.pop_front.ensures.capacity ∙ c.loop-number.invariant.room)
+
+pub returns-in-Err-clause-later : goal.returns-in-Err-clause-later
+returns-in-Err-clause-later g c =
+    let here = c.loop-number.invariant in
+    let bay = c.in-Some.bay in
+    let rest = c.pop_front.new.self.items in
+    let cones = c.loop-number.cones.items in
+    let bays = c.args.bays.now.items in
+    let items = c.in-Some.ensures.items in
+    let front = here.split.0 in
+    let split = ap (λ xs. front ++ xs) (sym items) ∙ here.split.2 in
+    let later = subst (λ xs. AreLater g.B.Bay.files g.B.Faulty.faults g.B.Faulty.mark bays (bays_of cones ++ xs)) items here.later in
+    let one = call_later g.B.Bay.files g.B.Faulty.faults g.B.Faulty.mark bay c.in-Err.refused.bay c.in-Err.ensures.kept.mark c.in-Err.ensures.kept.never_falls c.in-Err.ensures.reads in
+    subst (AreLater g.B.Bay.files g.B.Faulty.faults g.B.Faulty.mark bays) (ap (λ xs. bays_of cones ++ xs) (sym c.push_front_reserved.ensures.items))
+    (back_later g.B.Bay.files g.B.Faulty.faults g.B.Faulty.mark bays front bay rest cones split here.split.1 later c.in-Err.refused.bay one)
+
+pub returns-in-Err-clause-unopened : goal.returns-in-Err-clause-unopened
+returns-in-Err-clause-unopened g c =
+    let here = c.loop-number.invariant in
+    let s = c.args.settings.now in
+    let bay = c.in-Some.bay in
+    let rest = c.pop_front.new.self.items in
+    let items = c.in-Some.ensures.items in
+    let front = here.split.0 in
+    let bays = c.args.bays.now.items in
+    let cones = c.loop-number.cones.items in
+    let fault = c.in-Err.refused.fault in
+    let back = c.in-Err.refused.bay in
+    let split = ap (λ xs. front ++ xs) (sym items) ∙ here.split.2 in
+    let later = subst (λ xs. AreLater g.B.Bay.files g.B.Faulty.faults g.B.Faulty.mark bays (bays_of cones ++ xs)) items here.later in
+    let there = bay_there g.B.Bay.files g.B.Faulty.faults g.B.Faulty.mark bays front bay rest cones split here.split.1 later in
+    let is = ap (λ xs. bays_of cones ++ xs) c.push_front_reserved.ensures.items in
+    let popped = All-pop (IsNewRoom s) c.loop-number.rooms.items c.pop.new.self.items (Some c.in-Some-pop.room) c.in-Some-pop.ensures.items here.rooms in
+    let why : WasRefused g.B.Bay.files c.in-Some-pop.room.settings c.loop-number.number bay back fault = record {
+      malformed = c.in-Err.ensures.malformed;
+      other_is = c.in-Err.ensures.other;
+      refuses = c.in-Err.ensures.refuses;
+      differs = c.in-Err.ensures.differs;
+      opens = c.in-Err.ensures.sound_opens;
+      unread = λ seen told file at leaves. (c.in-Err.ensures.unharmed.left seen told file at leaves).seen;
+      untouched = λ kept is. (c.in-Err.ensures.other_untouched kept is).seen;
+    } in
+    let why_here = subst (λ (n : Numbers). WasRefused g.B.Bay.files n (length cones) bay back fault) popped.1.0
+    (subst (λ (n : ℕ). WasRefused g.B.Bay.files c.in-Some-pop.room.settings n bay back fault) (sym here.number) why) in
+    let unopened = unopened_by g.B.Bay.files g.B.Bay.leaves g.B.Faulty.faults g.B.Faulty.mark s bays front bay rest cones there here.open_cones back fault why_here c.in-Err.ensures.kept.failed
+    (λ other behind. let sizes = length-map cones (λ (x : Standing g.row.B.Denot). x.bay) in
+    slice_get-behind (bays_of cones) front back bay rest other (sizes ∙ sym here.split.1) (omega (arith, behind, sizes)) ∙ ap (λ xs. slice_get xs other) split) in
+    subst (IsUnopened g.B.Bay.files g.B.Faulty.faults s bays (bays_of cones ++ c.push_front_reserved.new.self.items)) (sym c.status_of.ensures)
+    (subst (λ xs. IsUnopened g.B.Bay.files g.B.Faulty.faults s bays xs (reopen_status c.loop-number.number fault)) (sym is)
+    (subst (λ n. IsUnopened g.B.Bay.files g.B.Faulty.faults s bays (bays_of cones ++ back ∷ rest) (reopen_status n fault)) here.number unopened))
+
+pub returns-in-Err-clause-journals : goal.returns-in-Err-clause-journals
+returns-in-Err-clause-journals g c =
+    let here = c.loop-number.invariant in
+    let bays = c.args.bays.now.items in
+    let cones = c.loop-number.cones.items in
+    let rest = c.pop_front.new.self.items in
+    let back = c.in-Err.refused.bay in
+    let so_far = subst (λ xs. AreJournalsSame g.B.Bay.files bays (bays_of cones ++ xs)) c.in-Some.ensures.items here.journals in
+    subst (AreJournalsSame g.B.Bay.files bays) (ap (λ xs. bays_of cones ++ xs) (sym c.push_front_reserved.ensures.items))
+    (journals_back g.B.Bay.files bays cones c.in-Some.bay rest so_far back c.in-Err.ensures.reads)
+
+pub returns-in-Err-clause-stays_sound : goal.returns-in-Err-clause-stays_sound
+returns-in-Err-clause-stays_sound g c =
+    let here = c.loop-number.invariant in
+    let s = c.args.settings.now in
+    let bays = c.args.bays.now.items in
+    let bay = c.in-Some.bay in
+    let cones = c.loop-number.cones.items in
+    let room = c.in-Some-pop.room in
+    let back = c.in-Err.refused.bay in
+    let so_far = subst (λ xs. AreSoundStill g.B.Bay.files s bays (bays_of cones ++ xs)) c.in-Some.ensures.items here.stays_sound in
+    let popped = All-pop (IsNewRoom s) c.loop-number.rooms.items c.pop.new.self.items (Some room) c.in-Some-pop.ensures.items here.rooms in
+    let one = stays_by g.B.Bay.files room.settings c.loop-number.number bay back c.in-Err.ensures.reads c.in-Err.ensures.stays_sound in
+    let one_here = subst (λ (n : Numbers). IsSoundStill g.B.Bay.files n (length cones) bay back) popped.1.0
+    (subst (λ (n : ℕ). IsSoundStill g.B.Bay.files room.settings n bay back) (sym here.number) one) in
+    subst (AreSoundStill g.B.Bay.files s bays) (ap (λ xs. bays_of cones ++ xs) (sym c.push_front_reserved.ensures.items))
+    (sound_back g.B.Bay.files s bays cones bay c.pop_front.new.self.items so_far back one_here)
+
+pub returns-in-Err-clause-each_moment : goal.returns-in-Err-clause-each_moment
+returns-in-Err-clause-each_moment g c =
+    let here = c.loop-number.invariant in
+    let s = c.args.settings.now in
+    let first = c.args.bays.now.items in
+    let bay = c.in-Some.bay in
+    let cones = c.loop-number.cones.items in
+    let room = c.in-Some-pop.room in
+    let back = c.in-Err.refused.bay in
+    let items = c.in-Some.ensures.items in
+    let front = here.split.0 in
+    let rest = c.pop_front.new.self.items in
+    let later = subst (λ xs. AreLater g.B.Bay.files g.B.Faulty.faults g.B.Faulty.mark first (bays_of cones ++ xs)) items here.later in
+    let there = bay_there g.B.Bay.files g.B.Faulty.faults g.B.Faulty.mark first front bay rest cones (ap (λ xs. front ++ xs) (sym items) ∙ here.split.2) here.split.1 later in
+    let so_far = subst (λ xs. AreSpared (bays_in g) s first (bays_of cones ++ xs)) items here.throughout in
+    let popped = All-pop (IsNewRoom s) c.loop-number.rooms.items c.pop.new.self.items (Some room) c.in-Some-pop.ensures.items here.rooms in
+    let one = throughout_by (bays_in g) room.settings c.loop-number.number bay back _ c.in-Err.ensures.kept c.in-Err.ensures.reads c.in-Err.ensures.each_moment
+    c.in-Err.ensures.unharmed in
+    let one_here = subst (λ (n : Numbers). IsSpared (bays_in g) n (length cones) bay back) popped.1.0
+    (subst (λ (n : ℕ). IsSpared (bays_in g) room.settings n bay back) (sym here.number) one) in
+    subst (AreSpared (bays_in g) s first) (ap (λ xs. bays_of cones ++ xs) (sym c.push_front_reserved.ensures.items))
+    (throughout_back (bays_in g) s first cones bay rest there so_far back one_here)
+
+pub returns-clause-each_moment : goal.returns-clause-each_moment
+returns-clause-each_moment g c = c.loop-number.invariant.throughout
+
+pub returns-clause-stays_sound : goal.returns-clause-stays_sound
+returns-clause-stays_sound g c = c.loop-number.invariant.stays_sound
+
+pub returns-clause-journals : goal.returns-clause-journals
+returns-clause-journals g c = c.loop-number.invariant.journals
+
+pub returns-clause-open : goal.returns-clause-open
+returns-clause-open g c = c.loop-number.invariant.open_cones
+
+pub returns-clause-number : goal.returns-clause-number
+returns-clause-number g c =
+    omega (arith, c.loop-number.invariant.number, c.loop-number-test.false, c.loop-number.auto.number-end, c.cones-number-end.ensures)
+
+pub returns-clause-emptied : goal.returns-clause-emptied
+returns-clause-emptied g c =
+    let here = c.loop-number.invariant in
+    let whole = ap length here.split.2 in
+    none_left c.loop-number.bays.items
+    (omega (arith, whole, length-append here.split.0 c.loop-number.bays.items, here.split.1, here.number, c.loop-number-test.false, c.cones-number-end.ensures, c.requires.number))
+
+pub returns-clause-room : goal.returns-clause-room
+returns-clause-room g c = c.loop-number.invariant.room
+
+pub returns-clause-later : goal.returns-clause-later
+returns-clause-later g c = c.loop-number.invariant.later
+
+pub loop-number-preserved : goal.loop-number-preserved
+loop-number-preserved g c =
+    let here = c.loop-number.invariant in
+    let s = c.args.settings.now in
+    let cones = c.loop-number.cones.items in
+    let cone = c.in-Ok.cone in
+    let room = c.in-Some-pop.room in
+    let bay = c.in-Some.bay in
+    let rest = c.pop_front.new.self.items in
+    let items = c.in-Some.ensures.items in
+    let front = here.split.0 in
+    let bays = c.args.bays.now.items in
+    let split = ap (λ xs. front ++ xs) (sym items) ∙ here.split.2 in
+    let later = subst (λ xs. AreLater g.B.Bay.files g.B.Faulty.faults g.B.Faulty.mark bays (bays_of cones ++ xs)) items here.later in
+    let there = bay_there g.B.Bay.files g.B.Faulty.faults g.B.Faulty.mark bays front bay rest cones split here.split.1 later in
+    let one = call_later g.B.Bay.files g.B.Faulty.faults g.B.Faulty.mark bay cone.bay c.in-Ok.ensures.kept.mark c.in-Ok.ensures.kept.never_falls c.in-Ok.ensures.reads in
+    let pushed = c.push_reserved.ensures.items in
+    let popped = All-pop (IsNewRoom s) c.loop-number.rooms.items c.pop.new.self.items (Some room) c.in-Some-pop.ensures.items here.rooms in
+    let number = ap length pushed ∙ length-append cones (cone ∷ []) in
+    let fewer = ap length c.in-Some-pop.ensures.items ∙ length-append c.pop.new.self.items (room ∷ []) in
+    let own = c.in-Ok.ensures.own in
+    let opened : IsOpenOver g.B.Bay.files g.B.Bay.leaves g.B.Faulty.faults room.settings c.loop-number.number bay cone =
+    open_over g.B.Bay.files g.B.Bay.leaves g.B.Faulty.faults g.B.Faulty.mark room.settings c.loop-number.number bay cone c.in-Ok.ensures.sound_opens c.in-Ok.ensures.journal
+    c.in-Ok.ensures.journal_whole c.in-Ok.ensures.refuses c.in-Ok.ensures.differs own.0 own.1 own.2 own.3 c.in-Ok.ensures.made.0 in
+    let opened_here = subst (λ (n : Numbers). IsOpenOver g.B.Bay.files g.B.Bay.leaves g.B.Faulty.faults n (length cones) bay cone) popped.1.0
+    (subst (λ (n : ℕ). IsOpenOver g.B.Bay.files g.B.Bay.leaves g.B.Faulty.faults room.settings n bay cone) (sym here.number) opened) in
+    record {
+      number = omega (arith, number, here.number);
+      rooms_left = omega (arith, fewer, here.rooms_left);
+      rooms = popped.0;
+      split = (front ++ bay ∷ [], omega (arith, length-append front (bay ∷ []), number, here.split.1), append_assoc front (bay ∷ []) rest ∙ split);
+      later = subst (λ xs. AreLater g.B.Bay.files g.B.Faulty.faults g.B.Faulty.mark bays (bays_of xs ++ rest)) (sym pushed)
+          (made_later g.B.Bay.files g.B.Faulty.faults g.B.Faulty.mark bays front bay rest cones split here.split.1 later cone one);
+      journals = subst (λ xs. AreJournalsSame g.B.Bay.files bays (bays_of xs ++ rest)) (sym pushed)
+          (journals_made g.B.Bay.files bays cones bay rest (subst (λ xs. AreJournalsSame g.B.Bay.files bays (bays_of cones ++ xs)) items here.journals) cone c.in-Ok.ensures.reads);
+      stays_sound = subst (λ xs. AreSoundStill g.B.Bay.files s bays (bays_of xs ++ rest)) (sym pushed)
+          (sound_made g.B.Bay.files s bays cones bay rest (subst (λ xs. AreSoundStill g.B.Bay.files s bays (bays_of cones ++ xs)) items here.stays_sound) cone
+          (stays_open g.B.Bay.files g.B.Bay.leaves g.B.Faulty.faults s (length cones) bay cone opened_here c.in-Ok.ensures.reads));
+      throughout =
+          let so_far = subst (λ xs. AreSpared (bays_in g) s bays (bays_of cones ++ xs)) items here.throughout in
+          let moments = throughout_by (bays_in g) room.settings c.loop-number.number bay cone.bay ⊥ c.in-Ok.ensures.kept c.in-Ok.ensures.reads c.in-Ok.ensures.each_moment
+          c.in-Ok.ensures.unharmed in
+          let moments_here = subst (λ (n : Numbers). IsSpared (bays_in g) n (length cones) bay cone.bay) popped.1.0
+          (subst (λ (n : ℕ). IsSpared (bays_in g) room.settings n bay cone.bay) (sym here.number) moments) in
+          subst (λ xs. AreSpared (bays_in g) s bays (bays_of xs ++ rest)) (sym pushed)
+          (throughout_made (bays_in g) s bays cones bay rest there so_far cone moments_here);
+      open_cones = λ place found is.
+          each-push (λ (k : ℕ) (x : Standing g.row.B.Denot). (held : g.row.B.Denot) → slice_get bays k ≡ Some held → IsOpenOver g.B.Bay.files g.B.Bay.leaves g.B.Faulty.faults s k held x)
+          cones cone here.open_cones
+          (λ held at. subst (λ (b : g.row.B.Denot). IsOpenOver g.B.Bay.files g.B.Bay.leaves g.B.Faulty.faults s (length cones) b cone) (same_Some bay held (sym there ∙ at)) opened_here)
+          place found (ap (λ xs. slice_get xs place) (sym pushed) ∙ is);
+      room = c.pop_front.ensures.capacity ∙ here.room;
+      cones_room = omega (arith, here.cones_room, c.push_reserved.ensures.capacity);
+    }
+
+pub loop-number-init : goal.loop-number-init
+loop-number-init g c =
+    let bays = c.args.bays.now.items in
+    record {
+      number = ap length c.requires.none;
+      rooms_left = omega (arith, c.requires.rooms_number);
+      rooms = c.requires.rooms;
+      split = ([], sym (ap length c.requires.none), refl);
+      later = subst (λ (xs : List (Standing g.row.B.Denot)). AreLater g.B.Bay.files g.B.Faulty.faults g.B.Faulty.mark bays (bays_of xs ++ bays)) (sym c.requires.none)
+          (are_same g.B.Bay.files g.B.Faulty.faults g.B.Faulty.mark bays);
+      journals = subst (λ (xs : List (Standing g.row.B.Denot)). AreJournalsSame g.B.Bay.files bays (bays_of xs ++ bays)) (sym c.requires.none) (journals_same g.B.Bay.files bays);
+      stays_sound = subst (λ (xs : List (Standing g.row.B.Denot)). AreSoundStill g.B.Bay.files c.args.settings.now bays (bays_of xs ++ bays)) (sym c.requires.none)
+          (sound_same g.B.Bay.files c.args.settings.now bays);
+      throughout = subst (λ (xs : List (Standing g.row.B.Denot)). AreSpared (bays_in g) c.args.settings.now bays (bays_of xs ++ bays)) (sym c.requires.none)
+          (throughout_same (bays_in g) (lawful g) c.args.settings.now bays);
+      open_cones = λ place cone is _ _. absurd (omega (arith, slice_get_within c.args.cones.now.items place cone is, ap length c.requires.none));
+      room = refl;
+      cones_room = c.requires.cones_room;
+    }
+
+pub push_reserved-requires : goal.push_reserved-requires
+push_reserved-requires g c =
+    let here = c.loop-number.invariant in
+    omega (arith, here.number, here.cones_room, c.loop-number-test.true, c.cones-number-end.ensures, c.loop-number.cones.ok)
+
+pub push_front_reserved-requires : goal.push_front_reserved-requires
+push_front_reserved-requires g c =
+    let here = c.loop-number.invariant in
+    omega (
+      arith,
+      c.pop_front.ensures.capacity,
+      here.room,
+      c.requires.room,
+      ap length c.in-Some.ensures.items,
+      ap length here.split.2,
+      length-append here.split.0 c.loop-number.bays.items,
+      c.pop_front.new.self.ok,
+    )
+
+pub reopen-requires-clause-named : goal.reopen-requires-clause-named
+reopen-requires-clause-named g c =
+    let popped = All-pop (IsNewRoom c.args.settings.now) c.loop-number.rooms.items c.pop.new.self.items (Some c.in-Some-pop.room) c.in-Some-pop.ensures.items c.loop-number.invariant.rooms in
+    let below : c.loop-number.number < 2 ^ c.args.settings.now.cone_bits = omega (arith, c.loop-number-test.true, c.cones-number-end.ensures) in
+    subst (λ (n : Numbers). c.loop-number.number < 2 ^ n.cone_bits) (sym popped.1.0) below
+
+pub reopen-requires-clause-room : goal.reopen-requires-clause-room
+reopen-requires-clause-room g c =
+    (All-pop (IsNewRoom c.args.settings.now) c.loop-number.rooms.items c.pop.new.self.items (Some c.in-Some-pop.room) c.in-Some-pop.ensures.items c.loop-number.invariant.rooms).1.1
