@@ -2,7 +2,7 @@
 //!
 //! Level 0 counts each tail in a table a bin, and keeps a bound of all of them, which refuses most tails at two bytes.
 //! A row has the bins of a level, oldest first, each in a frame of its own. The rows move on through a flush and are named by
-//! a directory, and their frames are checked. Bins are read and written in the crates above.
+//! a directory, and their frames are checked. Bins are read as `streams` and written as `landing`s.
 
 mod bin_at;
 mod check;

@@ -3,7 +3,7 @@
 //! The one contract is that of `Order`: the pieces come one by one with the number of their stream, each from the front
 //! of that stream, in ascending tails, and equal tails in any order. It asks a set of streams by number (`Streams`), of
 //! which a vector is one (`Each`), and takes no memory: `Ahead` has what it reads ahead, and serves one order after
-//! another. The sums of lert_merge stand on it.
+//! another. `Merge` stands on it, and so does a flush.
 
 mod ahead;
 mod each;
