@@ -3,7 +3,7 @@ use Rattle.std.proofs.Common.{◌≡◌, ◌≤◌, List, [], ◌∷◌, Some, N
 use Rattle.lert_spec.specs.declared.piece.Piece.{Piece}
 use Rattle.lert_merge.specs.declared.sums.Giver.{Giver}
 use Rattle.lert_merge.specs.Givers.{share_in, sum_below, AreGivers}
-use Rattle.lert_merge.specs.Merging.{behind, count_in, part_in}
+use Rattle.lert_merge.specs.Merging.{behind, count_in_all, part_summed}
 
 abbrev two : List Giver
 two = record { stream = 1; count = 3 } ∷ record { stream = 0; count = 2 } ∷ []
@@ -17,13 +17,13 @@ two_givers = record { counted = (let some : 1 ≤ 3 = omega arith in some, (let 
 abbrev lists : List (List Piece)
 lists = (record { tail = 1; count = 2 } ∷ record { tail = 5; count = 1 } ∷ []) ∷ (record { tail = 1; count = 3 } ∷ []) ∷ [] ∷ []
 
-pub counts : (count_in lists 1 ≡ 5) × (count_in lists 5 ≡ 1) × (count_in lists 4 ≡ 0)
+pub counts : (count_in_all lists 1 ≡ 5) × (count_in_all lists 5 ≡ 1) × (count_in_all lists 4 ≡ 0)
 counts = (refl, refl, refl)
 
 pub left : (behind 1 (record { tail = 1; count = 2 } ∷ record { tail = 5; count = 1 } ∷ []) ≡ record { tail = 5; count = 1 } ∷ [])
     × (behind 1 (record { tail = 5; count = 1 } ∷ []) ≡ record { tail = 5; count = 1 } ∷ []) × (behind 1 [] ≡ [])
 left = (refl, refl, refl)
 
-pub parts : (part_in (Some (record { tail = 1; count = 5 })) 3 ≡ record { tail = 1; count = 3 } ∷ []) × (part_in (Some (record { tail = 1; count = 5 })) 0 ≡ [])
-    × (part_in None 0 ≡ [])
+pub parts : (part_summed (Some (record { tail = 1; count = 5 })) 3 ≡ record { tail = 1; count = 3 } ∷ []) × (part_summed (Some (record { tail = 1; count = 5 })) 0 ≡ [])
+    × (part_summed None 0 ≡ [])
 parts = (refl, refl, refl)

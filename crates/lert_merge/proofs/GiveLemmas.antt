@@ -5,10 +5,10 @@ use Rattle.std.proofs.lemmas.List.{get_or-map, length-map}
 use Rattle.lert_spec.specs.declared.piece.Piece.{Piece}
 use Rattle.lert_spec.specs.Table.{count_of}
 use Rattle.lert_merge.specs.order.Fronts.{pieces_of, front_at}
-use Rattle.lert_merge.specs.order.Ordering.{Ordering, part_in as order_part, Tells as OrderTells, AreEnded as IsOrderEnded}
+use Rattle.lert_merge.specs.order.Ordering.{Ordering, part_in, Tells, AreEnded}
 use Rattle.lert_merge.specs.declared.order.streams.Streams.{Ghosts as StreamsOf}
 use Rattle.lert_merge.specs.Givers.{Taking, share_in, sum_below}
-use Rattle.lert_merge.specs.Merging.{Merging, IsMerging, HasTaken, Gives, Tells, IsNext, AreShares, IsBelowOne, taken_of, share_of, behind}
+use Rattle.lert_merge.specs.Merging.{Merging, IsMerging, HasSummed, GivesSum, TellsSums, IsNextSum, AreShares, IsBelowOne, taken_of, share_of, behind}
 use Rattle.lert_merge.proofs.GiverLemmas.{sum_same, sum_list, some_shared}
 use Rattle.lert_merge.proofs.PartLemmas.{IsShared, shared_is}
 use Rattle.lert_merge.proofs.StepLemmas.{HasStepped, comes_then}
@@ -23,7 +23,7 @@ pub record IsGivenFor {S : Type 0} (m after : Merging S) (y : Ordering S) (given
   pub small : q.count < 2 ^ 63
   pub givers : after.sums.given ≡ m.sums.taken
   pub last : after.sums.last ≡ Some m.sums.tail
-  pub hand : (k : ℕ) → taken_of after k ≡ order_part given k
+  pub hand : (k : ℕ) → taken_of after k ≡ part_in given k
   pub above : IfSome given (λ g. m.sums.tail < g.1.tail)
 
 module _ {S C : Type 0} (members : StreamsOf S C) (faults mark : C → ℕ) (a b : C) (m after : Merging S) (y : Ordering S) (given : Option (ℕ × Piece)) (q : Piece)
@@ -42,16 +42,16 @@ module _ {S C : Type 0} (members : StreamsOf S C) (faults mark : C → ℕ) (a b
       let inside : one.0 < members.count m.order.streams = one.1 in let many : members.count after.order.streams ≡ members.count m.order.streams = as_many in
       let tail : q.tail ≡ m.sums.tail = gave.tail in record { stream = one.0; within = omega arith; below = omega arith }
 
-  taken_then : (k : ℕ) (pieces : List Piece) → k < members.count m.order.streams → HasTaken members m k pieces →
-      HasTaken members after k (pieces ++ pieces_of q.tail (share_of after k))
+  taken_then : (k : ℕ) (pieces : List Piece) → k < members.count m.order.streams → HasSummed members m k pieces →
+      HasSummed members after k (pieces ++ pieces_of q.tail (share_of after k))
   taken_then k pieces under was =
-      let shape : (pieces ++ taken_of m k) ++ order_part given k ≡ (pieces ++ pieces_of q.tail (share_of after k)) ++ taken_of after k =
+      let shape : (pieces ++ taken_of m k) ++ part_in given k ≡ (pieces ++ pieces_of q.tail (share_of after k)) ++ taken_of after k =
       ap (λ xs. (pieces ++ taken_of m k) ++ xs) (sym (gave.hand k)) ∙
       (λ j. (pieces ++ pieces_of (sym gave.tail j) (sym (share_is k) j)) ++ taken_of after k) in
       subst (λ (order : Ordering S). members.given order.streams k ≡ ((pieces ++ pieces_of q.tail (share_of after k)) ++ taken_of after k) ++ front_at order.ahead k)
       (sym gave.order) (stepped.taken k (pieces ++ taken_of m k) under was ∙ ap (λ xs. xs ++ front_at y.ahead k) shape)
 
-  pub gives_sum : Gives members m after (Some q)
+  pub gives_sum : GivesSum members m after (Some q)
   gives_sum = record {
     above = λ last was. let up : last < m.sums.tail = is.above gave.some last was in let tail : q.tail ≡ m.sums.tail = gave.tail in omega arith;
     below = below_one;
@@ -64,8 +64,8 @@ module _ {S C : Type 0} (members : StreamsOf S C) (faults mark : C → ℕ) (a b
     nothing = λ no. absurd (cc (no));
   }
 
-  pub told_sum : (lists : List (List Piece)) → Tells members a m lists →
-      IsNext lists q × AreShares after lists q.tail × Tells members b after (map (behind q.tail) lists)
+  pub told_sum : (lists : List (List Piece)) → TellsSums members a m lists →
+      IsNextSum lists q × AreShares after lists q.tail × TellsSums members b after (map (behind q.tail) lists)
   told_sum lists tells =
       let come = comes_then members faults mark a b m.order y given tells.rest stepped tells.told in
       let long : length lists ≡ length tells.rest = tells.len in
@@ -85,7 +85,7 @@ module _ {S C : Type 0} (members : StreamsOf S C) (faults mark : C → ℕ) (a b
         (λ k under. (shared k under).count),
         record {
           rest = come.rest;
-          told = subst (λ (order : Ordering S). OrderTells members b order come.rest) (sym gave.order) come.told;
+          told = subst (λ (order : Ordering S). Tells members b order come.rest) (sym gave.order) come.told;
           len = length-map lists (behind q.tail) ∙ long ∙ sym come.len;
           each = λ k under. let under_lists : k < length lists = let same : length (map (behind q.tail) lists) ≡ length lists = length-map lists (behind q.tail) in omega arith in
               get_or-map (behind q.tail) lists k [] [] under_lists ∙ (shared k under_lists).left ∙ come.each k (omega arith) ∙
@@ -95,7 +95,7 @@ module _ {S C : Type 0} (members : StreamsOf S C) (faults mark : C → ℕ) (a b
 
 -- the order is over, and nothing was in hand
 pub gives_end : {S C : Type 0} (members : StreamsOf S C) (faults mark : C → ℕ) (a b : C) (m after : Merging S) (y : Ordering S) →
-    HasStepped members faults mark a m.order b y None → m.sums.taken ≡ [] → after.order ≡ y → after.sums ≡ m.sums → Gives members m after None
+    HasStepped members faults mark a m.order b y None → m.sums.taken ≡ [] → after.order ≡ y → after.sums ≡ m.sums → GivesSum members m after None
 gives_end {S} members faults mark a b m after y stepped none order sums = record {
   above = tt;
   below = tt;
@@ -107,6 +107,6 @@ gives_end {S} members faults mark a b m after y stepped none order sums = record
       (λ j. sym (append-nil pieces) j ++ pieces_of (sym sums j).tail (share_in (sym sums j).taken k)) in
       subst (λ (x : Ordering S). members.given x.streams k ≡ ((pieces ++ []) ++ taken_of after k) ++ front_at x.ahead k) (sym order)
       (stepped.taken k (pieces ++ taken_of m k) under was ∙ ap (λ xs. xs ++ front_at y.ahead k) shape);
-  over = λ is. record { order = subst (λ (x : Ordering S). IsOrderEnded members x) (sym order) (stepped.over refl); none = ap (λ (s : Taking). s.taken) sums ∙ none };
+  over = λ is. record { order = subst (λ (x : Ordering S). AreEnded members x) (sym order) (stepped.over refl); none = ap (λ (s : Taking). s.taken) sums ∙ none };
   nothing = λ is. (ap (λ (s : Taking). s.last) sums, λ k. ap (λ (s : Taking). share_in s.given k) sums);
 }

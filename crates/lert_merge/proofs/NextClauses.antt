@@ -3,15 +3,15 @@ use Rattle.std.proofs.Common.{◌≡◌, ℕ, ◌<◌, ◌≤◌, ◌^◌, Optio
 use Rattle.lert_base.specs.declared.pieces.PieceFault.{PieceFault}
 use Rattle.lert_spec.specs.declared.piece.Piece.{Piece}
 use Rattle.lert_io.specs.Fault.{HasRisen}
-use Rattle.lert_merge.specs.order.Ordering.{AreOver, Breaks}
+use Rattle.lert_merge.specs.order.Ordering.{AreOver, Breaks, IsNothingGiven}
 use Rattle.lert_merge.specs.declared.order.streams.Streams.{Ghosts as StreamsOf}
 use Rattle.lert_merge.specs.Givers.{sum_below}
-use Rattle.lert_merge.specs.Merging.{Merging, HasTurned, turn_of, Tells, HasTaken, part_in, IsNext, AreShares, IsAbove, IsBelowOne, IsNothingGiven, AreEnded, share_of, behind}
+use Rattle.lert_merge.specs.Merging.{Merging, HasTurned, turn_of, TellsSums, HasSummed, part_summed, IsNextSum, AreShares, IsAbove, IsBelowOne, AreSummedUp, share_of, behind}
 
 module _ {S C : Type 0} (members : StreamsOf S C) (faults mark : C → ℕ) (a b : C) (old new : Merging S) where
   pub told_of : (result : Result (Option Piece) PieceFault) → HasTurned members faults mark a old b new (turn_of result) → (lists : List (List Piece)) →
-      Tells members a old lists → IfOk result (λ piece. MatchOption piece (AreOver lists × Tells members b new lists)
-      (λ p. IsNext lists p × AreShares new lists p.tail × Tells members b new (map (behind p.tail) lists)))
+      TellsSums members a old lists → IfOk result (λ piece. MatchOption piece (AreOver lists × TellsSums members b new lists)
+      (λ p. IsNextSum lists p × AreShares new lists p.tail × TellsSums members b new (map (behind p.tail) lists)))
   told_of (Ok piece) turned lists tells = turned.told lists tells
   told_of (Err fault) turned lists tells = tt
 
@@ -41,17 +41,17 @@ module _ {S C : Type 0} (members : StreamsOf S C) (faults mark : C → ℕ) (a b
   small_of (Err fault) turned = tt
 
   pub taken_of_it : (result : Result (Option Piece) PieceFault) → HasTurned members faults mark a old b new (turn_of result) →
-      IfOk result (λ piece. (k : ℕ) (pieces : List Piece) → k < members.count old.order.streams → HasTaken members old k pieces →
-      HasTaken members new k (pieces ++ part_in piece (share_of new k)))
+      IfOk result (λ piece. (k : ℕ) (pieces : List Piece) → k < members.count old.order.streams → HasSummed members old k pieces →
+      HasSummed members new k (pieces ++ part_summed piece (share_of new k)))
   taken_of_it (Ok piece) turned = turned.moved.taken
   taken_of_it (Err fault) turned = tt
 
   pub refused_of : (result : Result (Option Piece) PieceFault) → HasTurned members faults mark a old b new (turn_of result) →
-      OnErr result ((k : ℕ) (pieces : List Piece) → k < members.count old.order.streams → HasTaken members old k pieces → HasTaken members new k pieces)
+      OnErr result ((k : ℕ) (pieces : List Piece) → k < members.count old.order.streams → HasSummed members old k pieces → HasSummed members new k pieces)
   refused_of (Ok piece) turned = tt
   refused_of (Err fault) turned = turned.moved.taken
 
-  pub over_of : (result : Result (Option Piece) PieceFault) → HasTurned members faults mark a old b new (turn_of result) → result ≡ Ok None → AreEnded members new
+  pub over_of : (result : Result (Option Piece) PieceFault) → HasTurned members faults mark a old b new (turn_of result) → result ≡ Ok None → AreSummedUp members new
   over_of (Ok piece) turned is = turned.moved.over (let none : piece ≡ None = cc (is) in none)
   over_of (Err fault) turned is = absurd (cc (is))
 

@@ -5,7 +5,7 @@ use Rattle.lert_base.specs.declared.pieces.PieceFault.{PieceFault}
 use Rattle.lert_io.specs.Fault.{HasRisen}
 use Rattle.lert_io.proofs.Rising.{risen_since}
 use Rattle.lert_spec.specs.declared.piece.Piece.{Piece}
-use Rattle.lert_merge.specs.order.Ordering.{Ordering, AreKnown, AreSame, Breaks, HasTaken as OrderHasTaken}
+use Rattle.lert_merge.specs.order.Ordering.{Ordering, AreKnown, AreSame, Breaks, HasTaken}
 use Rattle.lert_merge.specs.declared.order.streams.Streams.{Ghosts as StreamsOf}
 use Rattle.lert_merge.proofs.order.AskLemmas.{AreLawful}
 use Rattle.lert_merge.proofs.order.FrontLemmas.{pieces_none}
@@ -14,12 +14,12 @@ use Rattle.lert_merge.proofs.order.ToldLemmas.{are_over}
 use Rattle.lert_merge.specs.declared.merge.Turn.{Turn}
 use Rattle.lert_merge.specs.declared.merge.Turn.TheVariants.{Taken, Given}
 use Rattle.lert_merge.specs.Givers.{share_in, AreGivers}
-use Rattle.lert_merge.specs.Merging.{Merging, IsMerging, AreEnded, HasTaken, Keeps, Gives, Moves, HasTurned, taken_of}
+use Rattle.lert_merge.specs.Merging.{Merging, IsMerging, AreSummedUp, HasSummed, Keeps, GivesSum, Moves, HasTurned, taken_of}
 use Rattle.lert_merge.proofs.GiverLemmas.{share_none}
 
 -- the clauses of a step that was refused
 pub record IsRefused {S C : Type 0} (members : StreamsOf S C) (faults mark : C → ℕ) (a : C) (x : Ordering S) (b : C) (y : Ordering S) (fault : PieceFault) : Type 0 where
-  pub taken : (k : ℕ) (pieces : List Piece) → k < members.count x.streams → OrderHasTaken members x k pieces → OrderHasTaken members y k pieces
+  pub taken : (k : ℕ) (pieces : List Piece) → k < members.count x.streams → HasTaken members x k pieces → HasTaken members y k pieces
   pub untold : (k : ℕ) → k < members.count x.streams → members.to_come x.streams k a ≡ None → members.to_come y.streams k b ≡ None
   pub last : y.last ≡ x.last
   pub failed : fault ≡ PieceFault.Failed → HasRisen (faults a) (faults b)
@@ -87,7 +87,7 @@ keeps_on members x y z many one two = record {
 }
 
 gives_on : {S C : Type 0} (members : StreamsOf S C) (x y z : Merging S) (given : Option Piece) → members.count y.order.streams ≡ members.count x.order.streams →
-    Keeps members x y → Gives members y z given → Gives members x z given
+    Keeps members x y → GivesSum members y z given → GivesSum members x z given
 gives_on {S} members x y z given many one two = record {
   above = subst (λ last. IfSome given (λ p. (before : ℕ) → last ≡ Some before → before < p.tail)) one.last two.above;
   below = two.below;
@@ -152,7 +152,7 @@ turned_none members laws faults mark ctx m = record {
 }
 
 -- a merge that is over
-pub turned_ended : {S C : Type 0} (members : StreamsOf S C) (laws : AreLawful members) (faults mark : C → ℕ) (ctx : C) (m : Merging S) → AreEnded members m →
+pub turned_ended : {S C : Type 0} (members : StreamsOf S C) (laws : AreLawful members) (faults mark : C → ℕ) (ctx : C) (m : Merging S) → AreSummedUp members m →
     HasTurned members faults mark ctx m ctx m (Ok (Given None))
 turned_ended members laws faults mark ctx m ended =
     let none = turned_none members laws faults mark ctx m in record {
@@ -166,7 +166,7 @@ turned_ended members laws faults mark ctx m ended =
         last = tt;
         sum = tt;
         small = tt;
-        taken = λ k pieces under was. subst (HasTaken members m k) (sym (append-nil pieces)) was;
+        taken = λ k pieces under was. subst (HasSummed members m k) (sym (append-nil pieces)) was;
         over = λ none. ended;
         nothing = λ none. (refl, λ k. refl);
       };

@@ -4,14 +4,14 @@ use Rattle.std.proofs.Common.{ap, ap₂, ◌∙◌, refl, subst, false, inl, inr
 use Rattle.std.proofs.lemmas.Bool.{cases_eq}
 use Rattle.lert_spec.specs.declared.piece.Piece.{Piece}
 use Rattle.lert_merge.specs.order.Fronts.{pieces_of, front_at}
-use Rattle.lert_merge.specs.order.Ordering.{Ordering, HasTaken as OrderHasTaken, part_in}
+use Rattle.lert_merge.specs.order.Ordering.{Ordering, HasTaken, part_in}
 use Rattle.lert_merge.specs.declared.order.streams.Streams.{Ghosts as StreamsOf}
 use Rattle.lert_merge.proofs.order.FrontLemmas.{pieces_some, pieces_none}
 use Rattle.lert_merge.proofs.order.GiveLemmas.{part_here, part_else}
 use Rattle.lert_merge.proofs.order.OrderLemmas.{ascends_last}
 use Rattle.lert_merge.specs.declared.sums.Giver.{Giver}
 use Rattle.lert_merge.specs.Givers.{share_in, AreGivers}
-use Rattle.lert_merge.specs.Merging.{Merging, IsMerging, IsPart, Keeps, Tells, taken_of}
+use Rattle.lert_merge.specs.Merging.{Merging, IsMerging, IsPart, Keeps, TellsSums, taken_of}
 use Rattle.lert_merge.proofs.GiverLemmas.{share_here, share_else, share_none, givers_push, givers_less}
 use Rattle.lert_merge.proofs.StepLemmas.{HasStepped, comes_then}
 
@@ -32,7 +32,7 @@ pub part_on : {S C : Type 0} (members : StreamsOf S C) (faults mark : C → ℕ)
     HasStepped members faults mark a x b y given → k < members.count x.streams → part_in given k ≡ [] → IsPart members x tail k share → IsPart members y tail k share
 part_on members faults mark a b x y given tail k share stepped under none part = record {
   front = part.front;
-  taken = subst (OrderHasTaken members y k) (ap (λ xs. (part.front ++ record { tail = tail; count = share } ∷ []) ++ xs) none ∙
+  taken = subst (HasTaken members y k) (ap (λ xs. (part.front ++ record { tail = tail; count = share } ∷ []) ++ xs) none ∙
       append-nil (part.front ++ record { tail = tail; count = share } ∷ []))
       (stepped.taken k (part.front ++ record { tail = tail; count = share } ∷ []) under part.taken);
   below = let same : members.limit y.streams k ≡ members.limit x.streams k = stepped.same.limits k under in
@@ -103,7 +103,7 @@ module _ {S C : Type 0} (members : StreamsOf S C) (faults mark : C → ℕ) (a b
     shares = λ k. refl;
   }
 
-  pub told_taken : IsOwn m p.tail → (lists : List (List Piece)) → Tells members a m lists → Tells members b (taken_after m y i p) lists
+  pub told_taken : IsOwn m p.tail → (lists : List (List Piece)) → TellsSums members a m lists → TellsSums members b (taken_after m y i p) lists
   told_taken own lists tells =
       let come = comes_then members faults mark a b m.order y (Some (i, p)) tells.rest stepped tells.told in record {
         rest = come.rest;
@@ -117,7 +117,7 @@ module _ {S C : Type 0} (members : StreamsOf S C) (faults mark : C → ℕ) (a b
   pub part_new : IsPart members y p.tail i p.count
   part_new = let before = stepped.held i within in record {
     front = before.0;
-    taken = subst (λ xs. OrderHasTaken members y i (before.0 ++ xs)) (part_here i p) (stepped.taken i before.0 within before.1);
+    taken = subst (λ xs. HasTaken members y i (before.0 ++ xs)) (part_here i p) (stepped.taken i before.0 within before.1);
     below = stepped.below.below;
   }
 

@@ -4,7 +4,7 @@ use Rattle.std.proofs.Common.{arith, sym, ap, ◌∙◌, refl, subst, inl, inr, 
 use Rattle.std.proofs.lemmas.Bool.{cases_eq}
 use Rattle.lert_spec.specs.declared.piece.Piece.{Piece}
 use Rattle.lert_merge.specs.order.Fronts.{pieces_of}
-use Rattle.lert_merge.specs.order.Ordering.{AreSame, HasTaken as OrderHasTaken, Ordering, part_in as order_part}
+use Rattle.lert_merge.specs.order.Ordering.{AreSame, Ordering, part_in}
 use Rattle.lert_merge.specs.declared.order.streams.Streams.{Ghosts as StreamsOf}
 use Rattle.lert_merge.proofs.order.FrontLemmas.{pieces_some, pieces_none}
 use Rattle.lert_merge.proofs.order.GiveLemmas.{part_here, part_else}
@@ -12,7 +12,7 @@ use Rattle.lert_merge.specs.declared.merge.Turn.{Turn}
 use Rattle.lert_merge.specs.declared.merge.Turn.TheVariants.{Taken, Given}
 use Rattle.lert_merge.specs.declared.sums.Giver.{Giver}
 use Rattle.lert_merge.specs.Givers.{Taking, share_in, AreGivers, IsSum}
-use Rattle.lert_merge.specs.Merging.{Merging, IsMerging, IsPart, Moves, ComesBehind, HasTurned, Tells}
+use Rattle.lert_merge.specs.Merging.{Merging, IsMerging, IsPart, Moves, ComesBehind, HasTurned, TellsSums}
 use Rattle.lert_merge.proofs.GiverLemmas.{givers_none, givers_push, givers_less, share_none, share_first, share_later}
 use Rattle.lert_merge.proofs.StepLemmas.{HasStepped}
 use Rattle.lert_merge.proofs.TakeLemmas.{IsOwn, taken_after, within, not_yet, keeps_taken, told_taken, stands_taken, part_new}
@@ -37,7 +37,7 @@ begun_stands members order sums few room same empty last = record {
 -- a turn of what a step of the order says, where it did not refuse
 turned : {S C : Type 0} (members : StreamsOf S C) (faults mark : C → ℕ) (a b : C) (m seen after : Merging S) (given : Option (ℕ × Piece)) (turn : Turn) → m ≡ seen →
     HasStepped members faults mark a m.order b after.order given → Moves members m after (Ok turn) →
-    ((lists : List (List Piece)) → Tells members a m lists → ComesBehind members b after lists (Ok turn)) → HasTurned members faults mark a seen b after (Ok turn)
+    ((lists : List (List Piece)) → TellsSums members a m lists → ComesBehind members b after lists (Ok turn)) → HasTurned members faults mark a seen b after (Ok turn)
 turned {S} members faults mark a b m seen after given turn is stepped moved told =
     subst (λ (m : Merging S). HasTurned members faults mark a m b after (Ok turn)) is (record {
       same = stepped.same;
@@ -65,9 +65,9 @@ none_is None never = refl
 none_is (Some x) never = absurd (never x refl)
 
 -- one piece in hand
-hand_one : (i k : ℕ) (p : Piece) → 1 ≤ p.count → pieces_of p.tail (share_in (record { stream = i; count = p.count } ∷ []) k) ≡ order_part (Some (i, p)) k
+hand_one : (i k : ℕ) (p : Piece) → 1 ≤ p.count → pieces_of p.tail (share_in (record { stream = i; count = p.count } ∷ []) k) ≡ part_in (Some (i, p)) k
 hand_one i k p some = let giver : Giver = record { stream = i; count = p.count } in elim (cases_eq k i) [
-  | inl same ↦ subst (λ (n : ℕ). pieces_of p.tail (share_in (giver ∷ []) n) ≡ order_part (Some (i, p)) n) (sym same)
+  | inl same ↦ subst (λ (n : ℕ). pieces_of p.tail (share_in (giver ∷ []) n) ≡ part_in (Some (i, p)) n) (sym same)
       (ap (λ share. pieces_of p.tail share) (share_first giver [] i refl) ∙ pieces_some p.tail p.count some ∙ sym (part_here i p))
   | inr ne ↦ pieces_none p.tail (share_in (giver ∷ []) k) (share_later giver [] k (λ same. ne (sym same))) ∙ sym (part_else i k p ne)
 ]
@@ -222,20 +222,3 @@ module _ {S C : Type 0} (members : StreamsOf S C) (faults mark : C → ℕ) (a b
       (not_yet members faults mark a b m y i p is stepped own) in
       subst (λ (n : Merging S). (m.is_over ≡ false) × (length sums.taken ≡ length n.sums.taken + 1) × (length sums.taken ≤ members.count n.order.streams)) same
       (going, is_long, omega arith)
-
--- a step of the order alone, where nothing is in hand
-pub stepped_stands : {S C : Type 0} (members : StreamsOf S C) (a b : C) (m seen : Merging S) (y : Ordering S) → m ≡ seen → IsMerging members m →
-    seen.sums.taken ≡ [] → seen.is_over ≡ false → AreSame members a m.order b y → IsMerging members (record { order = y; sums = m.sums; is_over = m.is_over })
-stepped_stands {S} members a b m seen y at is hand over same =
-    let empty : m.sums.taken ≡ [] = subst (λ (n : Merging S). n.sums.taken ≡ []) (sym at) hand in
-    let going : m.is_over ≡ false = subst (λ (n : Merging S). n.is_over ≡ false) (sym at) over in
-    let many : members.count y.streams ≡ members.count m.order.streams = same.streams in
-    let few : members.count m.order.streams ≤ 65535 = is.few in let room : members.count m.order.streams ≤ m.sums.room = is.room in
-    subst (λ (b : Bool). IsMerging members (record { order = y; sums = m.sums; is_over = b })) (sym going)
-    (begun_stands members y m.sums (omega arith) (omega arith) (same.room ∙ is.same_room) empty (is.first empty going))
-
-pub held_seen : {S C : Type 0} (members : StreamsOf S C) (m seen : Merging S) → m ≡ seen →
-    ((k : ℕ) → k < members.count m.order.streams → (pieces : List Piece) × OrderHasTaken members m.order k pieces) →
-    (k : ℕ) → k < members.count seen.order.streams → (pieces : List Piece) × OrderHasTaken members seen.order k pieces
-held_seen {S} members m seen at held =
-    subst (λ (n : Merging S). (k : ℕ) → k < members.count n.order.streams → (pieces : List Piece) × OrderHasTaken members n.order k pieces) at held

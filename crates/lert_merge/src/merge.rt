@@ -1,13 +1,11 @@
 //! The merge.
 
-ghost use Rattle.std.specs.Prelude.{◌≡◌, ℕ, ◌<◌, ◌≤◌, ◌^◌, ◌+◌, IsTrue, List, ◌++◌, ◌∷◌, [], length, map, slice_set, true, false, Some, None, Ok, Err, MatchOption, IfSome, IfOk, OnOk, OnErr};
+ghost use Rattle.std.specs.Prelude.{◌≡◌, ℕ, ◌<◌, ◌≤◌, ◌^◌, ◌+◌, IsTrue, List, ◌++◌, ◌∷◌, [], length, map, true, false, Some, None, Ok, Err, MatchOption, IfSome, IfOk, OnErr};
 ghost use Rattle.lert_io.specs.Fault.{HasRisen};
 ghost use Rattle.lert_spec.specs.declared.piece.Piece.{Piece};
-ghost use Rattle.lert_spec.specs.Table.{AreGiven};
-ghost use Rattle.lert_merge.specs.order.Ordering.{AreOver, AreKnown, AreSame, Breaks, IsNotBelow, IsBelow};
-ghost use Rattle.lert_merge.specs.order.Ordering.{Tells as OrderTells, HasTaken as OrderHasTaken, IsNext as OrderIsNext, part_in as order_part, AreEnded as IsOrderEnded, IsNothingGiven as IsNoneGiven};
+ghost use Rattle.lert_merge.specs.order.Ordering.{AreOver, AreSame, Breaks, IsNothingGiven};
 ghost use Rattle.lert_merge.specs.Givers.{sum_below};
-ghost use Rattle.lert_merge.specs.Merging.{Merging, Tells, HasTaken, part_in, IsNext, AreShares, IsAbove, IsBelowOne, IsNothingGiven, AreEnded, HasTurned, share_of, behind, turn_of};
+ghost use Rattle.lert_merge.specs.Merging.{Merging, TellsSums, HasSummed, part_summed, IsNextSum, AreShares, IsAbove, IsBelowOne, AreSummedUp, HasTurned, share_of, behind, turn_of};
 
 use crate::heads::Heads;
 use crate::order::{Order, Streams};
@@ -57,6 +55,7 @@ impl<C: Faulty, S: Streams<C>> Merge<C, S> {
         ensures shares { (k : ℕ) → share_of result k ≡ 0 }
         ensures last { result.sums.last ≡ None }
         ensures room { result.sums.room ≡ heads.room }
+        ensures ahead { result.order.ahead.room ≡ heads.room }
         ensures going { result.is_over ≡ false }
     {
         let Heads { ahead, mut sums } = heads;
@@ -75,10 +74,10 @@ impl<C: Faulty, S: Streams<C>> Merge<C, S> {
     #[inline]
     pub fn next(&mut self, ctx: &mut C) -> Result<Option<Piece>, PieceFault>
         // Where the context tells, the pieces of the least tail are taken from the front of all lists.
-        ensures told { (lists : List (List Piece)) → Tells S.Streams ctx.old self.old lists → IfOk result (λ piece.
-            MatchOption piece (AreOver lists × Tells S.Streams ctx.new self.new lists) (λ p.
-            IsNext lists p × AreShares self.new lists p.tail ×
-            Tells S.Streams ctx.new self.new (map (behind p.tail) lists))) }
+        ensures told { (lists : List (List Piece)) → TellsSums S.Streams ctx.old self.old lists → IfOk result (λ piece.
+            MatchOption piece (AreOver lists × TellsSums S.Streams ctx.new self.new lists) (λ p.
+            IsNextSum lists p × AreShares self.new lists p.tail ×
+            TellsSums S.Streams ctx.new self.new (map (behind p.tail) lists))) }
         ensures untold { (k : ℕ) → k < S.count self.old.order.streams →
             S.to_come self.old.order.streams k ctx.old ≡ None → S.to_come self.new.order.streams k ctx.new ≡ None }
 
@@ -90,11 +89,11 @@ impl<C: Faulty, S: Streams<C>> Merge<C, S> {
             p.count ≡ sum_below (share_of self.new) (S.count self.new.order.streams))) }
         ensures small { IfOk result (λ piece. IfSome piece (λ p. (1 ≤ p.count) × (p.count < 2 ^ 63))) }
         ensures taken { IfOk result (λ piece. (k : ℕ) (pieces : List Piece) → k < S.count self.old.order.streams →
-            HasTaken S.Streams self.old k pieces →
-            HasTaken S.Streams self.new k (pieces ++ part_in piece (share_of self.new k))) }
+            HasSummed S.Streams self.old k pieces →
+            HasSummed S.Streams self.new k (pieces ++ part_summed piece (share_of self.new k))) }
         ensures refused { OnErr result ((k : ℕ) (pieces : List Piece) → k < S.count self.old.order.streams →
-            HasTaken S.Streams self.old k pieces → HasTaken S.Streams self.new k pieces) }
-        ensures over { result ≡ Ok None → AreEnded S.Streams self.new }
+            HasSummed S.Streams self.old k pieces → HasSummed S.Streams self.new k pieces) }
+        ensures over { result ≡ Ok None → AreSummedUp S.Streams self.new }
         ensures nothing_given { IsNothingGiven result → (self.new.sums.last ≡ self.old.sums.last) ×
             ((k : ℕ) → share_of self.new k ≡ share_of self.old k) }
 
@@ -114,60 +113,10 @@ impl<C: Faulty, S: Streams<C>> Merge<C, S> {
         self.advance(ctx)
     }
 
-    /// The next piece of one stream, as the order gives it, in place of the sum of its tail. Only a merge that gave no
-    /// sum so far may be asked for it.
-    ///
-    /// After a refusal what was read ahead is as it was, and nothing is said of what is still to come of the stream
-    /// that refused.
-    #[inline]
-    pub fn step(&mut self, ctx: &mut C) -> Result<Option<(usize, Piece)>, PieceFault>
-        requires none { self.old.sums.taken ≡ [] }
-        requires going { self.old.is_over ≡ false }
-        ensures told { (lists : List (List Piece)) → OrderTells S.Streams ctx.old self.old.order lists →
-            IfOk result (λ given.
-            MatchOption given (AreOver lists × OrderTells S.Streams ctx.new self.new.order lists) (λ g.
-            (rest : List Piece) × (OrderIsNext lists g.0 g.1 rest ×
-            OrderTells S.Streams ctx.new self.new.order (slice_set lists g.0 rest)))) }
-        ensures untold { (k : ℕ) → k < S.count self.old.order.streams →
-            S.to_come self.old.order.streams k ctx.old ≡ None → S.to_come self.new.order.streams k ctx.new ≡ None }
-        ensures known { OnOk result (AreKnown S.Streams ctx.old self.old.order ctx.new self.new.order) }
-        ensures above { IfOk result (λ given. IfSome given (λ g. IsNotBelow self.old.order.last g.1.tail)) }
-        ensures below { IfOk result (λ given. IfSome given (λ g.
-            IsBelow S.Streams self.new.order.streams g.0 g.1.tail)) }
-        ensures last { IfOk result (λ given. IfSome given (λ g. self.new.order.last ≡ Some g.1.tail)) }
-        ensures small { IfOk result (λ given. IfSome given (λ g. (1 ≤ g.1.count) × (g.1.count ≤ 2 ^ 47))) }
-        ensures ascending { IfOk result (λ given. IfSome given (λ g. (pieces : List Piece) →
-            OrderHasTaken S.Streams self.old.order g.0 pieces →
-            AreGiven (S.limit self.new.order.streams g.0) (pieces ++ g.1 ∷ []))) }
-        ensures taken { IfOk result (λ given. (k : ℕ) (pieces : List Piece) → k < S.count self.old.order.streams →
-            OrderHasTaken S.Streams self.old.order k pieces →
-            OrderHasTaken S.Streams self.new.order k (pieces ++ order_part given k)) }
-        ensures refused { OnErr result ((k : ℕ) (pieces : List Piece) → k < S.count self.old.order.streams →
-            OrderHasTaken S.Streams self.old.order k pieces → OrderHasTaken S.Streams self.new.order k pieces) }
-        ensures held { (k : ℕ) → k < S.count self.old.order.streams →
-            (pieces : List Piece) × OrderHasTaken S.Streams self.old.order k pieces }
-        ensures over { result ≡ Ok None → IsOrderEnded S.Streams self.new.order }
-        ensures nothing_given { IsNoneGiven result → self.new.order.last ≡ self.old.order.last }
-        ensures sums { self.new.sums ≡ self.old.sums }
-        ensures going { self.new.is_over ≡ false }
-
-        ensures failed { result ≡ Err PieceFault.Failed → HasRisen (C.faults ctx.old) (C.faults ctx.new) }
-        ensures malformed { (at : ℕ) → result ≡ Err (PieceFault.Malformed at) →
-            Breaks S.Streams ctx.old self.old.order.streams at }
-        ensures same { AreSame S.Streams ctx.old self.old.order ctx.new self.new.order }
-        ensures kept { S.same self.old.order.streams self.new.order.streams }
-
-        ensures faults { C.faults ctx.old ≤ C.faults ctx.new }
-        ensures mark { C.mark ctx.new ≡ C.mark ctx.old }
-        ensures keeps { S.keeps ctx.old ctx.new }
-    {
-        self.order.step(ctx)
-    }
-
     // Whether the order is over, and all that was taken of it given.
     #[inline]
     fn is_over(&self) -> bool
-        ensures ended { IsTrue result → AreEnded S.Streams self.now }
+        ensures ended { IsTrue result → AreSummedUp S.Streams self.now }
         ensures going { result ≡ false → self.now.is_over ≡ false }
     {
         self.is_over
@@ -221,6 +170,7 @@ impl<C: Faulty, S: Streams<C>> Merge<C, S> {
     pub fn into_parts(self) -> (S, Heads)
         ensures streams { result.0 ≡ self.order.streams }
         ensures room { result.1.room ≡ self.sums.room }
+        ensures ahead { result.1.room ≡ self.order.ahead.room }
     {
         let Merge {
             order,

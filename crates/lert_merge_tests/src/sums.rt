@@ -12,7 +12,8 @@ use std::process::Abort;
 
 /// The next piece of a merge, none where it is over or refuses.
 fn next_of(merge: &mut Merge<Counting, Each<Sorted>>, ctx: &mut Counting) -> Option<Piece>
-    ensures { length merge.new.order.streams ≡ length merge.old.order.streams }
+    ensures streams { length merge.new.order.streams ≡ length merge.old.order.streams }
+    ensures room { merge.new.order.ahead.room ≡ merge.old.order.ahead.room }
 {
     match merge.next(ctx) {
         Ok(piece) => piece,
@@ -65,7 +66,8 @@ fn sums_of(
 /// A merge of these streams.
 fn merge_of(rt: &impl Abort, alloc: Global, streams: Vec<Sorted>) -> Merge<Counting, Each<Sorted>>
     requires { length streams.items ≤ 65535 }
-    ensures { length result.order.streams ≡ length streams.items }
+    ensures streams { length result.order.streams ≡ length streams.items }
+    ensures room { result.order.ahead.room ≡ length streams.items }
 {
     let heads = Heads::new(alloc, streams.len()).expect(rt, "memory");
     Merge::new(Each::of(streams), heads)
@@ -106,6 +108,20 @@ fn two_streams_give_their_sums_and_shares(rt: HostRuntime) {
     let expected = [1, 5, 2, 3, 4, 1, 0, 1, 5, 1, 1, 0];
     assert!(rt; sums.as_slice() == expected.as_slice());
     assert!(rt; is_over(&mut merge, &mut ctx));
+}
+
+#[test]
+fn a_merge_made_of_the_heads_of_another_begins_anew(rt: HostRuntime) {
+    let mut ctx = Counting { faults: 0 };
+    let mut merge = merge_of(&rt, rt.alloc(), two_streams(&rt, rt.alloc()));
+    let first = next_of(&mut merge, &mut ctx);
+    assert!(rt; matches!(first, Some(Piece { tail: 1, count: 5 })));
+    let (_, heads) = merge.into_parts();
+    let mut again = Merge::new(Each::of(two_streams(&rt, rt.alloc())), heads);
+    let sums = sums_of(&rt, rt.alloc(), &mut again, &mut ctx, 2, 4);
+    let expected = [1, 5, 2, 3, 4, 1, 0, 1, 5, 1, 1, 0];
+    assert!(rt; sums.as_slice() == expected.as_slice());
+    assert!(rt; is_over(&mut again, &mut ctx));
 }
 
 /// A table of three tails at most, each of which stands in it where its bit is set.

@@ -77,8 +77,8 @@ pub record AreEnded {S C : Type 0} (members : StreamsOf S C) (order : Ordering S
   pub all : AreRead members order
   pub ended : (k : ℕ) → k < members.count order.streams → number_at order.ahead.counts k ≡ 0
 
--- no piece came: the order is over, or a stream refused
-abbrev pub IsNothingGiven : Result (Option (ℕ × Piece)) PieceFault → Type 0
+-- no piece came: it is over, or a stream refused
+abbrev pub IsNothingGiven : {T : Type 0} → Result (Option T) PieceFault → Type 0
 IsNothingGiven (Ok None) = Unit {0}
 IsNothingGiven (Ok (Some g)) = ⊥
 IsNothingGiven (Err fault) = Unit {0}

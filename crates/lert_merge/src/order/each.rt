@@ -28,13 +28,6 @@ impl<P> Each<P> {
     {
         Each { streams }
     }
-
-    /// The streams in their order.
-    pub fn into_streams(self) -> Vec<P>
-        ensures { result.items ≡ self }
-    {
-        self.streams
-    }
 }
 
 impl<C: Faulty, P: Pieces<C>> Streams<C> for Each<P> {
