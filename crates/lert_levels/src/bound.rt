@@ -1,8 +1,8 @@
 //! A bound from above of how often a tail came, in two bytes for each of some places.
 //!
-//! The one contract is `Covers`, a relation to two lists of tails: of the generation before and of the present one, no
-//! tail came more often than the bytes of its place say; `CoversCounts` says it where only counts are known. So `may_reach`
-//! refuses no tail that came as often as is asked, and spares level 0 of a cone, which stands on it, most of its counts.
+//! The one contract is `CoversCounts`, a relation to how often each tail came in the generation before and in the present
+//! one: no tail more often than the bytes of its place say. So `may_reach` refuses no tail that came as often as is asked,
+//! and spares level 0 of a cone, which stands on it, most of its counts.
 //! Only `new` takes memory.
 
 mod bound;

@@ -1,14 +1,13 @@
 -- One event more of a tail in the bytes of its place.
-use Rattle.std.proofs.Common.{◌≡◌, ℕ, ◌+◌, ◌%◌, ◌<◌, ◌≤◌, List, [], ◌∷◌, ◌++◌, Bool, true, false, if◌then◌else◌, ◌==◌, length, min, inl, inr, refl, ap, ap₂, sym, ◌∙◌, subst, arith}
+use Rattle.std.proofs.Common.{◌≡◌, ℕ, ◌+◌, ◌%◌, ◌<◌, ◌≤◌, List, Bool, true, false, if◌then◌else◌, ◌==◌, length, min, inl, inr, refl, ap, ap₂, sym, ◌∙◌, subst, arith}
 use Rattle.std.specs.Prelude.{slice_set}
 use Rattle.std.proofs.Math.ListN.{get_or}
 use Rattle.std.proofs.lemmas.Bool.{cases_eq, eqb-true}
 use Rattle.std.proofs.lemmas.List.{get_or_default, get_or-set_same, get_or-set_other, length-set}
-use Rattle.std.proofs.lemmas.List.Sums.{sum_by-append}
 use Rattle.std.proofs.lemmas.Nat.{mod_below}
 use Rattle.lert_levels.specs.declared.bound.pair.Pair.{Pair}
 use Rattle.lert_levels.specs.bound.Bytes.{nothing, pair_of, risen}
-use Rattle.lert_levels.specs.bound.Covers.{times, Covers, CoversCounts}
+use Rattle.lert_levels.specs.bound.Covers.{CoversCounts}
 
 -- what stands at a tail's place is its pair
 pub pair_at : (pairs : List Pair) (tail len place : ℕ) (pair : Pair) → 1 ≤ length pairs → len ≡ length pairs → place ≡ tail % len → pair ≡ get_or pairs place pair →
@@ -79,20 +78,3 @@ pub counts_added : (pairs : List Pair) (tail : ℕ) → 1 ≤ length pairs → (
 counts_added pairs tail some before present held =
     added pairs tail some (λ other. if other == tail then 1 else 0) (λ other. once_or_not (other == tail))
     (λ other apart. not_once (other == tail) (λ is. apart (eqb-true other tail is))) before present held
-
-one_more : (tail other : ℕ) (present : List ℕ) → times other (present ++ tail ∷ []) ≡ times other present + (if tail == other then 1 else 0)
-one_more tail other present =
-    sum_by-append (λ event. if event == other then 1 else 0) present (tail ∷ []) ∙ omega arith
-
--- of two lists of events
-pub covers_added : (pairs : List Pair) (tail : ℕ) → 1 ≤ length pairs → (before present : List ℕ) → Covers pairs before present →
-    Covers (slice_set pairs (tail % length pairs) (risen (pair_of pairs tail))) before (present ++ tail ∷ [])
-covers_added pairs tail some before present held =
-    let after = added pairs tail some (λ other. if tail == other then 1 else 0) (λ other. once_or_not (tail == other))
-    (λ other apart. not_once (tail == other) (λ is. apart (sym (eqb-true tail other is))))
-    (λ other. times other before) (λ other. times other present) (record { of_before = held.of_before; of_present = held.of_present }) in
-    record {
-      of_before = after.of_before;
-      of_present = λ other. subst (λ n. min n 255 ≤ (pair_of (slice_set pairs (tail % length pairs) (risen (pair_of pairs tail))) other).present)
-          (sym (one_more tail other present)) (after.of_present other);
-    }

@@ -3,7 +3,6 @@ use Rattle.std.proofs.Common.{◌≡◌, [], ◌∷◌, refl, List, map}
 use Rattle.std.specs.Prelude.{slice_set}
 use Rattle.lert_levels.specs.declared.bound.pair.Pair.{Pair}
 use Rattle.lert_levels.specs.bound.Bytes.{nothing, pair_of, risen, turned}
-use Rattle.lert_levels.specs.bound.Covers.{times}
 
 -- three places: an event more of tail 7, whose place is 1
 places : List Pair
@@ -24,6 +23,3 @@ twice_is = refl
 turn_is : map turned once ≡ nothing ∷ record { before = 255; present = 0 } ∷ nothing ∷ []
 unfolding places once
 turn_is = refl
-
-times_is : times 7 (7 ∷ 10 ∷ 7 ∷ []) ≡ 2
-times_is = refl

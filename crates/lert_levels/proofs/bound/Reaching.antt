@@ -5,7 +5,7 @@ use Rattle.std.proofs.Math.ListN.{get_or}
 use Rattle.std.proofs.lemmas.Bool.{leb-false}
 use Rattle.lert_levels.specs.declared.bound.pair.Pair.{Pair}
 use Rattle.lert_levels.specs.bound.Bytes.{pair_of}
-use Rattle.lert_levels.specs.bound.Covers.{times, Covers, CoversCounts}
+use Rattle.lert_levels.specs.bound.Covers.{CoversCounts}
 use Rattle.lert_levels.proofs.bound.Adding.{pair_at}
 
 -- the answer is that of the tail's bytes
@@ -23,8 +23,3 @@ pub counts_asked : (pairs : List Pair) (tail count : ℕ) (answer : Bool) → an
     (before present : ℕ → ℕ) → CoversCounts pairs before present → answer ≡ false → before tail + present tail < count
 counts_asked pairs tail count answer answer_is before present held no_more =
     too_few count (before tail) (present tail) _ _ (held.of_before tail) (held.of_present tail) (sym answer_is ∙ no_more)
-
-pub covers_asked : (pairs : List Pair) (tail count : ℕ) (answer : Bool) → answer ≡ nat_le (min count 255) ((pair_of pairs tail).before + (pair_of pairs tail).present) →
-    (before present : List ℕ) → Covers pairs before present → answer ≡ false → times tail before + times tail present < count
-covers_asked pairs tail count answer answer_is before present held no_more =
-    too_few count (times tail before) (times tail present) _ _ (held.of_before tail) (held.of_present tail) (sym answer_is ∙ no_more)

@@ -1,8 +1,8 @@
 //! The bound.
 
-ghost use Rattle.std.specs.Prelude.{◌≡◌, ℕ, ◌+◌, ◌%◌, ◌<◌, ◌≤◌, ◌==◌, if◌then◌else◌, List, [], ◌∷◌, ◌++◌, false, length, map, min, nat_le, replicate, slice_set, IfOk};
+ghost use Rattle.std.specs.Prelude.{◌≡◌, ℕ, ◌+◌, ◌%◌, ◌<◌, ◌≤◌, ◌==◌, if◌then◌else◌, false, length, map, min, nat_le, replicate, slice_set, IfOk};
 ghost use Rattle.lert_levels.specs.bound.Bytes.{nothing, pair_of, risen, turned};
-ghost use Rattle.lert_levels.specs.bound.Covers.{times, Covers, CoversCounts};
+ghost use Rattle.lert_levels.specs.bound.Covers.{CoversCounts};
 
 use crate::bound::pair::Pair;
 use crate::bound::place::place_of;
@@ -32,7 +32,6 @@ impl Bound {
     pub fn new(alloc: Global, places: usize) -> Result<Bound, OutOfMemory>
         requires { 1 ≤ places }
         ensures bytes { IfOk result (λ bound. bound ≡ replicate places nothing) }
-        ensures covers { IfOk result (λ bound. Covers bound [] []) }
         ensures counts { IfOk result (λ bound. CoversCounts bound (λ _. 0) (λ _. 0)) }
     {
         let pairs = vec![in alloc; Pair::NONE; places]?;
@@ -42,8 +41,6 @@ impl Bound {
     /// One event more of this tail.
     pub fn add(&mut self, tail: u64)
         ensures bytes { self.new ≡ slice_set self.old (tail % length self.old) (risen (pair_of self.old tail)) }
-        ensures covers { (before present : List ℕ) → Covers self.old before present
-            → Covers self.new before (present ++ tail ∷ []) }
         ensures counts { (before present : ℕ → ℕ) → CoversCounts self.old before present
             → CoversCounts self.new before (λ other. present other + (if other == tail then 1 else 0)) }
     {
@@ -55,7 +52,6 @@ impl Bound {
     /// The present generation becomes the one before, which is forgotten, and a new one begins.
     pub fn turn(&mut self)
         ensures bytes { self.new ≡ map turned self.old }
-        ensures covers { (before present : List ℕ) → Covers self.old before present → Covers self.new present [] }
         ensures counts { (before present : ℕ → ℕ) → CoversCounts self.old before present
             → CoversCounts self.new present (λ _. 0) }
     {
@@ -65,7 +61,6 @@ impl Bound {
     /// Forgets each event.
     pub fn clear(&mut self)
         ensures bytes { self.new ≡ replicate (length self.old) nothing }
-        ensures covers { Covers self.new [] [] }
         ensures counts { CoversCounts self.new (λ _. 0) (λ _. 0) }
     {
         self.pairs.fill(Pair::NONE);
@@ -74,8 +69,6 @@ impl Bound {
     /// Whether this tail can have come `count` times in the two generations, where 255 times and more are not told apart.
     pub fn may_reach(&self, tail: u64, count: u64) -> bool
         ensures bytes { result ≡ nat_le (min count 255) ((pair_of self.now tail).before + (pair_of self.now tail).present) }
-        ensures covers { (before present : List ℕ) → Covers self.now before present → result ≡ false
-            → times tail before + times tail present < count }
         ensures counts { (before present : ℕ → ℕ) → CoversCounts self.now before present → result ≡ false
             → before tail + present tail < count }
     {
