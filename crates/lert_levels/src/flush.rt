@@ -6,8 +6,8 @@
 //! The streams of a cone's bins and the levels stand on it.
 
 mod bins;
-mod land;
 mod merge;
+mod put;
 mod scan;
 
 pub(crate) use bins::Bins;

@@ -19,7 +19,7 @@ ghost use Rattle.lert_levels.specs.Ready.{HasMade};
 ghost use Rattle.lert_spec.specs.Limits.{IsValid};
 ghost use Rattle.lert_levels.specs.rows.Rows.{row_of, IsAt, AreRows, HoldsBins, moved, directory_text};
 
-use crate::merger::{Reading, Writing, count_rows, land_rows};
+use crate::merger::{Reading, Writing, count_rows, merge_rows};
 use crate::rows::{
     BinAt, FlushFault, Zero, check_rows, empty_rows, lay_directory, move_rows, restore_rows,
     sync_frames,
@@ -159,7 +159,7 @@ impl<T: CountTable> Levels<T> {
             OneBreaks self.old.settings (take (depth self.old.settings m) self.old.rows) (after FRAMES) at) }
         ensures kept { KeepsBay B.Bay bay.old bay.new (IsErrOf result FlushFault.Failed) }
     {
-        self.land(zero, m, bay, totals)?;
+        self.merge(zero, m, bay, totals)?;
         // The frames are durable before the directory moves: a failed sync leaves the old one.
         sync_frames(bay)?;
         self.move_on(m);
@@ -223,7 +223,7 @@ impl<T: CountTable> Levels<T> {
     }
 
     // Merges level 0 and the levels that the flush at position `m` reaches, and writes the new bins into their frames.
-    fn land<B: Bay, O: Totals>(
+    fn merge<B: Bay, O: Totals>(
         &mut self,
         zero: &Zero<T>,
         m: u64,
@@ -256,7 +256,7 @@ impl<T: CountTable> Levels<T> {
         let depth = self.settings.depth(m) as usize;
         let rows = &self.rows[..depth];
         let Writing { landings, parts } = &mut self.writing;
-        let (reading, landed) = land_rows(zero, m, rows, reading, landings, parts, totals, bay);
+        let (reading, landed) = merge_rows(zero, m, rows, reading, landings, parts, totals, bay);
         self.reading = Some(reading);
         landed
     }

@@ -177,7 +177,7 @@ impl Writing {
 /// Merges level 0 and the rows that the flush at position `m` reaches, and writes the new bins into their frames meanwhile.
 /// `totals` takes each tail with its sum. Each frame that is read is made sure of before anything is written. There is a
 /// landing for each of the rows and more, that of level 1 first. It takes no memory.
-pub fn land_rows<T: CountTable, B: Bay, O: Totals>(
+pub fn merge_rows<T: CountTable, B: Bay, O: Totals>(
     zero: &Zero<T>,
     m: u64,
     rows: &[Vec<BinAt>],
@@ -212,11 +212,11 @@ pub fn land_rows<T: CountTable, B: Bay, O: Totals>(
     if let Err(fault) = secure_rows(zero.settings(), rows, &mut reading.room, bay) {
         return (reading, Err(fault));
     }
-    land_secure(zero, m, rows, reading, landings, parts, totals, bay)
+    merge_secure(zero, m, rows, reading, landings, parts, totals, bay)
 }
 
 // The same where each frame is secure.
-fn land_secure<T: CountTable, B: Bay, O: Totals>(
+fn merge_secure<T: CountTable, B: Bay, O: Totals>(
     zero: &Zero<T>,
     m: u64,
     rows: &[Vec<BinAt>],

@@ -14,7 +14,7 @@ ghost use Rattle.lert_spec.specs.Table.{IsTable};
 ghost use Rattle.lert_levels.specs.flush.Merged.{AreParts, IsUnread, HaveRoom, AreToCome, IsMerged};
 
 use crate::flush::bins::Bins;
-use crate::flush::land::land;
+use crate::flush::put::put_piece;
 use crate::landing::{Landing, Sum, add_total, end_totals};
 use lert_base::{PieceFault, Totals};
 use lert_bay::Bay;
@@ -62,7 +62,7 @@ pub fn merge_bins<B: Bay, S: Bins<B>, O: Totals>(
     let mut sum = Sum::new();
     while let Some(next) = order.step(bay)? {
         add_total(totals, &mut sum, next.1);
-        land(landings, parts[next.0], bay, next.1)?;
+        put_piece(landings, parts[next.0], bay, next.1)?;
     }
     end_totals(totals, &mut sum);
     Ok(())

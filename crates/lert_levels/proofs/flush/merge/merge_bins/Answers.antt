@@ -72,8 +72,8 @@ bounds-parts-next g c =
       c.requires.parts.len,
     )
 
-pub land-requires-clause-part : goal.land-requires-clause-part
-land-requires-clause-part g c =
+pub put_piece-requires-clause-part : goal.put_piece-requires-clause-part
+put_piece-requires-clause-part g c =
     let was = c.loop-next.invariant in
     let e = c.in_ok-next.ensures in
     let step = given_at g.S.Streams c.loop-next.order c.loop-next.bay c.step.new.self c.step.new.ctx c.in_ok-next.field-0 c.in-Some.next c.in-Some.is
@@ -88,8 +88,8 @@ land-requires-clause-part g c =
     ))) in
     omega (arith, below, c.loop-next.auto.landings))
 
-pub land-requires-clause-piece : goal.land-requires-clause-piece
-land-requires-clause-piece g c =
+pub put_piece-requires-clause-piece : goal.put_piece-requires-clause-piece
+put_piece-requires-clause-piece g c =
     let was = c.loop-next.invariant in
     let e = c.in_ok-next.ensures in
     let step = given_at g.S.Streams c.loop-next.order c.loop-next.bay c.step.new.self c.step.new.ctx c.in_ok-next.field-0 c.in-Some.next c.in-Some.is
@@ -127,7 +127,7 @@ loop-next-preserved g c =
     merging_more g.S.Streams g.O.Totals.took (bays g) (lawful g) g.S.Bins.width g.S.Bins.reads g.S.Bins.sure (steady g) c.args.parts.now c.args.order.now c.args.bay.now
     c.args.landings.now c.loop-next.order c.loop-next.bay c.loop-next.landings c.loop-next.totals c.loop-next.sum was
     c.step.new.self c.step.new.ctx c.in-Some.next step c.step.ensures.keeps c.add_total.new.totals c.add_total.new.sum c.add_total.ensures c.requires.parts.len c.requires.apart
-    c.land.new.landings c.land.new.bay _ (omega (arith, c.land.auto.landings)) c.in_ok-land.ensures.taken c.land.ensures.writes
+    c.put_piece.new.landings c.put_piece.new.bay _ (omega (arith, c.put_piece.auto.landings)) c.in_ok-put_piece.ensures.taken c.put_piece.ensures.writes
 
 -- ---- a step that fails
 
@@ -196,63 +196,63 @@ returns-in_err-next-clause-ahead g c =
 
 -- ---- a piece that can't be put
 
-land_writes : (g : given.Over) (c : goal.After-from_residual-in_err-land g) →
-    LandingsWrite (bays g) c.args.landings.now c.args.bay.now c.land.new.landings c.land.new.bay (IsErrOf c.from_residual-in_err-land.result Failed)
-land_writes g c =
-    let p = err_from_is_err_and c.from_residual-in_err-land.result c.from_residual-in_err-land.ensures.1 in
+put_writes : (g : given.Over) (c : goal.After-from_residual-in_err-put_piece g) →
+    LandingsWrite (bays g) c.args.landings.now c.args.bay.now c.put_piece.new.landings c.put_piece.new.bay (IsErrOf c.from_residual-in_err-put_piece.result Failed)
+put_writes g c =
+    let p = err_from_is_err_and c.from_residual-in_err-put_piece.result c.from_residual-in_err-put_piece.ensures.1 in
     let xs = c.loop-next.landings in
     let read = g.met.S.Bins.reading c.loop-next.bay c.step.new.ctx c.step.ensures.keeps in
-    writes_on (bays g) (lawful g) c.args.landings.now xs c.land.new.landings c.args.bay.now c.step.new.ctx c.land.new.bay NoneFailed _
+    writes_on (bays g) (lawful g) c.args.landings.now xs c.put_piece.new.landings c.args.bay.now c.step.new.ctx c.put_piece.new.bay NoneFailed _
     (writes_on (bays g) (lawful g) c.args.landings.now xs xs c.args.bay.now c.loop-next.bay c.step.new.ctx ⊥ NoneFailed c.loop-next.invariant.writes
     (writes_read (bays g) (lawful g) xs c.loop-next.bay c.step.new.ctx NoneFailed read))
-    (writes_as (bays g) (lawful g) xs c.land.new.landings c.step.new.ctx c.land.new.bay _ _ (λ is. cc (p.1, p.2, is)) c.in_err-land.ensures.writes)
+    (writes_as (bays g) (lawful g) xs c.put_piece.new.landings c.step.new.ctx c.put_piece.new.bay _ _ (λ is. cc (p.1, p.2, is)) c.in_err-put_piece.ensures.writes)
 
-pub returns-in_err-land-clause-merged : goal.returns-in_err-land-clause-merged
-returns-in_err-land-clause-merged g c = rw (err_from_is_err_and c.from_residual-in_err-land.result c.from_residual-in_err-land.ensures.1).1 tt
+pub returns-in_err-put_piece-clause-merged : goal.returns-in_err-put_piece-clause-merged
+returns-in_err-put_piece-clause-merged g c = rw (err_from_is_err_and c.from_residual-in_err-put_piece.result c.from_residual-in_err-put_piece.ensures.1).1 tt
 
-pub returns-in_err-land-clause-took : goal.returns-in_err-land-clause-took
-returns-in_err-land-clause-took g c = rw (err_from_is_err_and c.from_residual-in_err-land.result c.from_residual-in_err-land.ensures.1).1 tt
+pub returns-in_err-put_piece-clause-took : goal.returns-in_err-put_piece-clause-took
+returns-in_err-put_piece-clause-took g c = rw (err_from_is_err_and c.from_residual-in_err-put_piece.result c.from_residual-in_err-put_piece.ensures.1).1 tt
 
-pub returns-in_err-land-clause-sound : goal.returns-in_err-land-clause-sound
-returns-in_err-land-clause-sound g c lists are at is =
-    let p = err_from_is_err_and c.from_residual-in_err-land.result c.from_residual-in_err-land.ensures.1 in
-    c.in_err-land.ensures.whole at (cc (p.1, p.2, is))
+pub returns-in_err-put_piece-clause-sound : goal.returns-in_err-put_piece-clause-sound
+returns-in_err-put_piece-clause-sound g c lists are at is =
+    let p = err_from_is_err_and c.from_residual-in_err-put_piece.result c.from_residual-in_err-put_piece.ensures.1 in
+    c.in_err-put_piece.ensures.whole at (cc (p.1, p.2, is))
 
-pub returns-in_err-land-clause-malformed : goal.returns-in_err-land-clause-malformed
-returns-in_err-land-clause-malformed g c at is =
-    let p = err_from_is_err_and c.from_residual-in_err-land.result c.from_residual-in_err-land.ensures.1 in
-    absurd (c.in_err-land.ensures.whole at (cc (p.1, p.2, is)))
+pub returns-in_err-put_piece-clause-malformed : goal.returns-in_err-put_piece-clause-malformed
+returns-in_err-put_piece-clause-malformed g c at is =
+    let p = err_from_is_err_and c.from_residual-in_err-put_piece.result c.from_residual-in_err-put_piece.ensures.1 in
+    absurd (c.in_err-put_piece.ensures.whole at (cc (p.1, p.2, is)))
 
-pub returns-in_err-land-clause-landing : goal.returns-in_err-land-clause-landing
-returns-in_err-land-clause-landing g c =
-    let writes = land_writes g c in writes.landing
+pub returns-in_err-put_piece-clause-landing : goal.returns-in_err-put_piece-clause-landing
+returns-in_err-put_piece-clause-landing g c =
+    let writes = put_writes g c in writes.landing
 
-pub returns-in_err-land-clause-homes : goal.returns-in_err-land-clause-homes
-returns-in_err-land-clause-homes g c =
-    let writes = land_writes g c in writes.homes
+pub returns-in_err-put_piece-clause-homes : goal.returns-in_err-put_piece-clause-homes
+returns-in_err-put_piece-clause-homes g c =
+    let writes = put_writes g c in writes.homes
 
-pub returns-in_err-land-clause-rest : goal.returns-in_err-land-clause-rest
-returns-in_err-land-clause-rest g c =
-    let writes = land_writes g c in writes.rest
+pub returns-in_err-put_piece-clause-rest : goal.returns-in_err-put_piece-clause-rest
+returns-in_err-put_piece-clause-rest g c =
+    let writes = put_writes g c in writes.rest
 
-pub returns-in_err-land-clause-kept : goal.returns-in_err-land-clause-kept
-returns-in_err-land-clause-kept g c =
-    let writes = land_writes g c in writes.kept
+pub returns-in_err-put_piece-clause-kept : goal.returns-in_err-put_piece-clause-kept
+returns-in_err-put_piece-clause-kept g c =
+    let writes = put_writes g c in writes.kept
 
-pub returns-in_err-land-clause-landings : goal.returns-in_err-land-clause-landings
-returns-in_err-land-clause-landings g c =
-    let writes = land_writes g c in landings_same c.args.landings.now c.land.new.landings writes.homes
+pub returns-in_err-put_piece-clause-landings : goal.returns-in_err-put_piece-clause-landings
+returns-in_err-put_piece-clause-landings g c =
+    let writes = put_writes g c in landings_same c.args.landings.now c.put_piece.new.landings writes.homes
 
-pub returns-in_err-land-clause-streams : goal.returns-in_err-land-clause-streams
-returns-in_err-land-clause-streams g c =
+pub returns-in_err-put_piece-clause-streams : goal.returns-in_err-put_piece-clause-streams
+returns-in_err-put_piece-clause-streams g c =
     g.met.S.Streams.same_on c.args.order.now.streams c.loop-next.order.streams c.step.new.self.streams c.loop-next.invariant.gathering.kept c.step.ensures.kept
 
-pub returns-in_err-land-clause-count : goal.returns-in_err-land-clause-count
-returns-in_err-land-clause-count g c =
+pub returns-in_err-put_piece-clause-count : goal.returns-in_err-put_piece-clause-count
+returns-in_err-put_piece-clause-count g c =
     c.step.ensures.same.streams ∙ c.loop-next.invariant.gathering.same.streams
 
-pub returns-in_err-land-clause-ahead : goal.returns-in_err-land-clause-ahead
-returns-in_err-land-clause-ahead g c =
+pub returns-in_err-put_piece-clause-ahead : goal.returns-in_err-put_piece-clause-ahead
+returns-in_err-put_piece-clause-ahead g c =
     c.step.ensures.same.room ∙ c.loop-next.invariant.gathering.same.room
 
 -- ---- the end

@@ -36,8 +36,8 @@ lawful g = record { as_read = g.met.B.Bay.as_read; since_now = g.met.B.Bay.since
 
 -- ---- a merge that failed
 
-pub returns-in_err-land : goal.returns-in_err-land
-returns-in_err-land g c =
+pub returns-in_err-merge : goal.returns-in_err-merge
+returns-in_err-merge g c =
     let p = err_from_is_err_and c.from_residual.result c.from_residual.ensures.1 in
     let s = c.args.self.now.settings in
     let m = c.args.m in
@@ -45,7 +45,7 @@ returns-in_err-land g c =
     let first = c.requires.first in
     let last = c.requires.last in
     let at_m = c.requires.at in
-    let e = c.in_err-land.ensures in
+    let e = c.in_err-merge.ensures in
     let reached = take (depth s m) rows in
     let deepest = deep s e.valid m first last rows at_m e.rows in
     let few = reached_few s e.valid m first last rows at_m e.rows in
@@ -59,12 +59,12 @@ returns-in_err-land g c =
           failed_by _ (λ at is. no_break s e.valid reached (seen FRAMES) (tallied_in s events) at few each stand (e.malformed seen told at (ap Err is))));
       took = tt;
       durable = tt;
-      rest = rest_fewer (bays g) (AreApart s m reached) (InNamed s rows) c.args.bay.now c.land.new.bay (named_apart s m rows e.rows (depth s m) deepest) e.rest;
+      rest = rest_fewer (bays g) (AreApart s m reached) (InNamed s rows) c.args.bay.now c.merge.new.bay (named_apart s m rows e.rows (depth s m) deepest) e.rest;
       sound = λ seen told hold stand.
           failed_by _ (λ at is. no_break s e.valid reached (seen FRAMES) hold at few each stand (e.malformed seen told at (ap Err is)));
       malformed = λ seen told at is. e.malformed seen told at (same_err _ _ is);
       malformed_after = λ seen told at is. e.malformed_after seen told at (same_err _ _ is);
-      kept = keeps_as (bays g) (lawful g) c.args.bay.now c.land.new.bay _ _ (λ is. same_err _ _ is) e.kept;
+      kept = keeps_as (bays g) (lawful g) c.args.bay.now c.merge.new.bay _ _ (λ is. same_err _ _ is) e.kept;
     })
 
 -- ---- a sync that failed
@@ -76,7 +76,7 @@ returns-in_err-sync_frames g c =
     let s = c.args.self.now.settings in
     let m = c.args.m in
     let rows = c.args.self.now.rows in
-    let one = c.in_ok-land.ensures in
+    let one = c.in_ok-merge.ensures in
     let two = c.in_err-sync_frames.ensures in
     let deepest = deep s one.valid m c.requires.first c.requires.last rows c.requires.at one.rows in
     record {
@@ -86,15 +86,15 @@ returns-in_err-sync_frames g c =
       told = λ seen told events of. rw p.1 p.2;
       took = rw p.1 tt;
       durable = rw p.1 tt;
-      rest = rest_on (bays g) (lawful g) (InNamed s rows) c.args.bay.now c.land.new.bay c.sync_frames.new.bay _ _ one.kept two.kept
-          (rest_fewer (bays g) (AreApart s m (take (depth s m) rows)) (InNamed s rows) c.args.bay.now c.land.new.bay
+      rest = rest_on (bays g) (lawful g) (InNamed s rows) c.args.bay.now c.merge.new.bay c.sync_frames.new.bay _ _ one.kept two.kept
+          (rest_fewer (bays g) (AreApart s m (take (depth s m) rows)) (InNamed s rows) c.args.bay.now c.merge.new.bay
           (named_apart s m rows one.rows (depth s m) deepest) one.rest)
-          (rest_fewer (bays g) Anywhere (InNamed s rows) c.land.new.bay c.sync_frames.new.bay (λ from to inside. tt) two.rest);
+          (rest_fewer (bays g) Anywhere (InNamed s rows) c.merge.new.bay c.sync_frames.new.bay (λ from to inside. tt) two.rest);
       sound = λ seen told hold stand. rw p.1 p.2;
       malformed = λ seen told at is. absurd (no_place r.result r.ensures.1 at is);
       malformed_after = λ seen told at is. absurd (no_place r.result r.ensures.1 at is);
       kept = keeps_as (bays g) (lawful g) c.args.bay.now c.sync_frames.new.bay _ _ (λ is. refl)
-          (keeps_on (bays g) (lawful g) c.args.bay.now c.land.new.bay c.sync_frames.new.bay _ _ one.kept two.kept);
+          (keeps_on (bays g) (lawful g) c.args.bay.now c.merge.new.bay c.sync_frames.new.bay _ _ one.kept two.kept);
     }
 
 -- ---- all went well
@@ -108,9 +108,9 @@ returns g c =
     let last = c.requires.last in
     let at_m = c.requires.at in
     let young = c.args.zero.now.bins in
-    let one = c.in_ok-land.ensures in
+    let one = c.in_ok-merge.ensures in
     let two = c.in_ok-sync_frames.ensures in
-    let took = g.O.Totals.took c.land.new.totals in
+    let took = g.O.Totals.took c.merge.new.totals in
     let before = g.B.Bay.files c.args.bay.now in
     let has = one.made in
     let deepest = deep s one.valid m first last rows at_m one.rows in
@@ -120,52 +120,52 @@ returns g c =
           (subst (λ (v : OnDisk). IsAt v.settings m (moved v.settings m v.rows)) (sym one.same) (IsAt-moved s one.valid m first last rows at_m));
       refused = tt;
       told = λ seen told events of. (
-        λ after told_after. has_moved s one.valid m first last rows at_m one.rows young took before (g.B.Bay.files c.land.new.bay) has one.rest.seen seen told events of
+        λ after told_after. has_moved s one.valid m first last rows at_m one.rows young took before (g.B.Bay.files c.merge.new.bay) has one.rest.seen seen told events of
             after (sym two.seen ∙ told_after),
         made_taken s one.valid m first last rows at_m young took (IsFrames before) has.made has.is (seen FRAMES) events
             (record { seen = seen; told = told; is = refl }) one.rows of,
       );
       took = made_took s one.valid m first last rows at_m young took (IsFrames before) has.made has.is;
       durable = two.durable;
-      rest = rest_on (bays g) (lawful g) (InNamed s rows) c.args.bay.now c.land.new.bay c.sync_frames.new.bay _ _ one.kept two.kept
-          (rest_fewer (bays g) (AreApart s m (take (depth s m) rows)) (InNamed s rows) c.args.bay.now c.land.new.bay
+      rest = rest_on (bays g) (lawful g) (InNamed s rows) c.args.bay.now c.merge.new.bay c.sync_frames.new.bay _ _ one.kept two.kept
+          (rest_fewer (bays g) (AreApart s m (take (depth s m) rows)) (InNamed s rows) c.args.bay.now c.merge.new.bay
           (named_apart s m rows one.rows (depth s m) deepest) one.rest)
-          (rest_fewer (bays g) Anywhere (InNamed s rows) c.land.new.bay c.sync_frames.new.bay (λ from to inside. tt) two.rest);
+          (rest_fewer (bays g) Anywhere (InNamed s rows) c.merge.new.bay c.sync_frames.new.bay (λ from to inside. tt) two.rest);
       sound = λ seen told hold stand. tt;
       malformed = λ seen told at is. absurd (not_err _ _ is);
       malformed_after = λ seen told at is. absurd (not_err _ _ is);
       kept = keeps_as (bays g) (lawful g) c.args.bay.now c.sync_frames.new.bay _ _ (λ is. absurd (not_err _ _ is))
-          (keeps_on (bays g) (lawful g) c.args.bay.now c.land.new.bay c.sync_frames.new.bay _ _ one.kept two.kept);
+          (keeps_on (bays g) (lawful g) c.args.bay.now c.merge.new.bay c.sync_frames.new.bay _ _ one.kept two.kept);
     }
 
 -- ---- what the calls ask for
 
-pub land-requires-clause-same : goal.land-requires-clause-same
-land-requires-clause-same g c = c.requires.same
+pub merge-requires-clause-same : goal.merge-requires-clause-same
+merge-requires-clause-same g c = c.requires.same
 
-pub land-requires-clause-first : goal.land-requires-clause-first
-land-requires-clause-first g c = c.requires.first
+pub merge-requires-clause-first : goal.merge-requires-clause-first
+merge-requires-clause-first g c = c.requires.first
 
-pub land-requires-clause-last : goal.land-requires-clause-last
-land-requires-clause-last g c = c.requires.last
+pub merge-requires-clause-last : goal.merge-requires-clause-last
+merge-requires-clause-last g c = c.requires.last
 
-pub land-requires-clause-from : goal.land-requires-clause-from
-land-requires-clause-from g c = c.requires.from
+pub merge-requires-clause-from : goal.merge-requires-clause-from
+merge-requires-clause-from g c = c.requires.from
 
-pub land-requires-clause-to : goal.land-requires-clause-to
-land-requires-clause-to g c = c.requires.to
+pub merge-requires-clause-to : goal.merge-requires-clause-to
+merge-requires-clause-to g c = c.requires.to
 
-pub land-requires-clause-at : goal.land-requires-clause-at
-land-requires-clause-at g c = c.requires.at
+pub merge-requires-clause-at : goal.merge-requires-clause-at
+merge-requires-clause-at g c = c.requires.at
 
-pub land-requires-clause-none_taken : goal.land-requires-clause-none_taken
-land-requires-clause-none_taken g c = c.requires.none_taken
+pub merge-requires-clause-none_taken : goal.merge-requires-clause-none_taken
+merge-requires-clause-none_taken g c = c.requires.none_taken
 
 pub move_on-requires-clause-first : goal.move_on-requires-clause-first
 move_on-requires-clause-first g c = c.requires.first
 
 pub move_on-requires-clause-last : goal.move_on-requires-clause-last
-move_on-requires-clause-last g c = subst (λ (v : OnDisk). c.args.m ≤ capacity v.settings) (sym c.in_ok-land.ensures.same) c.requires.last
+move_on-requires-clause-last g c = subst (λ (v : OnDisk). c.args.m ≤ capacity v.settings) (sym c.in_ok-merge.ensures.same) c.requires.last
 
 pub move_on-requires-clause-at : goal.move_on-requires-clause-at
-move_on-requires-clause-at g c = subst (λ (v : OnDisk). IsAt v.settings (c.args.m - 1) v.rows) (sym c.in_ok-land.ensures.same) c.requires.at
+move_on-requires-clause-at g c = subst (λ (v : OnDisk). IsAt v.settings (c.args.m - 1) v.rows) (sym c.in_ok-merge.ensures.same) c.requires.at

@@ -14,8 +14,8 @@ use Rattle.lert_levels.specs.Ready.{HasMade}
 use Rattle.lert_levels.specs.Sources.{AreSecure}
 use Rattle.lert_levels.proofs.rows.LandLaws.{rest_on, read_rest}
 use Rattle.lert_spec.specs.declared.numbers.Numbers.{Numbers}
-use Rattle.lert_levels.proofs.merger.land_rows.Given as given
-use Rattle.lert_levels.proofs.merger.land_rows.Goals as goal
+use Rattle.lert_levels.proofs.merger.merge_rows.Given as given
+use Rattle.lert_levels.proofs.merger.merge_rows.Goals as goal
 
 abbrev bays : (g : given.Over) → Bays g.row.B.Denot
 bays g = record {
@@ -46,55 +46,55 @@ returns-in-Err-clause-rest g c = read_rest (bays g) (AreApart c.args.zero.now.se
     c.secure_rows.new.bay _ c.secure_rows.ensures.only_reads
 
 pub returns-clause-malformed : goal.returns-clause-malformed
-returns-clause-malformed g c seen told at is = c.land_secure.ensures.malformed seen (c.secure_rows.ensures.only_reads.seen ∙ told) at is
+returns-clause-malformed g c seen told at is = c.merge_secure.ensures.malformed seen (c.secure_rows.ensures.only_reads.seen ∙ told) at is
 
 pub returns-clause-rest : goal.returns-clause-rest
 returns-clause-rest g c =
     let kept = AreApart c.args.zero.now.settings c.args.m (map (λ row. row.items) c.args.rows.now) in
     let read = c.secure_rows.ensures.only_reads in
-    rest_on (bays g) (lawful g) kept c.args.bay.now c.secure_rows.new.bay c.land_secure.new.bay _ _ read.kept c.land_secure.ensures.kept
-    (read_rest (bays g) kept c.args.bay.now c.secure_rows.new.bay _ read) c.land_secure.ensures.rest
+    rest_on (bays g) (lawful g) kept c.args.bay.now c.secure_rows.new.bay c.merge_secure.new.bay _ _ read.kept c.merge_secure.ensures.kept
+    (read_rest (bays g) kept c.args.bay.now c.secure_rows.new.bay _ read) c.merge_secure.ensures.rest
 
 pub returns-clause-kept : goal.returns-clause-kept
 returns-clause-kept g c =
-    keeps_on (bays g) (lawful g) c.args.bay.now c.secure_rows.new.bay c.land_secure.new.bay _ _ c.secure_rows.ensures.only_reads.kept c.land_secure.ensures.kept
+    keeps_on (bays g) (lawful g) c.args.bay.now c.secure_rows.new.bay c.merge_secure.new.bay _ _ c.secure_rows.ensures.only_reads.kept c.merge_secure.ensures.kept
 
 pub returns-in-Err-clause-malformed_after : goal.returns-in-Err-clause-malformed_after
 returns-in-Err-clause-malformed_after g c later told at is = returns-in-Err-clause-malformed g c later (sym c.secure_rows.ensures.only_reads.seen ∙ told) at is
 
 -- ---- the other clauses
 
-pub land_secure-requires-clause-same : goal.land_secure-requires-clause-same
-land_secure-requires-clause-same g c = c.secure_rows.ensures.room ∙ c.settings.ensures
+pub merge_secure-requires-clause-same : goal.merge_secure-requires-clause-same
+merge_secure-requires-clause-same g c = c.secure_rows.ensures.room ∙ c.settings.ensures
 
-pub land_secure-requires-clause-ahead : goal.land_secure-requires-clause-ahead
-land_secure-requires-clause-ahead g c = c.requires.ahead
+pub merge_secure-requires-clause-ahead : goal.merge_secure-requires-clause-ahead
+merge_secure-requires-clause-ahead g c = c.requires.ahead
 
-pub land_secure-requires-clause-landings : goal.land_secure-requires-clause-landings
-land_secure-requires-clause-landings g c = c.requires.landings
+pub merge_secure-requires-clause-landings : goal.merge_secure-requires-clause-landings
+merge_secure-requires-clause-landings g c = c.requires.landings
 
-pub land_secure-requires-clause-enough : goal.land_secure-requires-clause-enough
-land_secure-requires-clause-enough g c = c.requires.enough
+pub merge_secure-requires-clause-enough : goal.merge_secure-requires-clause-enough
+merge_secure-requires-clause-enough g c = c.requires.enough
 
-pub land_secure-requires-clause-parts : goal.land_secure-requires-clause-parts
-land_secure-requires-clause-parts g c = c.requires.parts
+pub merge_secure-requires-clause-parts : goal.merge_secure-requires-clause-parts
+merge_secure-requires-clause-parts g c = c.requires.parts
 
-pub land_secure-requires-clause-first : goal.land_secure-requires-clause-first
-land_secure-requires-clause-first g c = c.requires.first
+pub merge_secure-requires-clause-first : goal.merge_secure-requires-clause-first
+merge_secure-requires-clause-first g c = c.requires.first
 
-pub land_secure-requires-clause-last : goal.land_secure-requires-clause-last
-land_secure-requires-clause-last g c = c.requires.last
+pub merge_secure-requires-clause-last : goal.merge_secure-requires-clause-last
+merge_secure-requires-clause-last g c = c.requires.last
 
-pub land_secure-requires-clause-reached : goal.land_secure-requires-clause-reached
-land_secure-requires-clause-reached g c = c.requires.reached
+pub merge_secure-requires-clause-reached : goal.merge_secure-requires-clause-reached
+merge_secure-requires-clause-reached g c = c.requires.reached
 
-pub land_secure-requires-clause-secure : goal.land_secure-requires-clause-secure
-land_secure-requires-clause-secure g c =
+pub merge_secure-requires-clause-secure : goal.merge_secure-requires-clause-secure
+merge_secure-requires-clause-secure g c =
     subst (λ (t : Numbers). (seen : Files) → g.B.Bay.files c.secure_rows.new.bay ≡ Some seen → AreSecure t (seen FRAMES) 1 (map (λ row. row.items) c.args.rows.now)) c.settings.ensures
     (λ seen told. c.in_default.ensures.secure seen (sym c.secure_rows.ensures.only_reads.seen ∙ told))
 
-pub land_secure-requires-clause-none_taken : goal.land_secure-requires-clause-none_taken
-land_secure-requires-clause-none_taken g c = c.requires.none_taken
+pub merge_secure-requires-clause-none_taken : goal.merge_secure-requires-clause-none_taken
+merge_secure-requires-clause-none_taken g c = c.requires.none_taken
 
 pub secure_rows-requires-clause-few : goal.secure_rows-requires-clause-few
 secure_rows-requires-clause-few g c =
@@ -104,27 +104,27 @@ pub secure_rows-requires-clause-same : goal.secure_rows-requires-clause-same
 secure_rows-requires-clause-same g c = c.requires.same ∙ sym c.settings.ensures
 
 pub returns-clause-room : goal.returns-clause-room
-returns-clause-room g c = c.land_secure.ensures.room
+returns-clause-room g c = c.merge_secure.ensures.room
 
 pub returns-clause-ahead : goal.returns-clause-ahead
-returns-clause-ahead g c = c.land_secure.ensures.ahead
+returns-clause-ahead g c = c.merge_secure.ensures.ahead
 
 pub returns-clause-landings : goal.returns-clause-landings
-returns-clause-landings g c = c.land_secure.ensures.landings
+returns-clause-landings g c = c.merge_secure.ensures.landings
 
 pub returns-clause-count : goal.returns-clause-count
-returns-clause-count g c = c.land_secure.ensures.count
+returns-clause-count g c = c.merge_secure.ensures.count
 
 pub returns-clause-parts : goal.returns-clause-parts
-returns-clause-parts g c = c.land_secure.ensures.parts
+returns-clause-parts g c = c.merge_secure.ensures.parts
 
 pub returns-clause-made : goal.returns-clause-made
 returns-clause-made g c =
-    subst (λ (files : Option Files). OnOk c.land_secure.result.1 (HasMade c.args.zero.now.settings c.args.m c.args.zero.now.bins (map (λ row. row.items) c.args.rows.now)
-    (g.O.Totals.took c.land_secure.new.totals) files (g.B.Bay.files c.land_secure.new.bay))) c.secure_rows.ensures.only_reads.seen c.land_secure.ensures.made
+    subst (λ (files : Option Files). OnOk c.merge_secure.result.1 (HasMade c.args.zero.now.settings c.args.m c.args.zero.now.bins (map (λ row. row.items) c.args.rows.now)
+    (g.O.Totals.took c.merge_secure.new.totals) files (g.B.Bay.files c.merge_secure.new.bay))) c.secure_rows.ensures.only_reads.seen c.merge_secure.ensures.made
 
 pub returns-clause-malformed_after : goal.returns-clause-malformed_after
-returns-clause-malformed_after g c = c.land_secure.ensures.malformed_after
+returns-clause-malformed_after g c = c.merge_secure.ensures.malformed_after
 
 pub returns-in-Err-clause-room : goal.returns-in-Err-clause-room
 returns-in-Err-clause-room g c = c.secure_rows.ensures.room ∙ c.settings.ensures

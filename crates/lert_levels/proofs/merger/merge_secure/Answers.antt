@@ -26,8 +26,8 @@ use Rattle.lert_levels.proofs.LandedLaws.{on_ok, laid, begun_number, widths_numb
 use Rattle.lert_levels.proofs.PlacedLaws.{begun_breaks, begun_sure, breaks_stay}
 use Rattle.lert_levels.proofs.ReadyLaws.{landings_same, same_count, rest_landings, rest_count}
 use Rattle.lert_levels.proofs.SourceLaws.{begun_given, begun_limit, widths_small}
-use Rattle.lert_levels.proofs.merger.land_secure.Given as given
-use Rattle.lert_levels.proofs.merger.land_secure.Goals as goal
+use Rattle.lert_levels.proofs.merger.merge_secure.Given as given
+use Rattle.lert_levels.proofs.merger.merge_secure.Goals as goal
 
 abbrev bays : (g : given.Over) → Bays g.row.B.Denot
 bays g = record {

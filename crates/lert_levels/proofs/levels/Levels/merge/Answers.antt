@@ -19,9 +19,9 @@ use Rattle.lert_levels.specs.OnDisk.{OnDisk}
 use Rattle.lert_levels.specs.Ready.{AreReached, HasMade}
 use Rattle.lert_levels.proofs.LevelLaws.{reached_rows}
 use Rattle.lert_levels.proofs.ReachLaws.{held, turned, reached_are, young_some}
-use Rattle.lert_levels.proofs.levels.Levels.land.Given as given
-use Rattle.lert_levels.proofs.levels.Levels.land.Goals as goal
-use Rattle.lert_levels.proofs.levels.Levels.land.Goals.{Joined-self}
+use Rattle.lert_levels.proofs.levels.Levels.merge.Given as given
+use Rattle.lert_levels.proofs.levels.Levels.merge.Goals as goal
+use Rattle.lert_levels.proofs.levels.Levels.merge.Goals.{Joined-self}
 
 abbrev bays : (g : given.Over) → Bays g.row.B.Denot
 bays g = record {
@@ -34,13 +34,13 @@ bays g = record {
   handed_out = g.B.Bay.handed_out;
 }
 
-pub land_rows-reading-requires-clause-landings : goal.land_rows-reading-requires-clause-landings
-land_rows-reading-requires-clause-landings g c =
+pub merge_rows-reading-requires-clause-landings : goal.merge_rows-reading-requires-clause-landings
+merge_rows-reading-requires-clause-landings g c =
     subst (λ (ls : List Landing). AreLandings c.args.zero.now.settings ls) (sym c.deref_mut.ensures.value)
     (subst (λ (t : Numbers). AreLandings t c.self.inside.writing.landings.items) (ap (λ (v : OnDisk). v.settings) c.self.view_is ∙ sym c.requires.same) c.self.invariant.2.of_levels)
 
-pub land_rows-reading-requires-clause-reached : goal.land_rows-reading-requires-clause-reached
-land_rows-reading-requires-clause-reached g c =
+pub merge_rows-reading-requires-clause-reached : goal.merge_rows-reading-requires-clause-reached
+merge_rows-reading-requires-clause-reached g c =
     let s = c.args.self.now.settings in
     let t = c.args.zero.now.settings in
     let m = c.args.m in
@@ -64,8 +64,8 @@ pub invariant_of-self : goal.invariant_of-self
 invariant_of-self g c =
     let inside = c.self.inside.settings in
     let settings_is : c.args.zero.now.settings ≡ inside = c.requires.same ∙ sym (ap (λ (v : OnDisk). v.settings) c.self.view_is) in
-    let e = c.land_rows-reading.ensures in
-    let new = c.land_rows-reading.new.landings in
+    let e = c.merge_rows-reading.ensures in
+    let new = c.merge_rows-reading.new.landings in
     let all = c.self.inside.writing.landings.items in
     let count : length new ≡ length all = e.count ∙ ap (length {A = Landing}) c.deref_mut.ensures.value in
     let len : c.self.inside.writing.landings.len ≡ length new = omega (arith, count, c.deref_mut.ensures.len, ap (length {A = Landing}) c.deref_mut.ensures.value) in
@@ -101,22 +101,22 @@ said g c P is = turned P c.args.self.now.settings c.args.zero.now.settings _ _ c
 
 pub returns-clause-made : goal.returns-clause-made
 returns-clause-made g c =
-    let took = g.O.Totals.took c.land_rows-reading.new.totals in
+    let took = g.O.Totals.took c.merge_rows-reading.new.totals in
     let before = g.B.Bay.files c.args.bay.now in
-    let after = g.B.Bay.files c.land_rows-reading.new.bay in
-    said g c (λ n rs. OnOk c.land_rows-reading.result.1 (HasMade n c.args.m c.args.zero.now.bins rs took before after)) c.land_rows-reading.ensures.made
+    let after = g.B.Bay.files c.merge_rows-reading.new.bay in
+    said g c (λ n rs. OnOk c.merge_rows-reading.result.1 (HasMade n c.args.m c.args.zero.now.bins rs took before after)) c.merge_rows-reading.ensures.made
 
 pub returns-clause-malformed : goal.returns-clause-malformed
-returns-clause-malformed g c seen told at is = said g c (λ n rs. OneBreaks n rs (seen FRAMES) at) (c.land_rows-reading.ensures.malformed seen told at is)
+returns-clause-malformed g c seen told at is = said g c (λ n rs. OneBreaks n rs (seen FRAMES) at) (c.merge_rows-reading.ensures.malformed seen told at is)
 
 pub returns-clause-malformed_after : goal.returns-clause-malformed_after
-returns-clause-malformed_after g c seen told at is = said g c (λ n rs. OneBreaks n rs (seen FRAMES) at) (c.land_rows-reading.ensures.malformed_after seen told at is)
+returns-clause-malformed_after g c seen told at is = said g c (λ n rs. OneBreaks n rs (seen FRAMES) at) (c.merge_rows-reading.ensures.malformed_after seen told at is)
 
 pub returns-clause-rest : goal.returns-clause-rest
-returns-clause-rest g c = said g c (λ n rs. KeepsRest (bays g) (AreApart n c.args.m rs) c.args.bay.now c.land_rows-reading.new.bay) c.land_rows-reading.ensures.rest
+returns-clause-rest g c = said g c (λ n rs. KeepsRest (bays g) (AreApart n c.args.m rs) c.args.bay.now c.merge_rows-reading.new.bay) c.merge_rows-reading.ensures.rest
 
 pub returns-clause-kept : goal.returns-clause-kept
-returns-clause-kept g c = c.land_rows-reading.ensures.kept
+returns-clause-kept g c = c.merge_rows-reading.ensures.kept
 
 pub returns-clause-valid : goal.returns-clause-valid
 returns-clause-valid g c = subst IsValid (c.numbers-valid.ensures.value ∙ settings_is g c) c.numbers-valid.ensures.valid
@@ -135,35 +135,35 @@ depth-depth-requires-clause-first g c = c.requires.first
 pub depth-depth-requires-clause-last : goal.depth-depth-requires-clause-last
 depth-depth-requires-clause-last g c = subst (λ (v : OnDisk). c.args.m ≤ capacity v.settings) (sym c.self.view_is) c.requires.last
 
-pub land_rows-reading-requires-clause-first : goal.land_rows-reading-requires-clause-first
-land_rows-reading-requires-clause-first g c = c.requires.first
+pub merge_rows-reading-requires-clause-first : goal.merge_rows-reading-requires-clause-first
+merge_rows-reading-requires-clause-first g c = c.requires.first
 
-pub land_rows-reading-requires-clause-last : goal.land_rows-reading-requires-clause-last
-land_rows-reading-requires-clause-last g c = subst (λ (t : Numbers). c.args.m ≤ capacity t) (sym c.requires.same) c.requires.last
+pub merge_rows-reading-requires-clause-last : goal.merge_rows-reading-requires-clause-last
+merge_rows-reading-requires-clause-last g c = subst (λ (t : Numbers). c.args.m ≤ capacity t) (sym c.requires.same) c.requires.last
 
-pub land_rows-reading-requires-clause-same : goal.land_rows-reading-requires-clause-same
-land_rows-reading-requires-clause-same g c =
+pub merge_rows-reading-requires-clause-same : goal.merge_rows-reading-requires-clause-same
+merge_rows-reading-requires-clause-same g c =
     (held _ c.self.inside.reading c.take.result c.in-Some.reading c.self.invariant.1 c.take.ensures.value c.in-Some.is).0
     ∙ ap (λ (v : OnDisk). v.settings) c.self.view_is ∙ sym c.requires.same
 
-pub land_rows-reading-requires-clause-ahead : goal.land_rows-reading-requires-clause-ahead
-land_rows-reading-requires-clause-ahead g c =
+pub merge_rows-reading-requires-clause-ahead : goal.merge_rows-reading-requires-clause-ahead
+merge_rows-reading-requires-clause-ahead g c =
     subst (λ (t : Numbers). (t.levels + 1) * t.bins ≤ c.in-Some.reading.ahead.room) (ap (λ (v : OnDisk). v.settings) c.self.view_is ∙ sym c.requires.same)
     (held _ c.self.inside.reading c.take.result c.in-Some.reading c.self.invariant.1 c.take.ensures.value c.in-Some.is).1
 
-pub land_rows-reading-requires-clause-parts : goal.land_rows-reading-requires-clause-parts
-land_rows-reading-requires-clause-parts g c =
+pub merge_rows-reading-requires-clause-parts : goal.merge_rows-reading-requires-clause-parts
+merge_rows-reading-requires-clause-parts g c =
     subst (λ (t : Numbers). (t.levels + 1) * t.bins ≤ vec_capacity c.self.inside.writing.parts) (ap (λ (v : OnDisk). v.settings) c.self.view_is ∙ sym c.requires.same)
     c.self.invariant.2.room
 
-pub land_rows-reading-requires-clause-enough : goal.land_rows-reading-requires-clause-enough
-land_rows-reading-requires-clause-enough g c =
+pub merge_rows-reading-requires-clause-enough : goal.merge_rows-reading-requires-clause-enough
+merge_rows-reading-requires-clause-enough g c =
     let taken = length-take c.depth-depth.result c.deref.result.now in
     let lent = ap (length {A = Landing}) c.deref_mut.ensures.value in
     omega (arith, taken, lent, c.depth-depth.ensures.within, c.self.invariant.2.count)
 
-pub land_rows-reading-requires-clause-none_taken : goal.land_rows-reading-requires-clause-none_taken
-land_rows-reading-requires-clause-none_taken g c = c.requires.none_taken
+pub merge_rows-reading-requires-clause-none_taken : goal.merge_rows-reading-requires-clause-none_taken
+merge_rows-reading-requires-clause-none_taken g c = c.requires.none_taken
 
 pub overflow_cast-depth : goal.overflow_cast-depth
 overflow_cast-depth g c = record { fits = omega (arith, c.depth-depth.type_inv) }

@@ -6,8 +6,8 @@ use Rattle.lert_levels.specs.flush.Merged.{is_of, with_piece}
 use Rattle.lert_levels.proofs.flush.MergingLaws.{never_failed, not_malformed}
 use Rattle.lert_levels.proofs.flush.PartLaws.{landed_one}
 use Rattle.lert_levels.proofs.flush.SteadyLaws.{writes_none, writes_as}
-use Rattle.lert_levels.proofs.flush.land.land.Given as given
-use Rattle.lert_levels.proofs.flush.land.land.Goals as goal
+use Rattle.lert_levels.proofs.flush.put.put_piece.Given as given
+use Rattle.lert_levels.proofs.flush.put.put_piece.Goals as goal
 
 abbrev bays : (g : given.Over) → Bays g.row.B.Denot
 bays g = record {

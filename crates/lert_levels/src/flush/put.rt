@@ -1,4 +1,4 @@
-//! A piece that lands.
+//! A piece of a merge, which is put to its landing.
 
 ghost use Rattle.std.specs.Prelude.{◌≡◌, ℕ, ◌<◌, OnOk, IsErrOf, IfSome, length, slice_index_or};
 ghost use Rattle.lert_levels.specs.landing.Landed.{taken, CanTake};
@@ -12,7 +12,7 @@ use lert_bay::Bay;
 
 // The landing of a part takes a piece. One of no part is let go.
 #[inline]
-pub(crate) fn land<B: Bay>(
+pub(crate) fn put_piece<B: Bay>(
     landings: &mut [Landing],
     part: Option<usize>,
     bay: &mut B,
