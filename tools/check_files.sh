@@ -250,14 +250,39 @@ check_measure() {
 
 references() { "$top/tools/references" "$@"; }
 
+# A small repository, whose crates stand one on another.
+check_rooms() {
+    local crate below=''
+    mkdir -p rooms/tools && cp "$top"/tools/{references,contracts.py,crates.py} rooms/tools && : >rooms/crates.txt
+    for crate in lert_{a..h}; do
+        mkdir -p rooms/crates/"$crate"/{src,specs} && echo "$crate:$below" >>rooms/crates.txt
+        below=" $crate"
+    done
+    echo 'lert_h_tests: lert_h' >>rooms/crates.txt
+    gives 'eight crates in a chain, and one of tests' 0 '' '' rooms/tools/references
+    echo 'lert_i: lert_h' >>rooms/crates.txt
+    gives 'finds nine crates in a chain' 1 "crates.txt: 9 crates in a chain: $(echo lert_{a..i})\n" '' rooms/tools/references
+    sed -i '$d' rooms/crates.txt
+    printf 'abbrev pub two : ℕ\ntwo = 2\n' | tee rooms/crates/lert_b/specs/{One,Two}.antt >rooms/crates/lert_c/specs/One.antt
+    gives 'finds a name of two files of specs' 1 'lert_b: two is defined in specs/One.antt and specs/Two.antt\n' '' \
+        rooms/tools/references
+    rm rooms/crates/lert_b/specs/Two.antt
+    printf '//! It stands on lert_a.\n// As lert_nowhere does.\n' >rooms/crates/lert_b/src/lib.rt
+    gives 'finds a crate that a comment alone has' 1 "lert_b/src/lib.rt, line 2: lert_nowhere isn't there\n" '' \
+        rooms/tools/references
+}
+
 check_documents() {
     local name
     has python3 || return
+    check_rooms
     # The last one is made of this process's number, so that no file here has it.
-    for name in tools/kees lert_nowhere stale_$$; do
+    for name in tools/kees lert_nowhere lert_run stale_$$; do
         printf '`tools/keys`,\n`%s`\n' "$name" >stale.md
         gives "finds $name" 1 "stale.md, line 2: $name isn't there\n" '' references stale.md
     done
+    echo 'What lert_run was.' >stale.md
+    gives 'finds a crate without a mark' 1 "stale.md, line 1: lert_run isn't there\n" '' references stale.md
     gives 'names in README.md and docs' 0 '' '' references
 }
 
