@@ -94,7 +94,7 @@ class Disk(NamedTuple):
 
 
 def frames_len(settings: Settings, events: int) -> int:
-    """The file of frames of a cone behind so many events, at most: the places of the levels that a flush has reached."""
+    """The file of frames of a cone behind so many events, at most: the places of the levels that it has reached."""
     edges = levels(settings)
     reached = (one for one in range(1, settings.levels + 1) if edges.edge(one - 1, events))
     return (settings.bins + 1) * sum(frame_len(edges.span(one)) for one in reached)
@@ -106,10 +106,11 @@ def disk(settings: Settings, events: int, fullest: int, traces: int = 1) -> Disk
     packets = events // settings.packet + traces * cones
     flushes = events // settings.base
     record = RECORD_HEAD + settings.levels * (1 + settings.bins)
+    reports = min(events // settings.threshold, cones * settings.room)
     return Disk(
         JOURNAL_HEAD * cones + PACKET_HEAD * packets + KEY_LEN * events,
         min(cones * frames_len(settings, fullest), most_frames(settings, events, cones)),
-        LOG_HEAD * cones + record * (flushes + cones) + REPORT_LEN * min(events // settings.threshold, cones * settings.room),
+        LOG_HEAD * cones + record * (flushes + cones) + REPORT_LEN * reports,
     )
 
 

@@ -26,7 +26,7 @@ from formats import BadNumbers
 from inputs import BadInput
 from metrics import write
 from recovery import Settings
-from reported import Journal, Run
+from reported import Run
 
 TOOLS = Path(__file__).resolve().parent
 PACKER = TOOLS / "keys"
@@ -34,8 +34,8 @@ STATE_LEN = 4096
 # A pipe takes so much at once or nothing, so that who is stopped leaves no part of a line in it.
 MOST_WRITE = 4096
 BETWEEN_LOOKS = 0.05
-# What was killed has so many seconds to end by the end of its input.
-TO_END = 120.0
+# A run has so many seconds to end by the end of its input: it merges all that it has on the disk.
+TO_END = 600.0
 
 
 class Ends(Exception):
@@ -55,9 +55,9 @@ class State:
     records: int = 0
     bad: int = 0
     lost: int = 0
-    # Of a file that is followed: the place behind what was handed on; that in which the directory's first records stand,
-    # and how many of these went to another one; and up to which place records are read again, and how many of them stand
-    # in a journal.
+    # Of a file that is followed: the place behind what was handed on; that before the directory's first records, and
+    # how many of those behind it went to another one; up to which place records are read again, and how many of these
+    # stand in a journal.
     place: dict[str, int] = field(default_factory=dict)
     start: dict[str, int] = field(default_factory=dict)
     start_skip: int = 0
@@ -168,8 +168,8 @@ class Directory:
         return max(self.counts, default=0) + self.given - sum(self.counts)
 
     def has_room(self, records: int, fill: float) -> bool:
-        """Whether so many records more leave each cone below this share of its capacity. What is under way may be in any
-        cone, and is waited for where that decides."""
+        """Whether so many records more leave each cone below this share of its capacity. What is under way may be in
+        any cone, and is waited for where that decides."""
         most = int(fill * self.capacity)
         waits = self.given - sum(self.counts)
         until = time.monotonic() + 2.0

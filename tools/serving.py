@@ -5,16 +5,14 @@ from __future__ import annotations
 import os
 import sys
 import time
-from contextlib import ExitStack, suppress
+from contextlib import suppress
 from pathlib import Path
-from typing import NamedTuple, Sequence
 
 from capacity import capacity
-from inputs import MOST_LINE, BadInput
+from inputs import MOST_LINE
 from metrics import Metric, text_of, write
-from names import Names, reading
-from recovery import Settings
 from service import Directory, Ended, Ends, StateFile, directories, ended_in, remove_old, reported_in, settle, wait_for
+from shown import Shown, Wanted, gauge
 from sieve import Lines, Sifted
 from sources import Command, File, Pipe
 
@@ -28,54 +26,6 @@ BETWEEN_BAD = 10.0
 # So many runs may fail one after the other.
 MOST_FAILURES = 5
 DONE, DISK_IS_FULL = 0, 3
-
-
-class Wanted(NamedTuple):
-    """What a service was asked for."""
-
-    folder: Path
-    settings: Settings
-    packing: Sequence[str]
-    named: bool
-    period: int
-    full: float
-    keep: int
-    reserve: int
-    metrics: Path | None
-    stall: float | None
-    pause: float
-    again: bool
-    stops_at_bad: bool
-
-
-class Shown:
-    """The reports of a directory that were printed, and its names."""
-
-    def __init__(self, place: Path, is_named: bool) -> None:
-        self.place = place
-        self.is_named = is_named
-        self.keys: set[int] = set()
-        self.opened = ExitStack()
-        self.names: Names | None = None
-        self.is_deaf = False
-
-    def name_of(self, key: int) -> str:
-        with suppress(BadInput, OSError):
-            if self.is_named:
-                self.names = self.names or self.opened.enter_context(reading(str(self.place / "names")))
-                return " " + self.names.due(key, "").decode(errors="replace")
-        return ""
-
-    def show(self, cone: int, key: int, at: int) -> None:
-        if key in self.keys:
-            return
-        self.keys.add(key)
-        try:
-            print(f"{self.place.name} {cone} {key} {at}{self.name_of(key)}", flush=True)
-        except BrokenPipeError:
-            # Nobody reads it any more.
-            os.dup2(os.open(os.devnull, os.O_WRONLY), sys.stdout.fileno())
-            self.is_deaf = True
 
 
 class Service:
@@ -112,6 +62,17 @@ class Service:
     def serve(self) -> int:
         self.settle_left()
         self.begin_line()
+        try:
+            self.read_all()
+        except BaseException:
+            # Whatever it was, the run ends in order.
+            with suppress(OSError):
+                self.end("the service fails")
+            raise
+        return self.close()
+
+    def read_all(self) -> None:
+        """Reads until it is stopped, the disk is full, or the source ends."""
         while not self.is_stopping and self.has_place():
             # It may send the source back.
             self.tick()
@@ -126,7 +87,6 @@ class Service:
             elif not self.begin_again():
                 self.end_line()
                 break
-        return self.close()
 
     def take(self, data: bytes) -> None:
         self.came = time.monotonic()
@@ -223,7 +183,7 @@ class Service:
             self.recover()
 
     def count(self, records: int) -> None:
-        """Writes down records that are handed on next: in one step that they were read, and to which directory they go."""
+        """Writes down records that are handed on next: in one step that they were read, and where they go."""
         self.state.records += 0 if self.state.upto else records
         self.state.given += records
         if self.directory is not None:
@@ -231,9 +191,10 @@ class Service:
         self.save()
 
     def stall(self) -> None:
-        if self.wanted.stall is not None and not self.is_stalled and time.monotonic() >= self.came + self.wanted.stall:
+        most = self.wanted.stall
+        if most is not None and not self.is_stalled and time.monotonic() >= self.came + most:
             self.is_stalled = True
-            self.tell(f"nothing came for {self.wanted.stall:g} seconds")
+            self.tell(f"nothing came for {most:g} seconds")
 
     def begin_again(self) -> bool:
         """Behind the end of the source: whether it was begun again."""
@@ -294,7 +255,8 @@ class Service:
                 self.failures = 0
 
     def note(self, place: Path, ended: Ended, why: str) -> None:
-        shown = self.shown if self.shown is not None and self.shown.place == place else Shown(place, self.wanted.named)
+        is_own = self.shown is not None and self.shown.place == place
+        shown = self.shown if is_own else Shown(place, self.wanted.named)
         for report in reported_in(place):
             shown.show(*report)
         shown.opened.close()
@@ -303,7 +265,8 @@ class Service:
         self.state.folder, self.state.given = "", 0
         self.file.save(synced=True)
         recovered = {None: "", 0: ", recovered"}.get(ended.recovered, f", not recovered: status {ended.recovered}")
-        self.tell(f"{place.name}: {why}; {ended.how}{recovered}: {ended.events} events, {ended.lost} records in no journal")
+        lost = f"{ended.events} events, {ended.lost} records in no journal"
+        self.tell(f"{place.name}: {why}; {ended.how}{recovered}: {lost}")
         if is_again:
             self.tell("these are read again")
         for old in remove_old(self.wanted.folder, self.wanted.keep):
@@ -393,24 +356,21 @@ class Service:
     def metrics(self) -> list[Metric]:
         state, directory = self.state, self.directory
         counts = directory.count() if directory is not None else []
-        several = [
-            ("lert_live_up", "gauge", "Whether the service reads.", int(not self.is_stopping and not self.is_full)),
-            ("lert_live_records_total", "counter", "Records that were read.", state.records),
-            ("lert_live_bad_total", "counter", "Lines that are no records.", state.bad),
-            ("lert_live_lost_total", "counter", "Records that are in no journal.", state.lost),
-            ("lert_live_runs_total", "counter", "Directories that were begun.", state.serial),
-            ("lert_live_stalled", "gauge", "Whether nothing comes.", int(self.is_stalled)),
-            ("lert_live_free_bytes", "gauge", "What is free on the disk.", self.free()),
-            ("lert_live_events", "gauge", "Events in the journals of the run.", sum(counts)),
-            ("lert_live_reports", "gauge", "Reports of the run.", len(self.shown.keys) if directory and self.shown else 0),
-            ("lert_live_full_ratio", "gauge", "How full the fullest cone is.", max(counts, default=0) / directory.capacity if directory else 0),
-        ]
-        made = []
-        for name, kind, what, value in several:
-            metric = Metric(name, kind, what)
-            metric.put(value, service=self.wanted.folder.name)
-            made.append(metric)
-        return made
+        full = max(counts, default=0) / directory.capacity if directory is not None else 0
+        reports = len(self.shown.keys) if directory is not None and self.shown is not None else 0
+        several = (
+            ("up", "Whether the service reads.", int(not self.is_stopping and not self.is_full)),
+            ("records_total", "Records that were read.", state.records),
+            ("bad_total", "Lines that are no records.", state.bad),
+            ("lost_total", "Records that are in no journal.", state.lost),
+            ("runs_total", "Directories that were begun.", state.serial),
+            ("stalled", "Whether nothing comes.", int(self.is_stalled)),
+            ("free_bytes", "What is free on the disk.", self.free()),
+            ("events", "Events in the journals of the run.", sum(counts)),
+            ("reports", "Reports of the run.", reports),
+            ("full_ratio", "How full the fullest cone is.", full),
+        )
+        return [gauge(name, what, value, self.wanted.folder.name) for name, what, value in several]
 
     # --- the end
 
@@ -426,11 +386,13 @@ class Service:
             self.tell("the last line had no end, and is in no journal")
         self.state.cut = self.state.cut_is_counted = is_cut or self.is_skipping
         if self.is_full:
-            self.tell(f"the disk has {self.free()} bytes free, less than {self.wanted.reserve}: ending the run in order")
+            least = self.wanted.reserve
+            self.tell(f"the disk has {self.free()} bytes free, less than {least}: ending the run in order")
         self.end("the disk is full" if self.is_full else "the service ends")
         self.is_stopping = True
         self.file.save(synced=True)
         self.measure()
         state = self.state
-        self.tell(f"ended: {state.records} records, {state.bad} lines that are none, {state.lost} records in no journal")
+        parts = f"{state.bad} lines that are none, {state.lost} records in no journal"
+        self.tell(f"ended: {state.records} records, {parts}")
         return DISK_IS_FULL if self.is_full else DONE

@@ -123,12 +123,16 @@ class Rows(Lines):
         self.is_named = not (wanted.isascii() and wanted.isdigit())
         self.waiting: list[bytes] = []
 
+    def batches(self, data: bytes) -> Iterator[Batch]:
+        return column(Given(self.head + data), self.wanted, self.delimiter)
+
     def counted(self, data: bytes) -> int:
-        return count(column(Given(self.head + data), self.wanted, self.delimiter))
+        return count(self.batches(data))
 
     def is_open(self, data: bytes) -> bool:
         """Whether a quote is open at the end."""
-        reader = csv.reader(io.StringIO(data.decode("utf-8", "surrogateescape"), newline=""), delimiter=self.delimiter, strict=True)
+        text = io.StringIO(data.decode("utf-8", "surrogateescape"), newline="")
+        reader = csv.reader(text, delimiter=self.delimiter, strict=True)
         try:
             list(reader)
         except csv.Error as error:
@@ -192,7 +196,7 @@ def sieve_of(wanted_column: str | None, delimiter: str, wanted_field: str | None
     """That of the words of `keys pack`. The fields that aren't hashed are numbers."""
     if wanted_column is not None:
         rows = Rows(wanted_column, delimiter, head)
-        return rows if hashes else with_numbers(rows, lambda data: column(Given(rows.head + data), wanted_column, delimiter))
+        return rows if hashes else with_numbers(rows, lambda data: rows.batches(data))
     if wanted_field is not None:
         checked = Checked(lambda data: count(field(Given(data), wanted_field)))
         return checked if hashes else with_numbers(checked, lambda data: field(Given(data), wanted_field))

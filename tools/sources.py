@@ -77,7 +77,8 @@ class Command:
         self.again()
 
     def again(self) -> None:
-        self.child = subprocess.Popen(self.words, stdin=subprocess.DEVNULL, stdout=subprocess.PIPE, start_new_session=True)
+        alone = {"stdin": subprocess.DEVNULL, "start_new_session": True}
+        self.child = subprocess.Popen(self.words, stdout=subprocess.PIPE, **alone)
         assert self.child.stdout is not None
         self.file = self.child.stdout.fileno()
 
@@ -173,8 +174,8 @@ class File:
         return True
 
     def next_name(self) -> str:
-        """The file behind the one that was read to its end: it may have been rotated itself by now. The one that was written
-        to its end first comes first."""
+        """The file behind the one that was read to its end: it may have been rotated itself by now. The one that was
+        written to its end first comes first."""
         ended = os.fstat(self.file)
         found: list[tuple[int, str]] = []
         for one in Path(self.path).parent.glob(f"{glob.escape(Path(self.path).name)}.*"):

@@ -1,0 +1,68 @@
+"""What was asked of a service, and what it has shown."""
+
+from __future__ import annotations
+
+import os
+import sys
+from contextlib import ExitStack, suppress
+from pathlib import Path
+from typing import NamedTuple, Sequence
+
+from inputs import BadInput
+from metrics import Metric
+from names import Names, reading
+from recovery import Settings
+
+
+class Wanted(NamedTuple):
+    """What a service was asked for."""
+
+    folder: Path
+    settings: Settings
+    packing: Sequence[str]
+    named: bool
+    period: int
+    full: float
+    keep: int
+    reserve: int
+    metrics: Path | None
+    stall: float | None
+    pause: float
+    again: bool
+    stops_at_bad: bool
+
+
+class Shown:
+    """The reports of a directory that were printed, and its names."""
+
+    def __init__(self, place: Path, is_named: bool) -> None:
+        self.place = place
+        self.is_named = is_named
+        self.keys: set[int] = set()
+        self.opened = ExitStack()
+        self.names: Names | None = None
+        self.is_deaf = False
+
+    def name_of(self, key: int) -> str:
+        with suppress(BadInput, OSError):
+            if self.is_named:
+                self.names = self.names or self.opened.enter_context(reading(str(self.place / "names")))
+                return " " + self.names.due(key, "").decode(errors="replace")
+        return ""
+
+    def show(self, cone: int, key: int, at: int) -> None:
+        if key in self.keys:
+            return
+        self.keys.add(key)
+        try:
+            print(f"{self.place.name} {cone} {key} {at}{self.name_of(key)}", flush=True)
+        except BrokenPipeError:
+            # Nobody reads it any more.
+            os.dup2(os.open(os.devnull, os.O_WRONLY), sys.stdout.fileno())
+            self.is_deaf = True
+
+
+def gauge(name: str, what: str, value: float, service: str) -> Metric:
+    metric = Metric(f"lert_live_{name}", "counter" if name.endswith("_total") else "gauge", what)
+    metric.put(value, service=service)
+    return metric
