@@ -213,6 +213,13 @@ live_again() {
     echo "status $?" && cut -d' ' -f2- shown && untimed <said
 }
 
+# Three services one after the other, and which of their directories are left.
+live_kept() {
+    rm -rf l
+    for _ in 1 2 3; do echo ann | live --keep 2 l 2>said || cat said; done
+    ls l | untimed
+}
+
 check_live() {
     local key metrics again
     has mkfifo pgrep || return
@@ -235,7 +242,26 @@ check_live() {
         eval 'live --reserve 1000000G l >told 2>&1; status=$?; head -n 1 told | sed "s/[0-9][0-9]*/N/g"; (exit $status)'
     gives 'a service over input that is not what was said' 1 '' 'live: no column is named who of a\n' \
         live --csv who l < <(echo a)
+    gives 'a service that keeps two directories' 0 'run-000002\nrun-000003\nstate\n' '' live_kept
     gives 'a second service' 2 '' 'live: l/state: another service has this directory\n' flock l/state "$top/tools/live" l
+}
+
+# --- a package
+
+# Two packages are the same bytes, and what is in one works.
+packed_twice() {
+    rm -rf x l && "$top/tools/package" first.deb && "$top/tools/package" second.deb && cmp first.deb second.deb || return
+    dpkg-deb -x first.deb x && printf '%s\n' ann bob ann ann | x/usr/bin/lert-live --threshold 3 l 2>said | cut -d' ' -f4-
+    x/usr/bin/lert-report l/run-* | head -n 1 && zcat x/usr/share/man/man1/lert.1.gz | head -n 1
+}
+
+check_package() {
+    has dpkg-deb zcat || return
+    if ! "$top/tools/package" first.deb 2>said && grep -q 'other sources' said; then
+        echo 'skipped: the program in dist/ is of other sources'
+        return
+    fi
+    gives 'a package' 0 '4 ann\ncone 0 events 4 of 786432 reports 1 closed\n.TH LERT 1 "2026-11-30"\n' '' packed_twice
 }
 
 check_use() {
@@ -246,5 +272,6 @@ check_use() {
     check_fit
     check_report
     check_live
+    check_package
     gives 'the commands of docs/USE.md' 0 '' '' commands "$top/docs/USE.md"
 }
