@@ -205,6 +205,12 @@ live_bad() {
     cut -d' ' -f2- shown && grep -v '^#' m.prom | grep -e total -e ratio -e up | sort
 }
 
+live_words() {
+    rm -rf l
+    printf '%s\n' '10.0.0.7 - GET' '' '10.0.0.7' ' 10.0.0.7  POST' 10.0.0.9 | live --field 1 --threshold 3 l | cut -d' ' -f4-
+    printf '%s\n' 'a 7' 'b 7 c' 'd x' 7 'e 7' | live --field 2 --numbers --threshold 3 l | cut -d' ' -f2-
+}
+
 live_again() {
     rm -rf l once && : >said
     "$top/tools/live" --again --pause 0.1 --stall 1 --threshold 3 l -- sh -c 'echo 7; [ -e once ] && sleep 60; : >>once; echo 7' >shown 2>said &
@@ -235,6 +241,7 @@ check_live() {
     gives 'a service that is killed' 0 'status 0\n1 1\n' '' eval 'live_killed 2>killed'
     gives 'a service that follows a file' 0 'status 0\nstatus 0\n1751 0 3\n' '' live_followed
     gives 'a service over lines that are no records' 0 "0 $key 3 1\n$metrics" '' eval 'live_bad 2>said'
+    gives 'a service over words of lines' 0 '3 10.0.0.7\n0 7 3\n' '' eval 'live_words 2>said'
     gives 'a service that is stopped by such lines' 0 'live: 1 lines are no records, the last ones: no field a\n' '' \
         eval "echo {} | live --json a --bad stop l 2>&1 | head -n 1"
     gives 'a service over a command that ends' 0 "$again" '' live_again

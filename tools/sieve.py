@@ -15,6 +15,7 @@ from inputs import MOST_LINE, BadInput, Batch, column, field
 
 # A row of a CSV has at most so many lines here.
 MOST_LINES = 1000
+NO_NUMBER = "no decimal number below 2^64"
 
 
 class Sifted(NamedTuple):
@@ -43,8 +44,15 @@ class Given:
     def is_ready(self, _seconds: float | None) -> bool:
         return True
 
+    def put_back(self, data: bytes) -> None:
+        self.left.append(data)
+        self.taken -= len(data)
+
     def refusal(self, _place: str, why: str) -> BadInput:
         return BadInput(why)
+
+    def refuse(self, place: str, why: str) -> None:
+        raise self.refusal(place, why)
 
 
 def lines_of(data: bytes) -> list[bytes]:
@@ -55,10 +63,14 @@ def count(batches: Iterator[Batch]) -> int:
     return sum(len(batch.values) for batch in batches)
 
 
+def is_number(value: bytes) -> bool:
+    return value.isdigit() and len(value) <= 20 and int(value) < 1 << 64
+
+
 def checked(values: list[bytes]) -> int:
     """How many values there are, each a number."""
-    if not all(value.isdigit() and len(value) <= 20 and int(value) < 1 << 64 for value in values):
-        raise BadInput("no decimal number below 2^64")
+    if not all(map(is_number, values)):
+        raise BadInput(NO_NUMBER)
     return len(values)
 
 
@@ -83,6 +95,26 @@ class Lines:
         for _ in range(records):
             at = data.index(b"\n", at) + 1
         return data[at:]
+
+
+class Words(Lines):
+    """A word of each line, by its number, from 1, which is handed on as a line. Words are parted by blanks."""
+
+    def __init__(self, number: int, are_numbers: bool) -> None:
+        self.number = number
+        self.are_numbers = are_numbers
+
+    def why_not(self, words: list[bytes]) -> str:
+        """Why the words of a line have no record, if they haven't."""
+        if len(words) < self.number:
+            return f"the line has no word {self.number}"
+        return "" if not self.are_numbers or is_number(words[self.number - 1]) else NO_NUMBER
+
+    def sift(self, data: bytes) -> Sifted:
+        parted = [line.split(None, self.number) for line in data.split(b"\n")[:-1]]
+        lacks = [self.why_not(words) for words in parted]
+        good = [words[self.number - 1] + b"\n" for words, lack in zip(parted, lacks) if not lack]
+        return Sifted(b"".join(good), len(good), len(parted) - len(good), next(filter(None, lacks), ""))
 
 
 class Checked(Lines):
@@ -192,8 +224,12 @@ class Rows(Lines):
         return data[at:]
 
 
-def sieve_of(wanted_column: str | None, delimiter: str, wanted_field: str | None, hashes: bool, head: bytes) -> Lines:
-    """That of the words of `keys pack`. The fields that aren't hashed are numbers."""
+def sieve_of(
+    wanted_column: str | None, delimiter: str, wanted_field: str | None, word: int | None, hashes: bool, head: bytes
+) -> Lines:
+    """That of the words of `keys pack`. What isn't hashed are numbers."""
+    if word is not None:
+        return Words(word, not hashes)
     if wanted_column is not None:
         rows = Rows(wanted_column, delimiter, head)
         return rows if hashes else with_numbers(rows, lambda data: rows.batches(data))
