@@ -80,6 +80,14 @@ told_meanwhile() {
     report d
 }
 
+# A name with a byte of each kind that a terminal may obey: as text, as CSV and as JSON.
+told_plainly() {
+    printf 'a\xc3\xa4\xc4\x9b\x1b[1m\xe2\x80\xae\xc2\x9b\xff\n' | keys pack --hash --names names named &&
+        rm -rf d && lert run --threshold 1 --cone-bits 0 d named >ran && report --names names d | tail -n 1 | cut -d' ' -f7-
+    report --names names --format csv d | tail -n 1 | cut -d, -f8
+    report --names names --format json d | sed 's/.*"name": //'
+}
+
 check_report() {
     local columns='cone key count first reached reported name\n'
     make_visits
@@ -89,6 +97,9 @@ check_report() {
     gives 'tells the options of a run' 0 \
         'threshold 24 --bins 8 --ratio 4 --base 16 --levels 5 --cone-bits 1 --room 262144 --packet 16\n' '' \
         eval 'report --format options d | cut -c 3-'
+    local escapes='\\xc4\\x9b\\x1b[1m\\xe2\\x80\\xae\\xc2\\x9b\\xff\n'
+    gives 'tells names without what a terminal obeys' 0 \
+        "a\xc3\xa4${escapes}a\xc3\xa4${escapes}"'"a\\u00e4\\u011b\\u001b[1m\\u202e\\u009b\\\\xff"}]}\n' '' told_plainly
     run_long 3 3 2 4 2 0 32 8 too_many 2>"$work/err"
     gives 'tells of a run that stopped' 0 'cone 0 events 64 of 71 reports 0 open\n' '' report d
     has mkfifo && gives 'tells of a run that goes on' 0 \

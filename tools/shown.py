@@ -11,6 +11,7 @@ from typing import NamedTuple, Sequence
 from inputs import BadInput
 from metrics import Metric
 from names import Names, reading
+from plain import name_of, plain
 from recovery import Settings
 
 
@@ -47,7 +48,7 @@ class Shown:
         with suppress(BadInput, OSError):
             if self.is_named:
                 self.names = self.names or self.opened.enter_context(reading(str(self.place / "names")))
-                return " " + self.names.due(key, "").decode(errors="replace")
+                return " " + plain(name_of(self.names, key, ""))
         return ""
 
     def show(self, cone: int, key: int, at: int) -> None:
