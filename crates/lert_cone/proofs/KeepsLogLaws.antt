@@ -13,7 +13,6 @@ use Rattle.lert_gatelog.proofs.GatedLaws.{gated_behind}
 use Rattle.lert_levels.specs.Flushed.{InNamed}
 use Rattle.lert_levels.specs.declared.rows.bin_at.BinAt.{BinAt}
 use Rattle.lert_levels.specs.rows.Rows.{row_of, range_of, tallied_in}
-use Rattle.lert_reports.specs.declared.log.LogKind.{LogKind}
 use Rattle.lert_reports.specs.Log.{HasRecords, last_directory, last_n0, most_record}
 use Rattle.lert_reports.specs.LogText.{LogRecord, log_payload_of}
 use Rattle.lert_spec.specs.declared.numbers.Numbers.{Numbers}
