@@ -76,11 +76,17 @@ class StateFile:
         self.file = os.open(path, os.O_RDWR | os.O_CREAT, 0o644)
         with suppress(BlockingIOError):
             fcntl.flock(self.file, fcntl.LOCK_EX | fcntl.LOCK_NB)
-            text = os.pread(self.file, STATE_LEN, 0)
-            self.state = State(**json.loads(text)) if text.strip(b"\0 \n") else State()
+            self.state = self.kept(path)
             self.save(synced=True)
             return
         raise Ends(f"{path}: another service has this directory")
+
+    def kept(self, path: Path) -> State:
+        text = os.pread(self.file, STATE_LEN, 0).strip(b"\0 \n")
+        try:
+            return State(**json.loads(text)) if text else State()
+        except (ValueError, TypeError):
+            raise Ends(f"{path}: no state of a service, which begins anew without that file") from None
 
     def save(self, synced: bool = False) -> None:
         os.pwrite(self.file, self.state.text(), 0)
@@ -126,6 +132,10 @@ class Directory:
         self.packer.stdout.close()
         self.input = self.packer.stdin.fileno()
         os.set_blocking(self.input, False)
+
+    def is_over(self, period: int) -> bool:
+        """Whether the hour, the day or whatever it was begun in is over."""
+        return int(time.time()) // period != int(self.begun) // period
 
     def is_alive(self) -> bool:
         return self.packer.poll() is None and self.lert.poll() is None
@@ -300,6 +310,20 @@ def reported_in(place: Path) -> Iterator[tuple[int, int, int]]:
                 cone = int(words[1])
             elif words[0] != "total":
                 yield cone, int(words[0]), int(words[1])
+
+
+def cone_bits_of(place: Path, otherwise: Settings) -> int:
+    """Of a directory's run, where it was begun."""
+    with suppress(OSError, ValueError):
+        options = (place / "options").read_text().split()
+        return int(options[options.index("--cone-bits") + 1])
+    return otherwise.cone_bits
+
+
+def free(folder: Path) -> int:
+    """The bytes that are free on the disk."""
+    found = os.statvfs(folder)
+    return found.f_bavail * found.f_frsize
 
 
 def directories(folder: Path) -> list[Path]:

@@ -2,7 +2,6 @@
 
 from __future__ import annotations
 
-import os
 import sys
 import time
 from contextlib import suppress
@@ -11,8 +10,9 @@ from pathlib import Path
 from capacity import capacity
 from inputs import MOST_LINE
 from metrics import Metric, text_of, write
-from service import Directory, Ended, Ends, StateFile, directories, ended_in, remove_old, reported_in, settle, wait_for
-from shown import Shown, Wanted, gauge
+from service import Directory, Ended, Ends, StateFile, cone_bits_of, directories, ended_in, remove_old
+from service import free, reported_in, settle, wait_for
+from shown import Shown, Wanted, gauges
 from sieve import Lines, Sifted
 from sources import Command, File, Pipe
 
@@ -97,6 +97,10 @@ class Service:
         if self.is_skipping:
             _, found, whole = whole.partition(b"\n")
             self.is_skipping = not found
+        first = whole.find(b"\n")
+        if first > MOST_LINE:
+            self.count_bad(1, f"a line of more than {MOST_LINE} bytes")
+            whole = whole[first + 1 :]
         cut = whole.rfind(b"\n") + 1
         self.rest = whole[cut:]
         if len(self.rest) > MOST_LINE:
@@ -287,6 +291,9 @@ class Service:
                 self.note(place, settle(place, given, "left"), "the service had ended")
             else:
                 place.rename(place.with_name(f"unbegun-{place.name}"))
+        if self.state.folder:
+            ended = Ended("not begun", self.state.given, 0, self.state.given)
+            self.note(self.wanted.folder / self.state.folder, ended, "the service had ended")
 
     def goes_back(self, place: Path, ended: Ended) -> bool:
         """Whether the records that a directory lost are read again: of a file that is still there, where the journal of
@@ -294,7 +301,7 @@ class Service:
         state, source = self.state, self.source
         if not ended.lost or not isinstance(source, File) or place.name != state.folder or not state.start:
             return False
-        if "--cone-bits 0" not in (place / "options").read_text() or source.name_of(state.start) is None:
+        if cone_bits_of(place, self.wanted.settings) or source.name_of(state.start) is None:
             return False
         state.upto = state.upto or dict(state.place)
         state.skip = state.start_skip + ended.events
@@ -325,26 +332,21 @@ class Service:
                 self.stop()
             if not self.directory.is_alive():
                 self.recover()
-            elif self.directory.given and self.is_over(self.directory.begun):
+            elif self.directory.given and self.directory.is_over(self.wanted.period):
                 self.end("its time is over")
         if now >= self.measured + BETWEEN_METRICS:
             self.measure()
 
-    def is_over(self, begun: float) -> bool:
-        return int(time.time()) // self.wanted.period != int(begun) // self.wanted.period
-
     def show(self) -> None:
         run = self.directory.look() if self.directory is not None else None
         for cone in run.cones if run is not None and self.shown is not None else []:
-            for report in cone.log.reports:
-                self.shown.show(cone.header.cone, report.key, report.at)
-
-    def free(self) -> int:
-        found = os.statvfs(self.wanted.folder)
-        return found.f_bavail * found.f_frsize
+            number, reports = cone.header.cone, cone.log.reports
+            for report in reports[self.shown.told.get(number, 0) :]:
+                self.shown.show(number, report.key, report.at)
+            self.shown.told[number] = len(reports)
 
     def has_place(self) -> bool:
-        self.is_full = self.free() < self.wanted.reserve
+        self.is_full = free(self.wanted.folder) < self.wanted.reserve
         return not self.is_full
 
     def measure(self) -> None:
@@ -358,19 +360,19 @@ class Service:
         counts = directory.count() if directory is not None else []
         full = max(counts, default=0) / directory.capacity if directory is not None else 0
         reports = len(self.shown.keys) if directory is not None and self.shown is not None else 0
-        several = (
-            ("up", "Whether the service reads.", int(not self.is_stopping and not self.is_full)),
-            ("records_total", "Records that were read.", state.records),
-            ("bad_total", "Lines that are no records.", state.bad),
-            ("lost_total", "Records that are in no journal.", state.lost),
-            ("runs_total", "Directories that were begun.", state.serial),
-            ("stalled", "Whether nothing comes.", int(self.is_stalled)),
-            ("free_bytes", "What is free on the disk.", self.free()),
-            ("events", "Events in the journals of the run.", sum(counts)),
-            ("reports", "Reports of the run.", reports),
-            ("full_ratio", "How full the fullest cone is.", full),
-        )
-        return [gauge(name, what, value, self.wanted.folder.name) for name, what, value in several]
+        values = {
+            "up": int(not self.is_stopping and not self.is_full),
+            "records_total": state.records,
+            "bad_total": state.bad,
+            "lost_total": state.lost,
+            "runs_total": state.serial,
+            "stalled": int(self.is_stalled),
+            "free_bytes": free(self.wanted.folder),
+            "events": sum(counts),
+            "reports": reports,
+            "full_ratio": full,
+        }
+        return gauges(values, self.wanted.folder.name)
 
     # --- the end
 
@@ -387,7 +389,7 @@ class Service:
         self.state.cut = self.state.cut_is_counted = is_cut or self.is_skipping
         if self.is_full:
             least = self.wanted.reserve
-            self.tell(f"the disk has {self.free()} bytes free, less than {least}: ending the run in order")
+            self.tell(f"the disk has {free(self.wanted.folder)} bytes free, less than {least}: ending the run in order")
         self.end("the disk is full" if self.is_full else "the service ends")
         self.is_stopping = True
         self.file.save(synced=True)

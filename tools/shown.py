@@ -40,6 +40,8 @@ class Shown:
         self.place = place
         self.is_named = is_named
         self.keys: set[int] = set()
+        # Of each cone: how many reports of its log.
+        self.told: dict[int, int] = {}
         self.opened = ExitStack()
         self.names: Names | None = None
         self.is_deaf = False
@@ -63,7 +65,25 @@ class Shown:
             self.is_deaf = True
 
 
-def gauge(name: str, what: str, value: float, service: str) -> Metric:
-    metric = Metric(f"lert_live_{name}", "counter" if name.endswith("_total") else "gauge", what)
-    metric.put(value, service=service)
-    return metric
+WHAT = {
+    "up": "Whether the service reads.",
+    "records_total": "Records that were read.",
+    "bad_total": "Lines that are no records.",
+    "lost_total": "Records that are in no journal.",
+    "runs_total": "Directories that were begun.",
+    "stalled": "Whether nothing comes.",
+    "free_bytes": "What is free on the disk.",
+    "events": "Events in the journals of the run.",
+    "reports": "Reports of the run.",
+    "full_ratio": "How full the fullest cone is.",
+}
+
+
+def gauges(values: dict[str, float], service: str) -> list[Metric]:
+    """The metrics of a service, by their names without what all begin with."""
+    made = []
+    for name, value in values.items():
+        metric = Metric(f"lert_live_{name}", "counter" if name.endswith("_total") else "gauge", WHAT[name])
+        metric.put(value, service=service)
+        made.append(metric)
+    return made

@@ -15,6 +15,8 @@ from inputs import MOST_LINE, BadInput, Batch, column, field
 
 # A row of a CSV has at most so many lines here.
 MOST_LINES = 1000
+# What may stand before a text in UTF-8.
+MARK = b"\xef\xbb\xbf"
 NO_NUMBER = "no decimal number below 2^64"
 
 
@@ -176,15 +178,19 @@ class Rows(Lines):
         if self.is_named and not self.head:
             self.head, whole = self.first_row(whole)
         if self.is_named:
-            whole = b"".join(line for line in lines_of(whole) if line != self.head) if self.head in whole else whole
+            whole = self.without_heads(whole) if self.head in whole else whole
         self.waiting = []
         try:
             return Sifted(whole, self.counted(whole))
         except BadInput:
             return self.row_by_row(whole)
 
+    def without_heads(self, data: bytes) -> bytes:
+        """Who writes a file anew begins it with the head again."""
+        return b"".join(line for line in lines_of(data) if line.removeprefix(MARK) != self.head)
+
     def first_row(self, data: bytes) -> tuple[bytes, bytes]:
-        head, _, rest = data.removeprefix(b"\xef\xbb\xbf").partition(b"\n")
+        head, _, rest = data.removeprefix(MARK).partition(b"\n")
         column_is_there = column(Given(head + b"\n"), self.wanted, self.delimiter)
         count(column_is_there)
         return head + b"\n", rest
