@@ -1,4 +1,4 @@
-"""The crates of this repository, as crates.txt has them, the words by which rattle checks them, and what docs/MEASURED.md
+"""The crates of this repository, as crates.txt has them, the words by which rattle checks them, and what docs/dev/GATE.md
 says that their proofs take."""
 
 from __future__ import annotations
@@ -9,7 +9,7 @@ from pathlib import Path
 from typing import Callable
 
 TOP = Path(__file__).resolve().parent.parent
-MEASURED = TOP / "docs/MEASURED.md"
+MEASURED = TOP / "docs/dev/GATE.md"
 PROGRAM = "lert_program"
 # A row of the table that tools/measure prints: the crate, and the processor seconds of its proof.
 ROW = re.compile(r"^\| *`?(\w+)`? *\| *([\d,]+(?:\.\d+)?) *\|", re.MULTILINE)
