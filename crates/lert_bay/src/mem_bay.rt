@@ -94,8 +94,8 @@ impl MemBay {
     }
 
     /// Makes the call with this number fail, counted from now on, beginning with 1. It takes the place of
-    /// an earlier one that hasn't come. A write that fails so is torn: the first half of its bytes
-    /// stands in the file.
+    /// an earlier one that hasn't come. A write that fails so is torn: part of its bytes
+    /// stands in the file, by no clause which; it is the first half.
     pub fn fail_at(&mut self, call: u64)
         ensures { self.new ≡ record self.old { plan = record self.old.plan { fail = Some call } } }
     {

@@ -2,7 +2,7 @@
 use Rattle.std.proofs.Common.{◌≡◌, ℕ, zero, suc, ◌<◌, ◌≤◌, ◌==◌, cond, nat_lt, Some, None, List, [], ◌∷◌, length, take, refl, sym, ap, ◌∙◌, arith, length-take}
 use Rattle.std.specs.Prelude.{if◌then◌else◌}
 use Rattle.std.proofs.lemmas.Bool.{lt-ltb, le-ltb}
-use Rattle.std.proofs.lemmas.List.{take_all}
+use Rattle.std.proofs.lemmas.List.{take_all, length-take-le}
 use Rattle.lert_spec.specs.Trace.{agreed}
 use Rattle.lert_journal.specs.Header.{magic, header_left}
 
@@ -17,14 +17,26 @@ agreed_front (x ∷ text) (y ∷ bytes) (suc n) enough = ap (λ rest. cond (x ==
 length_decides : (file : List ℕ) → 8 ≤ agreed magic file → header_left file ≡ (if nat_lt (length file) 32 then Some (length file) else None)
 length_decides file begins = ap (λ b. if b then Some (agreed magic file) else (if nat_lt (length file) 32 then Some (length file) else None)) (le-ltb (agreed magic file) 8 begins)
 
+-- files with the same first 32 bytes agree with the eight as far
+pub agreed_same : (bytes file : List ℕ) → take 32 bytes ≡ take 32 file → agreed magic bytes ≡ agreed magic file
+agreed_same bytes file is = sym (agreed_front magic bytes 32 (omega arith)) ∙ (ap (agreed magic) is ∙ agreed_front magic file 32 (omega arith))
+
+-- a file that leaves them
+pub front_left : (file bytes : List ℕ) → take 32 bytes ≡ take 32 file → agreed magic bytes < 8 → Some (agreed magic bytes) ≡ header_left file
+front_left file bytes is left =
+    let same = agreed_same bytes file is in
+    ap Some same ∙ sym (ap (λ b. if b then Some (agreed magic file) else (if nat_lt (length file) 32 then Some (length file) else None)) (lt-ltb (agreed magic file) 8 (omega (arith, same, left))))
+
 -- a file that ends inside the header
-pub front_short : (file bytes : List ℕ) → bytes ≡ take 32 file → 8 ≤ agreed magic bytes → length bytes < 32 → Some (length bytes) ≡ header_left file
+pub front_short : (file bytes : List ℕ) → take 32 bytes ≡ take 32 file → 8 ≤ agreed magic bytes → length bytes < 32 → Some (length bytes) ≡ header_left file
 front_short file bytes is begins short =
-    let same : bytes ≡ file = is ∙ take_all 32 file (omega (arith, short, ap length is, length-take 32 file)) in
+    let whole : bytes ≡ take 32 file = sym (take_all 32 bytes (omega (arith, short))) ∙ is in
+    let same : bytes ≡ file = whole ∙ take_all 32 file (omega (arith, short, ap length whole, length-take 32 file)) in
     sym (sym (ap header_left same) ∙ (length_decides bytes begins ∙ ap (λ b. if b then Some (length bytes) else None) (lt-ltb (length bytes) 32 short)))
 
 -- a file with a header
-pub front_whole : (file bytes : List ℕ) → bytes ≡ take 32 file → 8 ≤ agreed magic bytes → 32 ≤ length bytes → None ≡ header_left file
+pub front_whole : (file bytes : List ℕ) → take 32 bytes ≡ take 32 file → 8 ≤ agreed magic bytes → 32 ≤ length bytes → None ≡ header_left file
 front_whole file bytes is begins whole =
-    let begins_file : 8 ≤ agreed magic file = omega (arith, begins, ap (agreed magic) is, agreed_front magic file 32 (omega arith)) in
-    sym (length_decides file begins_file ∙ ap (λ b. if b then Some (length file) else None) (le-ltb (length file) 32 (omega (arith, whole, ap length is, length-take 32 file))))
+    let lengths : length (take 32 file) ≡ 32 = sym (ap length is) ∙ length-take-le 32 bytes whole in
+    sym (length_decides file (omega (arith, begins, agreed_same bytes file is))
+    ∙ ap (λ b. if b then Some (length file) else None) (le-ltb (length file) 32 (omega (arith, lengths, length-take 32 file))))

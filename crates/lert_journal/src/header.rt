@@ -59,11 +59,11 @@ pub fn read_header(bytes: &[u8; HEADER_LEN]) -> Option<Kept>
     })
 }
 
-/// The place at which a file leaves the header of a journal, from its first 32 bytes, or all where it has fewer. It
+/// The place at which a file leaves the header of a journal, from its first 32 bytes or more, or all where it has fewer. It
 /// is that of the first of eight bytes that begins no journal, else the file's length, where it ends inside the
 /// header. None where a header stands there, of whatever numbers.
 pub fn header_left(bytes: &[u8]) -> Option<u64>
-    ensures place { (file : List ℕ) → bytes.now ≡ take 32 file → result ≡ header_left file }
+    ensures place { (file : List ℕ) → take 32 bytes.now ≡ take 32 file → result ≡ header_left file }
     ensures whole { IfNone result ((32 ≤ length bytes.now) × (take 8 bytes.now ≡ magic)) }
 {
     let same = agreed(&MAGIC, bytes);

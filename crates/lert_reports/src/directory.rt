@@ -6,8 +6,8 @@ ghost use Rattle.lert_spec.specs.Edges.{capacity};
 
 use lert_base::Settings;
 
-/// How many bins a level from 1 on has after `n` events, which is how many frames a record of the log names for it. At
-/// most four divisions.
+/// How many bins a level from 1 on has after `n` events, which is how many frames a record of the log names for it. It
+/// makes four divisions.
 pub fn bins(settings: &Settings, level: u32, n: u64) -> u64
     requires first { 1 ≤ level }
     requires last { level ≤ settings.now.levels }

@@ -8,7 +8,7 @@ use Rattle.lert_journal.proofs.header.write_header.Goals as goal
 pub returns-clause-text : goal.returns-clause-text
 returns-clause-text c =
     laid 8 12 16 20 24 28 32 _ _ _ _ _ _ _ c.put.new.into c.put_u32.new.into c.put_u32-2.new.into c.put_u32-3.new.into c.put_u32-4.new.into c.put-2.new.into c.put_u32-5.new.into
-    c.put.ensures c.put_u32.ensures c.put_u32-2.ensures c.put_u32-3.ensures c.put_u32-4.ensures c.put-2.ensures c.put_u32-5.ensures (search rules)
+    c.put.ensures.text c.put_u32.ensures.text c.put_u32-2.ensures.text c.put_u32-3.ensures.text c.put_u32-4.ensures.text c.put-2.ensures.text c.put_u32-5.ensures.text (search rules)
     ∙ ap (λ s. header s c.args.cone) c.numbers-numbers.ensures.value
 
 pub returns-clause-reads_back : goal.returns-clause-reads_back

@@ -6,6 +6,6 @@ pub returns : goal.returns
 returns c =
     let end : c.args.place + 16 ≡ c.args.place + 8 + 8 = omega arith in
     ap (λ n. take n c.put_u64-2.new.into) end
-    ∙ (c.put_u64-2.ensures
-    ∙ (ap (λ bytes. bytes ++ little_bytes 8 c.args.report.now.at) c.put_u64.ensures
+    ∙ (c.put_u64-2.ensures.text
+    ∙ (ap (λ bytes. bytes ++ little_bytes 8 c.args.report.now.at) c.put_u64.ensures.text
     ∙ append_assoc (take c.args.place c.args.into.now) (little_bytes 8 c.args.report.now.key) (little_bytes 8 c.args.report.now.at)))

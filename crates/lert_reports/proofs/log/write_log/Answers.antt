@@ -142,5 +142,5 @@ module _ (kind : LogKind) (n0 offset first : ℕ) (directory : List ℕ) (report
 pub returns-clause-text : goal.returns-clause-text
 returns-clause-text c =
     laid c.args.kind c.args.n0 c.args.offset c.args.first c.args.directory.now c.args.reports.now c.number_of.result c.put_u32.new.into c.put.new.into c.put_u64.new.into
-    c.put_u64-2.new.into c.put_u64-3.new.into c.put-2.new.into c.put_u32-2.new.into c.put_reports.new.into c.put-3.new.into c.number_of.ensures c.put_u32.ensures c.put.ensures
-    c.put_u64.ensures c.put_u64-2.ensures c.put_u64-3.ensures c.put-2.ensures c.put_u32-2.ensures c.put_reports.ensures c.put-3.ensures
+    c.put_u64-2.new.into c.put_u64-3.new.into c.put-2.new.into c.put_u32-2.new.into c.put_reports.new.into c.put-3.new.into c.number_of.ensures c.put_u32.ensures.text c.put.ensures.text
+    c.put_u64.ensures.text c.put_u64-2.ensures.text c.put_u64-3.ensures.text c.put-2.ensures.text c.put_u32-2.ensures.text c.put_reports.ensures c.put-3.ensures.text
