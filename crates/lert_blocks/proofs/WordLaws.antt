@@ -1,11 +1,9 @@
 -- Rows of words, and their words.
-use Rattle.std.proofs.Common.{◌≡◌, ℕ, suc, zero, ◌+◌, ◌*◌, ◌/◌, ◌%◌, ◌^◌, ◌<◌, ◌≤◌, Bool, true, false, cond, ◌==◌, List, [], ◌∷◌, ◌++◌, length, take, drop, get_or, replicate}
+use Rattle.std.proofs.Common.{◌≡◌, ℕ, suc, zero, ◌+◌, ◌*◌, ◌^◌, ◌<◌, ◌≤◌, Bool, false, List, [], ◌∷◌, ◌++◌, length, take, drop, get_or, replicate}
 use Rattle.std.proofs.Common.{refl, sym, ap, ◌∙◌, arith}
-use Rattle.std.proofs.lemmas.Bool.Decides.{nat_tests}
 use Rattle.std.proofs.lemmas.List.{append_assoc, drop-append-le, drop-drop, drop_at, ext_get_or, get_or-drop, get_or-take, take-append-le, take_all}
 use Rattle.std.proofs.lemmas.List.{length-append, length-drop, length-replicate, length-take-le, replicate-append-replicate}
 use Rattle.std.proofs.lemmas.List.FromFn.{length-map-range_with_len, get_or-map-range_with_len}
-use Rattle.std.proofs.Math.Nat.{pow-suc, pow-zero}
 use Rattle.lert_slotbits.specs.Bits.{bits_in, word_bits, row_of}
 use Rattle.lert_slotbits.proofs.RowLemmas.{length_word_bits, length_row}
 use Rattle.lert_blocks.specs.Text.{number_of_bits, word_count, words_of}

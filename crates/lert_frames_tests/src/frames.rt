@@ -17,6 +17,10 @@ use std::process::Abort;
 const ONE: [u8; 36] =
     *b"\0\0\0\0\0\x20\0\0\x02\0\0\0\x02\0\0\0\0\0\0\0\x2c\xcb\xc2\x34\xfc\xbc\x56\0\x2c\xcb\xc2\x34\xfc\xbc\x56\0";
 
+// A block whose quotient 45 has a run of the slots 5, 5, 3, 7, 9, 11 and 13.
+const RUN: [u8; 76] =
+    *b"\0\0\0\0\0\x20\0\0\x07\0\0\0\x40\0\0\0\0\0\0\0\x05\0\0\0\0\0\0\0\x05\0\0\0\0\0\0\0\x03\0\0\0\0\0\0\0\x07\0\0\0\0\0\0\0\x09\0\0\0\0\0\0\0\x0b\0\0\0\0\0\0\0\x0d\0\0\0\0\0\0\0";
+
 // Counts at which a group gets another slot in narrow bins, or nearly.
 const COUNTS: [u64; 7] = [1, 2, 3, 255, 256, 257, 65_536];
 
@@ -122,6 +126,20 @@ fn a_file_leaves_a_frame_at_a_place(rt: HostRuntime) {
         let left = left_at(&rt, rt.alloc(), &ONE[..len], 2);
         assert!(rt; left == Some(len as u64), "{len} bytes");
     }
+}
+
+// The place at which that run is left, with another last byte.
+fn left_in_run(rt: &impl Abort, alloc: Global, last: u8) -> Option<u64> {
+    let mut bytes = RUN;
+    bytes[75] = last;
+    left_at(rt, alloc, &bytes, 7)
+}
+
+#[test]
+fn a_slot_that_is_too_great_counts_before_a_group_that_may_have_it(rt: HostRuntime) {
+    // The third slot doesn't ascend. With 2^58 more the last one has 59 bits.
+    assert_eq!(rt; left_in_run(&rt, rt.alloc(), 0), Some(36));
+    assert_eq!(rt; left_in_run(&rt, rt.alloc(), 4), Some(68));
 }
 
 // Whether pieces of a frame of level 1 are read as they were written.

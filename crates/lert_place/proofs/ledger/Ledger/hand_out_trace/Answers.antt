@@ -3,7 +3,6 @@ use Rattle.std.proofs.lemmas.List.{length_push}
 use Rattle.std.proofs.lemmas.Result.{err_from_is_err_and}
 use Rattle.lert_place.specs.Openings.{is_trace, is_bay}
 use Rattle.lert_place.specs.Shelf.{Loans}
-use Rattle.lert_place.specs.declared.opening.Opening.{Opening}
 use Rattle.lert_place.proofs.Handing.{one_more, no_more}
 use Rattle.lert_place.proofs.ledger.Ledger.hand_out_trace.Goals as goal
 

@@ -1,4 +1,4 @@
-use Rattle.std.proofs.Common.{◌≡◌, refl, sym, ap, ◌∙◌, ◌++◌, ◌∷◌, [], length, arith}
+use Rattle.std.proofs.Common.{refl, sym, ap, ◌∙◌, ◌++◌, ◌∷◌, [], length, arith}
 use Rattle.lert_place.proofs.Handing.{counted, faultless, none_yet}
 use Rattle.lert_place.proofs.pair_place.PairPlace.hand_out_bay.Goals as goal
 
