@@ -165,6 +165,7 @@ frame_breaks() { gives "$1" 1 '' "sound: cone-000: file 2 is broken at byte $2\n
 check_frames() {
     local key='\1\0\0\0\0\0\0\0' nothing='\0\0\0\0\0\0\0\0' keys wrong='sound: cone-000:'
     local slot='\54\313\302\64\374\274\126\0' digit='\2\0\0\0\0\0\0\0' wide='\2\0\0\0\0\0\0\4'
+    local run zeros='\0\0\0\0\0\0\0'
     has python3 || return
     keys="$key$key$key$key" && mkdir files
     printf 'LERTJ\1\0\0\15\0\0\0\40\0\0\0\4\0\0\0\10\0\0\0\3\2\2\0\0\0\0\0' >files/cone-000.journal
@@ -192,6 +193,11 @@ check_frames() {
     frame_breaks 'a greater digit without a 0 before it' 28
     one_block '\4' '\10' "$slot$nothing$nothing$wide"
     frame_breaks 'a slot of more bits behind a group that is none' 44
+    run='\5'"$zeros"'\5'"$zeros"'\3'"$zeros"'\7'"$zeros"'\11'"$zeros"'\13'"$zeros"'\15\0\0\0\0\0\0'
+    one_block '\7' '\100' "$run"'\0'
+    frame_breaks 'a remainder below the one before it' 36
+    one_block '\7' '\100' "$run"'\4'
+    frame_breaks 'a slot of more bits among the nine that a group may have' 68
     one_block '\4' '\10' "$key$digit$slot$slot"
     gives 'a frame of other keys' 1 '' \
         "$wrong the frame of the positions above 0 up to 4 doesn't hold their counts\n" sound files
