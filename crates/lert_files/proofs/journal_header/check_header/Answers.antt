@@ -1,4 +1,5 @@
-use Rattle.std.proofs.Common.{◌∙◌, arith, refl}
+use Rattle.std.proofs.Common.{take, ap, sym, ◌∙◌, inl, arith, refl}
+use Rattle.std.proofs.lemmas.List.{take-take}
 use Rattle.lert_files.proofs.HeadLaws.{front_read, read_whole, whole_file, gateless_there, fault_there, headed_there}
 use Rattle.lert_files.proofs.journal_header.check_header.Goals as goal
 
@@ -22,6 +23,10 @@ returns-then-end-clause-told c file end_is is =
     let head_is = read_whole c.args.count c.args.head.now file c.told-head c.requires is whole.0 in
     gateless_there c.args.settings.now c.args.cone c.args.end c.args.head.now file c.in-Some-read_header.kept head_is
     c.in-Some-read_header.ensures.0 (whole_file c.args.count c.args.head.now file is whole.0) end_is (omega (arith, c.if-end.true)) c.in-Some-read_header.ensures.1 (c.if-not-is_own.ensures.own refl)
+
+pub returns-in-Some-clause-told : goal.returns-in-Some-clause-told
+returns-in-Some-clause-told c file end_is is =
+    inl (c.in-Some.at, refl, inl (sym (c.in-Some.ensures.place file (ap (take 32) is ∙ take-take 32 32 file (omega arith)))))
 
 pub unreachable-requires : goal.unreachable-requires
 unreachable-requires c =
