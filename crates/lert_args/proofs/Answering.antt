@@ -9,7 +9,7 @@ use Rattle.clap.specs.Kinds.{Kinds}
 use Rattle.clap.specs.Faults.{fault_of}
 use Rattle.lert_args.specs.App.{app_with, is_read}
 use Rattle.lert_args.specs.Word.{number_of}
-use Rattle.lert_args.specs.Said.{Given, Said, are_distinct, between, is_among, said, said_once, spelt, value_given}
+use Rattle.lert_args.specs.Said.{Given, Said, are_distinct, between, is_among, names_given, said, said_once, spelt, value_given}
 use Rattle.lert_args.specs.Scan.{places_from}
 use Rattle.lert_args.specs.declared.scan.Stand.TheVariants.{Between}
 use Rattle.lert_args.proofs.Among.{AreKnown, all_among, each_among, heard_known}

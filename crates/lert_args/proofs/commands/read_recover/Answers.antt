@@ -1,6 +1,6 @@
-use Rattle.std.proofs.Common.{Some, inl, inr, rules, get_or, sym, ◌∙◌, refl}
+use Rattle.std.proofs.Common.{Some, inl, inr, rules, get_or, ap, sym, ◌∙◌, refl}
 use Rattle.std.proofs.lemmas.Result.{err_from_is_err_and}
-use Rattle.lert_args.specs.Command.{recover_said}
+use Rattle.lert_args.specs.Command.{recover_named, recover_said}
 use Rattle.lert_args.specs.declared.line.Line.TheVariants.{Recover}
 use Rattle.lert_args.proofs.CommandLaws.{IsAnswered-none, answered, by_said, recover_named-is, recover_named-none, unsaid}
 use Rattle.lert_args.proofs.commands.read_recover.Goals as goal
