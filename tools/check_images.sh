@@ -1,7 +1,0 @@
-# Checks what recoveries make of files that a crash may leave. tools/check reads it.
-
-# Some images of recorded runs and reopenings, some with a changed byte, and syncs that are left out.
-check_images() {
-    has python3 cc || return
-    gives 'recoveries of what a crash may leave' 0 '' '' passes "$top/tools/images" "$("$top/tools/program")" --images 100
-}

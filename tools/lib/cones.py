@@ -1,0 +1,364 @@
+"""What the files of a cone hold, by their formats, and the reports of its events, by the definitions alone.
+
+It knows nothing of the program. All files of a cone are kept in memory. The reports of 1,000,000 events take
+some seconds.
+"""
+
+from __future__ import annotations
+
+from bisect import bisect_right
+from collections import Counter, defaultdict
+from functools import cache, cached_property
+from itertools import accumulate
+from typing import Callable, Iterator, NamedTuple, Sequence, TypeVar
+
+from .formats import (
+    HEADER_LEN,
+    LOG_MAGIC,
+    OPEN,
+    Header,
+    Left,
+    Packet,
+    begins_with,
+    cone_of,
+    header_of,
+    mixed,
+    packets,
+    payloads,
+)
+from .slots import Piece, Shape, frame_len, pieces_at, shape_of
+
+SUFFIXES = (".journal", ".log", ".frames")
+JOURNAL, LOG, FRAMES = range(3)
+FLUSH, CLOSING = 1, 2
+MOST_OFFSET = 1 << 46
+
+Read = TypeVar("Read")
+
+
+class Unsound(Exception):
+    """The files keep their formats, and yet aren't sound. The text says why."""
+
+
+class Broken(Exception):
+    """A file leaves its format, or is at odds with the file that was read before, at this byte of it."""
+
+    def __init__(self, file: int, at: int) -> None:
+        super().__init__(f"file {file} is broken at byte {at}")
+        self.file = file
+        self.at = at
+
+
+class Levels(NamedTuple):
+    """The edges of the levels. Positions count from 1; a level holds those above its edge, up to that of the level before."""
+
+    base: int
+    ratio: int
+    bins: int
+    levels: int
+
+    def span(self, level: int) -> int:
+        return self.base * self.ratio**level
+
+    @cache
+    def offset(self, level: int) -> int:
+        return (self.bins - 1) * sum(self.span(one) for one in range(level + 1))
+
+    def edge(self, level: int, events: int) -> int:
+        return max(0, events - self.offset(level)) // self.span(level) * self.span(level)
+
+    def depth(self, at: int) -> int:
+        """The greatest level that takes a bin at this position; 0 at one that is no flush position."""
+        moved = (one for one in range(self.levels, 0, -1) if self.edge(one - 1, at) != self.edge(one - 1, at - 1))
+        return next(moved, 0)
+
+    def lookback(self, at: int) -> int:
+        return self.edge(self.depth(at), at - 1)
+
+    def flushes(self, events: int) -> range:
+        """The flush positions up to a number of events: those at which the edge of level 0 moves."""
+        return range(self.bins * self.base, events + 1, self.base)
+
+    def last_flush(self, events: int) -> int:
+        flushes = self.flushes(events)
+        return flushes[-1] if flushes else 0
+
+    def capacity(self, header: Header) -> int:
+        return min(self.offset(self.levels) + self.span(self.levels) - 1, header.threshold * header.room)
+
+    def ranges(self, level: int, events: int) -> Iterator[tuple[int, int]]:
+        """The positions of the bins of a level: above the first number, up to the second."""
+        low, high, span = self.edge(level, events), self.edge(level - 1, events), self.span(level)
+        for k in range(low // span, -(-high // span)):
+            one = max(low, k * span), min(high, (k + 1) * span)
+            if one[0] < one[1]:
+                yield one
+
+    def frame_place(self, level: int, frame: int) -> int:
+        """The first byte of a frame. There is one more on a level than bins."""
+        younger = sum(frame_len(self.span(one)) for one in range(1, level))
+        return (self.bins + 1) * younger + frame * frame_len(self.span(level))
+
+
+def levels_of(header: Header) -> Levels:
+    return Levels(header.base, header.ratio, header.bins, header.levels)
+
+
+class Report(NamedTuple):
+    key: int
+    at: int
+
+
+class Record(NamedTuple):
+    gate: int
+    kind: int
+    n0: int
+    offset: int
+    first: int
+    directory: list[list[int]]
+    reports: list[Report]
+
+
+def look(levels: Levels, threshold: int, events: list[int]) -> list[Report]:
+    """At each position the keys not listed that occur `threshold` times in the window that it looks back to."""
+    reports: list[Report] = []
+    places: dict[int, list[int]] = defaultdict(list)
+    # A key that is due somewhere occurs that often in all: only these are looked at, until they are listed.
+    heavy = {key for key, count in Counter(events).items() if count >= threshold}
+    waiting: set[int] = set()
+    flushes = levels.flushes(len(events))
+    for at, key in enumerate(events, 1):
+        if key in heavy:
+            places[key].append(at)
+            if len(places[key]) >= threshold:
+                waiting.add(key)
+        asked = sorted(waiting, key=mixed) if at in flushes else [key] if key in waiting else []
+        start = levels.lookback(at) if asked else 0
+        for one in asked:
+            if len(places[one]) - bisect_right(places[one], start) >= threshold:
+                reports.append(Report(one, at))
+                heavy.remove(one)
+                waiting.remove(one)
+    return reports
+
+
+def left_over(threshold: int, events: list[int], looked: list[Report]) -> list[Report]:
+    """What closing adds at the last position: the keys not listed that occur `threshold` times in all events."""
+    listed = {report.key for report in looked}
+    due = [key for key, count in Counter(events).items() if count >= threshold and key not in listed]
+    return [Report(key, len(events)) for key in sorted(due, key=mixed)]
+
+
+# The reports that are made while the events come, and those that stand once the cone is closed.
+MADE = LOOK, CLOSED = "look", "closing"
+
+
+class Fields:
+    """The fields of a log record's payload, read in their order."""
+
+    def __init__(self, payload: bytes, place: int) -> None:
+        self.payload = payload
+        self.place = place
+        self.at = 0
+
+    def number(self, size: int) -> int:
+        if self.at + size > len(self.payload):
+            raise Left(self.place + self.at)
+        self.at += size
+        return int.from_bytes(self.payload[self.at - size : self.at], "little")
+
+    def keep(self, rule: bool, size: int) -> None:
+        """The rule of the field that was read last."""
+        if not rule:
+            raise Left(self.place + self.at - size)
+
+    def ruled(self, size: int, least: int, most: int) -> int:
+        number = self.number(size)
+        self.keep(least <= number <= most, size)
+        return number
+
+
+class Log:
+    """The records of a log, each of which keeps the rules behind those before it."""
+
+    def __init__(self, header: Header, levels: Levels) -> None:
+        self.header = header
+        self.levels = levels
+        self.n0 = 0
+        self.flushes = 0
+        self.closed = False
+        self.directory: list[list[int]] = [[] for _ in range(levels.levels)]
+        self.reports: list[Report] = []
+        self.listed: set[int] = set()
+        self.records: list[Record] = []
+
+    def read(self, data: bytes) -> None:
+        begins_with(data, LOG_MAGIC)
+        self.follow(data[len(LOG_MAGIC) :], len(LOG_MAGIC))
+
+    def follow(self, data: bytes, start: int) -> int:
+        """Takes the open records from the gate at byte `start` of the file on, where `data` begins, and gives the gate
+        behind them."""
+        gate = start
+        most = 29 + self.levels.levels * (1 + self.levels.bins) + 16 * self.header.room
+        for at, payload in payloads(data, start, most, start):
+            self.take(at - 1, Fields(payload, at + 4))
+            gate = at + 4 + len(payload)
+            # Nothing stands behind a closing record, whatever its length would be.
+            if self.closed and data[gate - start : gate - start + 1] == bytes([OPEN]):
+                raise Left(gate)
+        return gate
+
+    def take(self, gate: int, fields: Fields) -> None:
+        kind = fields.ruled(1, FLUSH, CLOSING)
+        n0 = fields.number(8)
+        due = (self.levels.bins + self.flushes) * self.levels.base
+        in_turn = n0 == due if kind == FLUSH else self.n0 <= n0 < due
+        fields.keep(n0 <= self.levels.capacity(self.header) and in_turn, 8)
+        offset = fields.ruled(8, HEADER_LEN, MOST_OFFSET)
+        first = fields.ruled(8, 1, self.levels.edge(0, n0) + 1)
+        directory = [self.frames(fields, level, n0) for level in range(1, self.levels.levels + 1)]
+        reports = self.new_reports(fields, n0)
+        if fields.at < len(fields.payload):
+            raise Left(fields.place + fields.at)
+        self.n0, self.directory, self.closed = n0, directory, kind == CLOSING
+        self.flushes += kind == FLUSH
+        self.records.append(Record(gate, kind, n0, offset, first, directory, reports))
+
+    def frames(self, fields: Fields, level: int, n0: int) -> list[int]:
+        count = len(list(self.levels.ranges(level, n0)))
+        fields.ruled(1, count, count)
+        frames: list[int] = []
+        for _ in range(count):
+            frame = fields.ruled(1, 0, self.levels.bins)
+            fields.keep(frame not in frames, 1)
+            frames.append(frame)
+        return frames
+
+    def new_reports(self, fields: Fields, n0: int) -> list[Report]:
+        count = fields.ruled(4, 0, self.header.room - len(self.reports))
+        reports = []
+        for _ in range(count):
+            key = fields.number(8)
+            own = cone_of(self.header.cone_bits, key) == self.header.cone
+            fields.keep(own and key not in self.listed, 8)
+            at = fields.ruled(8, max(1, self.reports[-1].at if self.reports else 1), n0)
+            self.listed.add(key)
+            self.reports.append(Report(key, at))
+            reports.append(self.reports[-1])
+        return reports
+
+    def begins(self) -> tuple[int, int]:
+        """The journal's record that the last one names: its gate, and the position of its first key."""
+        return (self.records[-1].offset, self.records[-1].first) if self.records else (HEADER_LEN, 1)
+
+
+class Cone:
+    """The files of a cone, read in the order in which they are opened again: the header of the journal, the log, the
+    frames that its last record names, and the packets of the journal. The count is that of the events up to the last
+    packet, which are more than those read where the first packets aren't."""
+
+    def __init__(self, files: Sequence[bytes], due: Header | None = None) -> None:
+        """The three files in their order, and the header that is due in the journal, where it is known."""
+        self.files = files
+        self.header = header = in_file(JOURNAL, lambda data: header_of(data, due), files[JOURNAL])
+        self.levels = levels_of(header)
+        self.log = Log(header, self.levels)
+        self.packets: list[tuple[int, Packet]] = []
+        self.events: list[int] = []
+        self.count = 0
+        self.frames: list[tuple[int, int, list[Piece]]] = []
+
+    def read(self) -> None:
+        """Reads all of them."""
+        self.read_before_packets()
+        in_file(JOURNAL, self.read_journal, self.files[JOURNAL])
+
+    def read_before_packets(self) -> None:
+        in_file(LOG, self.log.read, self.files[LOG])
+        in_file(FRAMES, self.read_frames, self.files[FRAMES])
+
+    def shape(self, level: int) -> Shape:
+        """That of a level's frames."""
+        return shape_of(self.levels.span(level), self.header.cone_bits)
+
+    def read_frames(self, data: bytes) -> None:
+        for level, frames in enumerate(self.log.directory, 1):
+            for (low, high), frame in zip(self.levels.ranges(level, self.log.n0), frames, strict=True):
+                place = self.levels.frame_place(level, frame)
+                self.frames.append((low, high, pieces_at(data, place, self.shape(level), high - low)))
+
+    def read_journal(self, data: bytes, gate: int = HEADER_LEN, first: int = 1) -> None:
+        """Takes the packets from a gate on, of which the first one begins with the key at this position."""
+        capacity, n0 = self.levels.capacity(self.header), self.log.n0
+        self.count = first - 1
+        end = gate
+        for gate, packet in packets(data, gate):
+            self.count += len(packet.keys)
+            if self.log.closed and self.count > n0:
+                raise Left(gate)
+            if self.count > capacity:
+                raise Left(gate + 1)
+            self.packets.append((gate, packet))
+            self.events += packet.keys
+            end = packet.behind(gate)
+        if self.count < n0:
+            raise Left(end)
+
+    @cached_property
+    def looked(self) -> list[Report]:
+        return look(self.levels, self.header.threshold, self.events)
+
+    def reports(self, made: str) -> list[Report]:
+        return self.looked + (left_over(self.header.threshold, self.events, self.looked) if made == CLOSED else [])
+
+    def check(self) -> None:
+        """The files, which keep their formats, are sound for the packets of the journal."""
+        n0, events = self.log.n0, len(self.events)
+        before_last = events - len(self.packets[-1][1].keys) if self.packets else 0
+        if n0 < self.levels.last_flush(before_last):
+            raise Unsound(f"the log speaks of {n0} events, and a flush was due behind them")
+        bits = 64 - self.header.cone_bits
+        for low, high, pieces in self.frames:
+            # No two keys of a cone have the same tail.
+            counts = Counter(self.events[low:high])
+            if pieces != sorted((mixed(key) % (1 << bits), times) for key, times in counts.items()):
+                raise Unsound(f"the frame of the positions above {low} up to {high} doesn't hold their counts")
+        # What is listed at a position doesn't depend on the events behind it.
+        made = self.reports(CLOSED) if self.log.closed else [report for report in self.looked if report.at <= n0]
+        if self.log.reports != made:
+            raise Unsound(f"the log's reports aren't those of {n0} events")
+        self.check_place(self.log.records[-1:])
+
+    def check_places(self) -> None:
+        """So does each record of the log, of which soundness asks the last one alone."""
+        self.check_place(self.log.records)
+
+    def check_place(self, records: list[Record]) -> None:
+        """These records of the log name the journal's record that holds the first position of level 0."""
+        for record in records:
+            offset, first = self.begin_of(record.n0)
+            if (record.offset, record.first) != (offset, first):
+                named = f"byte {record.offset} and position {record.first} of the journal"
+                raise Unsound(f"the log's record of {record.n0} events names {named}, and not {offset} and {first}")
+
+    @cached_property
+    def first_positions(self) -> list[int]:
+        """Those of the journal's records, and behind them the next one."""
+        return list(accumulate((len(packet.keys) for _gate, packet in self.packets), initial=1))
+
+    def begin_of(self, n0: int) -> tuple[int, int]:
+        """The journal's record that holds the first position of level 0 behind n0 events: its gate, and the position of
+        its first key. Without an event it is the first one."""
+        if n0 == 0:
+            return HEADER_LEN, 1
+        number = bisect_right(self.first_positions, self.levels.edge(0, n0) + 1) - 1
+        return self.packets[number][0], self.first_positions[number]
+
+
+def in_file(file: int, read: Callable[[bytes], Read], data: bytes) -> Read:
+    """What `read` makes of a file's bytes; the file stands in what it refuses."""
+    try:
+        return read(data)
+    except Left as left:
+        raise Broken(file, left.at) from left

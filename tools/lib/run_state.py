@@ -1,0 +1,163 @@
+"""What the files of a run say of it by now, be it closed, stopped or going on: how far its cones are, and its reports.
+
+Journals are read packet by packet, and never whole. What stands behind an open gate is all there, also of a run that
+goes on: the program opens a gate only behind the packet.
+"""
+
+from __future__ import annotations
+
+import struct
+from dataclasses import dataclass
+from pathlib import Path
+from typing import BinaryIO, Iterator
+
+from .cones import Report, levels_of
+from .formats import HEADER_LEN, OPEN, BadNumbers, Header, Left, keys_of
+from .inputs import BadInput
+from .logs import Cone, cones_of, in_file
+
+KEY_LEN = 8
+HEAD = struct.Struct("<BI")
+PACKET_LEN = 8
+
+
+class Journal:
+    """A journal that is read as it grows."""
+
+    def __init__(self, path: Path, header: Header) -> None:
+        self.path = path
+        self.header = header
+        self.gate = HEADER_LEN
+        self.events = 0
+
+    def lengths(self, file: BinaryIO) -> Iterator[int]:
+        """The length of the payload of each new packet, where the file stands then. It may be read or not."""
+        while True:
+            file.seek(self.gate)
+            head = file.read(HEAD.size)
+            if not head:
+                raise Left(self.gate)
+            if head[0] != OPEN:
+                return
+            if len(head) < HEAD.size:
+                raise Left(self.gate + len(head))
+            length = HEAD.unpack(head)[1]
+            keys, rest = divmod(length - PACKET_LEN, KEY_LEN)
+            if rest or not 1 <= keys <= 4 * self.header.packet:
+                raise Left(self.gate + 1)
+            yield length
+            self.gate += HEAD.size + length
+            self.events += keys
+
+    def count(self) -> int:
+        """How many events it has by now."""
+        with self.path.open("rb", buffering=0) as file:
+            in_file(self.path, lambda: [None for _ in self.lengths(file)])
+        return self.events
+
+    def packets(self) -> Iterator[tuple[int, ...]]:
+        """The keys of each new packet."""
+        with self.path.open("rb") as file:
+            for length in self.lengths(file):
+                payload = file.read(length)
+                if len(payload) < length:
+                    raise Left(self.gate + HEAD.size + len(payload))
+                data = keys_of(self.header, self.gate + 1, payload)
+                yield struct.unpack(f"<{len(data) // KEY_LEN}Q", data)
+
+
+@dataclass
+class Reported:
+    """A report, with what the journal says of its key by now. Places count from 1; none of a place is 0."""
+
+    cone: int
+    key: int
+    reported: int
+    count: int = 0
+    first: int = 0
+    reached: int = 0
+
+    def meet(self, at: int, threshold: int) -> None:
+        self.count += 1
+        self.first = self.first or at
+        if self.count == threshold:
+            self.reached = at
+
+
+@dataclass
+class Part:
+    """A cone of a run: its number, how many events and reports it has, and how many it takes."""
+
+    cone: int
+    events: int
+    reports: int
+    capacity: int
+    closed: bool
+
+
+class Run:
+    """The files of a run."""
+
+    def __init__(self, folder: Path) -> None:
+        self.folder = folder
+        self.cones = cones_of(folder)
+        self.journals = [Journal(cone.journal, cone.header) for cone in self.cones]
+        self.header = self.cones[0].header
+
+    def read(self) -> None:
+        """Takes what the logs have by now."""
+        for cone in self.cones:
+            cone.read()
+
+    def parts(self) -> list[Part]:
+        """How far each cone is, by its log as it was read, and by its journal as it is."""
+        return [part_of(cone, journal.count()) for cone, journal in zip(self.cones, self.journals)]
+
+    def is_closed(self) -> bool:
+        return all(cone.log.closed for cone in self.cones)
+
+    def reports(self) -> Iterator[Reported]:
+        """The reports of the logs as they were read, with what the whole journals say of their keys, cone by cone."""
+        for cone in self.cones:
+            yield from reports_of(cone)
+
+
+def part_of(cone: Cone, events: int) -> Part:
+    most = levels_of(cone.header).capacity(cone.header)
+    return Part(cone.header.cone, events, len(cone.log.reports), most, cone.log.closed)
+
+
+def reports_of(cone: Cone) -> list[Reported]:
+    found = {report.key: reported(cone, report) for report in cone.log.reports}
+    journal = Journal(cone.journal, cone.header)
+    at = 0
+    try:
+        for keys in journal.packets():
+            for key in found.keys() & set(keys):
+                meet_all(found[key], keys, key, at, cone.header.threshold)
+            at += len(keys)
+    except Left as left:
+        raise BadInput(f"{cone.journal}, byte {left.at}: the file leaves its format") from None
+    return list(found.values())
+
+
+def reported(cone: Cone, report: Report) -> Reported:
+    return Reported(cone.header.cone, report.key, report.at)
+
+
+def meet_all(one: Reported, keys: tuple[int, ...], key: int, before: int, threshold: int) -> None:
+    """Takes each time that the key comes in a packet behind so many events."""
+    place = -1
+    for _ in range(keys.count(key)):
+        place = keys.index(key, place + 1)
+        one.meet(before + place + 1, threshold)
+
+
+def run_at(folder: Path) -> Run | None:
+    """The run in a directory, with its logs read, or none where its files can't be read."""
+    try:
+        run = Run(folder)
+        run.read()
+    except (BadInput, BadNumbers, OSError):
+        return None
+    return run

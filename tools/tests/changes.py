@@ -1,0 +1,351 @@
+"""The changes of the files of cones that damage tries: a table of them, and drawn ones.
+
+It knows nothing of the program: what is due of a change stands in docs/FORMATS.md and the definitions.
+"""
+
+from __future__ import annotations
+
+import random
+from itertools import islice
+from typing import Callable, Iterator, NamedTuple
+
+from breaks import COUNT_TOP_AT, TOO_GREAT, frame_changes
+from lib.cones import FLUSH, FRAMES, JOURNAL, LOG, MOST_OFFSET, SUFFIXES, Cone
+from lib.formats import HEADER_LEN, OPEN
+from lib.slots import COUNT_AT, frame_len
+from lib.words import Settings
+from recovery import Folder, file_name, files_in
+
+CUTS = 50
+# Of the version in journal and log.
+VERSION_AT = 5
+GARBAGE_LEN = 200
+# From a gate to its payload, and from that of a log's record to the place in the journal that it names.
+PAYLOAD_BEHIND_GATE = 5
+OFFSET_BEHIND_GATE = PAYLOAD_BEHIND_GATE + 9
+
+
+Changes = dict[str, bytes | None]
+
+
+class Run(NamedTuple):
+    """A run that makes files: so many keys, and the status at its end. Its files come in the table, or in drawn changes
+    alone."""
+
+    settings: Settings
+    keys: int
+    status: int
+    is_in_table: bool = True
+
+
+class Kept(NamedTuple):
+    """The files that a run left."""
+
+    run: Run
+    folder: Folder
+
+
+class Case(NamedTuple):
+    """Files of a run with some of them changed, or None for one that is taken away, opened with the run's settings or
+    with others. The line is that which the table says to be due: that of a refusal, or an empty one where nothing
+    changes. The kind is one of drawn changes."""
+
+    name: str
+    kept: Kept
+    changed: Changes
+    line: str | None = None
+    others: Settings | None = None
+    kind: str = "the table"
+
+    def settings(self) -> Settings:
+        return self.others or self.kept.run.settings
+
+    def folder(self) -> Folder:
+        both = {**self.kept.folder, **self.changed}
+        return {name: data for name, data in both.items() if data is not None}
+
+
+def cone_in(kept: Kept, cone: int) -> Cone:
+    read = Cone(files_in(kept.folder, cone))
+    read.read()
+    return read
+
+
+def put(data: bytes, at: int, *values: int) -> bytes:
+    return data[:at] + bytes(values) + data[at + len(values) :]
+
+
+def malformed(cone: int, file: int, at: int) -> str:
+    return f"lert: cone {cone} file {file} malformed at {at}\n"
+
+
+def other_settings(cone: int) -> str:
+    return f"lert: cone {cone} has other settings\n"
+
+
+def cuts(kept: Kept) -> Iterator[Case]:
+    for name, data in kept.folder.items():
+        for length in sorted({len(data) * cut // CUTS for cut in range(CUTS)} | {len(data) - 1}):
+            yield Case(f"{name} cut at {length}", kept, {name: data[:length]})
+
+
+def swaps(kept: Kept) -> Iterator[Case]:
+    """The files of the first two cones are those of each other: all, and one by one."""
+    if len(kept.run.settings.cones()) < 2:
+        return
+    swapped: Changes = {}
+    for file, suffix in enumerate(SUFFIXES):
+        one, other = file_name(0, file), file_name(1, file)
+        pair: Changes = {one: kept.folder[other], other: kept.folder[one]}
+        yield Case(f"each other's {suffix}", kept, pair, other_settings(0) if file == JOURNAL else None)
+        swapped |= pair
+    yield Case("each other's files", kept, swapped, other_settings(0))
+
+
+def settings_changed(kept: Kept) -> Iterator[Case]:
+    for field, number in kept.run.settings._asdict().items():
+        others = kept.run.settings._replace(**{field: number + 1})
+        yield Case(f"{field} {number + 1}", kept, {}, other_settings(0), others)
+
+
+def missing(kept: Kept, cone: int) -> Iterator[Case]:
+    names = [file_name(cone, file) for file in range(len(SUFFIXES))]
+    for word, data in (("empty", b""), ("gone", None)):
+        for file, name in enumerate(names):
+            yield Case(f"{name} {word}", kept, {name: data}, malformed(cone, file, 0))
+        yield Case(f"cone {cone} {word}", kept, dict.fromkeys(names, data), malformed(cone, JOURNAL, 0))
+
+
+def headers(kept: Kept, cone: int) -> Iterator[Case]:
+    for file in (JOURNAL, LOG):
+        name = file_name(cone, file)
+        changed = put(kept.folder[name], VERSION_AT, 2)
+        yield Case(f"{name} of another version", kept, {name: changed}, malformed(cone, file, VERSION_AT))
+    name = file_name(cone, JOURNAL)
+    header = kept.folder[name][:HEADER_LEN]
+    yield Case(f"{name} without a gate", kept, {name: header}, malformed(cone, JOURNAL, HEADER_LEN))
+    # The header's last number is the cone.
+    other = put(header, HEADER_LEN - 4, cone + 2)
+    yield Case(f"{name} of another cone without a gate", kept, {name: other}, other_settings(cone))
+
+
+def lengthened(kept: Kept, cone: int, draw: random.Random) -> Iterator[Case]:
+    for file in (JOURNAL, LOG, FRAMES):
+        name = file_name(cone, file)
+        yield Case(f"{name} with garbage at its end", kept, {name: kept.folder[name] + draw.randbytes(GARBAGE_LEN)}, "")
+
+
+def behind_closing(kept: Kept, cone: int) -> Iterator[Case]:
+    """Any open gate behind the closing record of a log is out of place, whatever stands behind it."""
+    if not cone_in(kept, cone).log.closed:
+        return
+    name = file_name(cone, LOG)
+    gate = len(kept.folder[name]) - 1
+    for record in ((), (0, 0, 0, 0), (255, 255, 255, 255), (1, 0, 0, 0, FLUSH, 0)):
+        changed = put(kept.folder[name], gate, OPEN, *record)
+        yield Case(f"{name} with {record} behind its closing", kept, {name: changed}, malformed(cone, LOG, gate))
+
+
+class Break(NamedTuple):
+    """A byte of a file that is made too great, and the place at which the file is left then."""
+
+    file: int
+    changed: int
+    left: int
+
+
+def in_order(kept: Kept, cone: int) -> Iterator[Case]:
+    """Many broken places, of which the first in the order of reading decides: the header, the log, the frames, levels
+    ascending and bins oldest first, the first packet of the journal that is read, and the cones behind this one."""
+    read = cone_in(kept, cone)
+    named = [(level, frame) for level, row in enumerate(read.log.directory, 1) for frame in row]
+    breaks = [Break(file, VERSION_AT, VERSION_AT) for file in (JOURNAL, LOG)]
+    places = [read.levels.frame_place(level, frame) for level, frame in named]
+    breaks += [Break(FRAMES, place + COUNT_TOP_AT, place + COUNT_AT) for place in places]
+    payload = read.log.begins()[0] + PAYLOAD_BEHIND_GATE
+    breaks.append(Break(JOURNAL, payload, payload))
+    behind = [file_name(later, JOURNAL) for later in kept.run.settings.cones() if later > cone]
+    for number, (file, _changed, left) in enumerate(breaks):
+        changed = dict(kept.folder)
+        for broken in breaks[number:]:
+            name = file_name(cone, broken.file)
+            changed[name] = put(changed[name], broken.changed, TOO_GREAT)
+        case = f"cone {cone} broken at byte {left} of file {file} and at all places read behind it"
+        yield Case(case, kept, {**changed, **dict.fromkeys(behind, b"")}, malformed(cone, file, left))
+
+
+def frames_changed(kept: Kept, cone: int) -> Iterator[Case]:
+    """The frame of each level's oldest bin."""
+    read = cone_in(kept, cone)
+    name = file_name(cone, FRAMES)
+    data = kept.folder[name]
+    for level, row in enumerate(read.log.directory, 1):
+        for frame in row[:1]:
+            place = read.levels.frame_place(level, frame)
+            for change in frame_changes(data, place, read.shape(level), place + frame_len(read.levels.span(level))):
+                line = "" if change.left is None else malformed(cone, FRAMES, change.left)
+                case = f"{name} with {change.name} at {change.at}"
+                yield Case(case, kept, {name: put(data, change.at, *change.values)}, line)
+
+
+def unread(kept: Kept, cone: int, draw: random.Random) -> Iterator[Case]:
+    """Other bytes in place of the records before the one that the log's last record names, which aren't read."""
+    name = file_name(cone, JOURNAL)
+    data = kept.folder[name]
+    gate, first = cone_in(kept, cone).log.begins()
+    count = gate - HEADER_LEN
+    for word, others in (("zeros", bytes(count)), ("ones", bytes([OPEN]) * count), ("others", draw.randbytes(count))):
+        changed = put(data, HEADER_LEN, *others)
+        yield Case(f"{name} with {word} before byte {gate} and position {first}", kept, {name: changed}, "")
+
+
+def misnamed(kept: Kept, cone: int) -> Iterator[Case]:
+    """The log's last record names another place of the journal, or another position there. Where a closed gate stands
+    at that place, or nothing at all, events are missing."""
+    read = cone_in(kept, cone)
+    name, journal = file_name(cone, LOG), file_name(cone, JOURNAL)
+    data, length = kept.folder[name], len(kept.folder[journal])
+    place = read.log.records[-1].gate + OFFSET_BEHIND_GATE
+    gate, first = read.log.begins()
+    # The lowest byte of a length is a multiple of 8, and so no open gate.
+    for named, left in ((gate + 1, gate + 1), (length - 1, length - 1), (length, length), (MOST_OFFSET, length)):
+        changed = put(data, place, *named.to_bytes(8, "little"))
+        yield Case(f"{name} that names byte {named}", kept, {name: changed}, malformed(cone, JOURNAL, left))
+    # Without the events before that record's.
+    line = malformed(cone, JOURNAL, length - 1) if read.count - (first - 1) < read.log.n0 else None
+    changed = put(data, place + 8, *(1).to_bytes(8, "little"))
+    yield Case(f"{name} that names position 1 at byte {gate}", kept, {name: changed}, line if first > 1 else "")
+    changed = put(data, place, *HEADER_LEN.to_bytes(8, "little"), *(1).to_bytes(8, "little"))
+    yield Case(f"{name} that names the first record", kept, {name: changed}, None if first > 1 else "")
+
+
+def gate_behind(read: Cone, events: int) -> int:
+    """The gate behind the packets in which the first events came."""
+    before = 0
+    for gate, packet in read.packets:
+        if before >= events:
+            return gate
+        before += len(packet.keys)
+    return len(read.files[JOURNAL]) - 1
+
+
+def stops(kept: Kept, cone: int) -> Iterator[Case]:
+    """A stop at an earlier moment leaves closed gates: the last packet's, the closing record's, and those of the last
+    flush and of the packet behind those that it came in."""
+    read = cone_in(kept, cone)
+    journal, log = file_name(cone, JOURNAL), file_name(cone, LOG)
+    last, _packet = read.packets[-1]
+    without_last = put(kept.folder[journal], last, 0)
+    line = malformed(cone, JOURNAL, last) if read.log.closed else None
+    yield Case(f"{journal} without its last packet", kept, {journal: without_last}, line)
+    if read.log.closed:
+        yield Case(f"{log} without its closing", kept, {log: put(kept.folder[log], read.log.records[-1].gate, 0)})
+    flush = [record for record in read.log.records if record.kind == FLUSH][-1]
+    before_flush: Changes = {
+        journal: put(kept.folder[journal], gate_behind(read, flush.n0), 0),
+        log: put(kept.folder[log], flush.gate, 0),
+    }
+    yield Case(f"cone {cone} before its last flush", kept, before_flush)
+
+
+def table(kept: Kept, draw: random.Random) -> Iterator[Case]:
+    yield Case("the files of a run", kept, {}, "")
+    yield from settings_changed(kept)
+    yield from swaps(kept)
+    for cone in kept.run.settings.cones():
+        yield from missing(kept, cone)
+        yield from headers(kept, cone)
+        yield from lengthened(kept, cone, draw)
+        yield from behind_closing(kept, cone)
+        yield from in_order(kept, cone)
+        yield from frames_changed(kept, cone)
+        yield from unread(kept, cone, draw)
+        yield from misnamed(kept, cone)
+        yield from stops(kept, cone)
+    yield from cuts(kept)
+
+
+# --- drawn changes
+
+# Of files: a name for what is done to them, and those that it changes.
+Harm = Callable[[Folder, random.Random], tuple[str, dict[str, bytes]]]
+
+# What a disk may lose at once.
+BLOCKS = (512, 4096)
+RANGES = (1, 8, 64, 512)
+
+
+def some_file(files: Folder, draw: random.Random, least: int = 1) -> tuple[str, bytes]:
+    """A file of so many bytes at least."""
+    name = draw.choice(sorted(name for name, data in files.items() if len(data) >= least))
+    return name, files[name]
+
+
+def one_byte(files: Folder, draw: random.Random) -> tuple[str, dict[str, bytes]]:
+    """A bit flipped, or another value, at any place."""
+    name, data = some_file(files, draw)
+    at = draw.randrange(len(data))
+    value = data[at] ^ (1 << draw.randrange(8) if draw.random() < 0.5 else draw.randrange(1, 256))
+    return f"{name} with {value} at {at}", {name: put(data, at, value)}
+
+
+def a_cut(files: Folder, draw: random.Random) -> tuple[str, dict[str, bytes]]:
+    name, data = some_file(files, draw)
+    length = draw.randrange(len(data))
+    return f"{name} cut at {length}", {name: data[:length]}
+
+
+def a_swap(files: Folder, draw: random.Random) -> tuple[str, dict[str, bytes]]:
+    """Two ranges of a file in each other's place, or two files."""
+    if draw.random() < 0.3:
+        one, other = draw.sample(sorted(files), 2)
+        return f"{one} and {other} swapped", {one: files[other], other: files[one]}
+    name, data = some_file(files, draw, 2)
+    length = min(draw.choice(RANGES), len(data) // 2)
+    low = draw.randint(0, len(data) - 2 * length)
+    high = draw.randint(low + length, len(data) - length)
+    first, second = data[low : low + length], data[high : high + length]
+    changed = data[:low] + second + data[low + length : high] + first + data[high + length :]
+    return f"{name} with the {length} bytes at {low} and at {high} swapped", {name: changed}
+
+
+def a_lost_block(files: Folder, draw: random.Random) -> tuple[str, dict[str, bytes]]:
+    """A block of the disk that reads as zeros."""
+    name, data = some_file(files, draw)
+    size = draw.choice(BLOCKS)
+    at = draw.randrange(0, len(data), size)
+    end = min(at + size, len(data))
+    return f"{name} with zeros from {at} up to {end}", {name: data[:at] + bytes(end - at) + data[end:]}
+
+
+def two_at_once(files: Folder, draw: random.Random) -> tuple[str, dict[str, bytes]]:
+    first, changed = draw.choice(SINGLE)(files, draw)
+    second, more = draw.choice(SINGLE)({**files, **changed}, draw)
+    return f"{first}, then {second}", {**changed, **more}
+
+
+SINGLE: tuple[Harm, ...] = (one_byte, a_cut, a_swap, a_lost_block)
+# Each kind with its share of a hundred.
+HARMS: dict[str, tuple[Harm, int]] = {
+    "a byte": (one_byte, 40),
+    "a cut": (a_cut, 10),
+    "a swap": (a_swap, 15),
+    "a block of zeros": (a_lost_block, 10),
+    "two at once": (two_at_once, 25),
+}
+
+
+def drawn(all_kept: list[Kept], draw: random.Random) -> Iterator[Case]:
+    shares = [share for _harm, share in HARMS.values()]
+    while True:
+        kept, kind = draw.choice(all_kept), draw.choices(list(HARMS), shares)[0]
+        name, changed = HARMS[kind][0](kept.folder, draw)
+        yield Case(name, kept, {**changed}, kind=kind)
+
+
+def cases(all_kept: list[Kept], changes: int, seed: int) -> Iterator[Case]:
+    draw = random.Random(seed)
+    for kept in all_kept:
+        if kept.run.is_in_table:
+            yield from table(kept, draw)
+    yield from islice(drawn(all_kept, draw), changes)
