@@ -367,7 +367,7 @@ check_picture() {
     local PATH=$PATH told key
     has python3 || return
     check_spared
-    rm -rf d
+    rm -rf d && mkdir -p hidden && echo 'raise ImportError' >hidden/matplotlib.py
     told="picture: $(hint_of matplotlib)\n"
     gives 'a picture without matplotlib' 2 '' "$told" env PYTHONPATH=hidden "$top/tools/picture" d
     python_with matplotlib || return
@@ -405,6 +405,7 @@ check_look() {
     check_skipping
     check_names
     check_network_packets
+    check_captures
     check_watch
     check_picture
 }

@@ -60,12 +60,17 @@ for what, value in values.items():
 END
 }
 
-# Draws packets, most of them damaged, and compares what is read of them by place with what dpkt reads.
+# Draws packets, most of them damaged: what is read of them by place is what is read of any packet, and what dpkt reads,
+# where that is here and can read them.
 read_alike() {
     python3 - "$top/tools" <<'END'
 import random, struct, sys
 sys.path.insert(0, sys.argv[1])
 from lib import network_packets as packets
+try:
+    import dpkt
+except ImportError:
+    dpkt = None
 
 draw = random.Random(3)
 
@@ -76,26 +81,36 @@ def drawn(version, protocol):
     length = max(0, len(body) + draw.choice([0] * 5 + [-3, 5, -30]))
     if version == packets.VERSION_6:
         return struct.pack(">IHBB", 6 << 28 | draw.randrange(1 << 28), length, protocol, 64) + draw.randbytes(32) + body
-    first, fragment = draw.choice([0x45] * 5 + [0x46, 0x44, 0x55]), draw.choice([0, 0x4000, 0x2000, 7])
+    first, fragment = draw.choice([0x45] * 5 + [0x46, 0x44]), draw.choice([0, 0x4000, 0x2000, 7])
     head = struct.pack(">BBHHHBBH", first, 0, 20 + length, 1, fragment, 64, protocol, 0)
     return head + draw.randbytes(8) + body
 
-by_place = packets.usual_ends
-usual = 0
+def read_by_dpkt(version, data):
+    try:
+        ip = (dpkt.ip6.IP6 if version == packets.VERSION_6 else dpkt.ip.IP)(data)
+    except dpkt.UnpackError:
+        return None
+    protocol = ip.p if hasattr(ip, "p") else ip.nxt
+    return packets.Ends(protocol, ip.src, ip.dst, getattr(ip.data, "sport", None), getattr(ip.data, "dport", None))
+
+usual = others = 0
 for link, (at, version_at) in packets.PLACES.items():
     read = packets.reader_of(link)
     for _ in range(4000):
-        version = draw.choice([packets.VERSION_4, packets.VERSION_6])
+        version, protocol = draw.choice([packets.VERSION_4, packets.VERSION_6]), draw.choice([6, 6, 17, 17, 1, 58, 44, 0, 50, 51])
         head = bytearray(draw.randbytes(at))
-        head[version_at : version_at + 2] = draw.choice([version] * 6 + [b"\x81\x00", b"\x08\x06", packets.VERSION_6])
-        data = bytes(head) + drawn(version, draw.choice([6, 6, 6, 17, 17, 17, 1, 58, 44, 0, 50, 51, 132]))
-        data = data[: draw.choice([len(data)] * 4 + [draw.randrange(len(data))])]
-        packets.usual_ends = by_place
-        usual += by_place(data, at, version_at) is not None
-        found = read(data)
-        packets.usual_ends = lambda *_: None
-        assert read(data) == found, (link, data.hex())
-assert usual > 1000, usual
+        head[version_at : version_at + 2] = draw.choice([version] * 6 + [b"\x08\x06", packets.VERSION_6])
+        whole = bytes(head) + drawn(version, protocol)
+        data = whole[: draw.choice([len(whole)] * 4 + [draw.randrange(len(whole))])]
+        by_place, found = packets.usual_ends(data, at, version_at), packets.ends_behind(link, data)
+        assert read(data) == found and by_place in (None, found), (link, data.hex())
+        usual += by_place is not None
+        if data[version_at : version_at + 2] != version or len(data) < at:
+            assert found is None, (link, data.hex())
+        elif dpkt and protocol in packets.PROTOCOLS:
+            others += by_place is None
+            assert found == read_by_dpkt(version, data[at:]), (link, data.hex())
+assert usual > 1000 and (others > 1000 or not dpkt), (usual, others)
 END
 }
 
@@ -116,12 +131,8 @@ cut_packets() {
 check_network_packets() {
     local what told PATH=$PATH
     has python3 || return
-    mkdir -p hidden && echo 'raise ImportError' | tee hidden/dpkt.py >hidden/matplotlib.py
-    told="keys: $(hint_of dpkt)\n"
-    gives 'packets without dpkt' 2 '' "$told" \
-        env PYTHONPATH=hidden "$top/tools/keys" pack --packets pair packed </dev/null
-    python_with dpkt || return
-    gives 'reads packets by place as dpkt does' 0 '' '' read_alike
+    python_with dpkt
+    gives 'reads packets by place as any other, and as dpkt does' 0 '' '' read_alike
     make_packets
     told="keys: flows.pcap: $(cat left_out) packets without a readable IP address are left out\n"
     for what in source destination pair five-tuple; do
@@ -130,8 +141,8 @@ check_network_packets() {
     done
     gives 'reports packets without a link header' 0 "$(cat due_five-tuple)\n" '' \
         due_of --packets five-tuple <raw.pcap
-    refuses_packets 'an empty pcap' 0 '0: no pcap file'
-    refuses_packets 'a pcap that ends in its header' 23 '0: no pcap file'
+    refuses_packets 'an empty pcap' 0 '0: no pcap or pcapng file'
+    refuses_packets 'a pcap that ends in its header' 23 '0: no pcap or pcapng file'
     refuses_packets 'a pcap that ends in the header of a packet' 30 '24: the file ends inside a packet'
     refuses_packets 'a pcap that ends behind the header of a packet' 40 '24: the file ends inside a packet'
     refuses_packets 'a pcap that ends in a packet' 60 '24: the file ends inside a packet'
