@@ -8,7 +8,7 @@ use crate::cones::{
 use crate::files::JOURNAL_TEXT;
 use crate::garbled::GarbledBay;
 use lert_base::Settings;
-use lert_bay::{Bay, FRAMES, JOURNAL, MemBay};
+use lert_bay::{Bay, FRAMES, JOURNAL, LOG, MemBay};
 use lert_cone::{Cone, ConeFault, ConeState, CreateFault};
 use lert_plain::PlainTable;
 use std::alloc::Global;
@@ -131,6 +131,40 @@ fn check_garbled(rt: &impl Abort, alloc: Global, keys: &[u64]) {
 fn a_frame_that_leaves_its_format_breaks_the_cone(rt: HostRuntime) {
     let keys = sevens_at(&rt, rt.alloc(), 15, &[]);
     check_garbled(&rt, rt.alloc(), &keys);
+}
+
+// The bay that a cone leaves which took these keys over frames that leave their format.
+fn left_running(rt: &impl Abort, alloc: Global, keys: &[u64]) -> GarbledBay {
+    let settings = small(rt, 32);
+    let mut cone = created(rt, alloc, &settings, GarbledBay::new(empty_bay(rt, alloc)));
+    give_all(rt, alloc, &settings, &mut cone, keys);
+    cone.into_bay()
+}
+
+// The same of one that is ended, and breaks.
+fn left_ended(rt: &impl Abort, alloc: Global, keys: &[u64]) -> GarbledBay {
+    let settings = small(rt, 32);
+    let mut cone = created(rt, alloc, &settings, GarbledBay::new(empty_bay(rt, alloc)));
+    give_all(rt, alloc, &settings, &mut cone, keys);
+    check_unsound(rt, &mut cone, keys.len() as u64);
+    cone.into_bay()
+}
+
+// An end of the cone reads a frame that leaves its format at the file's first byte, and breaks it.
+fn check_unsound(rt: &impl Abort, cone: &mut Cone<GarbledBay, PlainTable>, events: u64) {
+    let (file, at) = (FRAMES, 0);
+    check_end(rt, cone, Err(ConeFault::Unsound { file, at }));
+    check_state(rt, cone, ConeState::BrokenByRead { file, at }, events);
+    check_end(rt, cone, Err(ConeFault::Broken));
+}
+
+#[test]
+fn an_end_over_a_frame_that_leaves_its_format_closes_nothing(rt: HostRuntime) {
+    let keys = sevens_at(&rt, rt.alloc(), 12, &[2, 3, 12]);
+    let running = left_running(&rt, rt.alloc(), &keys);
+    let ended = left_ended(&rt, rt.alloc(), &keys);
+    assert!(rt; ended.bytes(LOG) == running.bytes(LOG));
+    assert!(rt; ended.bytes(JOURNAL) == running.bytes(JOURNAL));
 }
 
 // Why no cone is made over a bay with a call that fails, and the packet size of the room that comes back.

@@ -1,5 +1,7 @@
 //! A bay whose file of frames reads as zero bytes. It tells nothing.
 
+ghost use Rattle.std.specs.Prelude.{◌<◌};
+
 use lert_bay::{Bay, FRAMES, MemBay};
 use lert_io::{Failed, Faulty};
 
@@ -12,6 +14,13 @@ impl GarbledBay {
     /// The files of this bay.
     pub fn new(bay: MemBay) -> GarbledBay {
         GarbledBay { bay }
+    }
+
+    /// The bytes of one of its files, as they were written.
+    pub fn bytes(&self, file: u8) -> &[u8]
+        requires { file < 3 }
+    {
+        self.bay.bytes(file)
     }
 }
 

@@ -1,7 +1,8 @@
 -- What a merge is given and what it made, of streams that were begun and landings that were started.
-use Rattle.std.proofs.Common.{ℕ, ◌≡◌, ◌+◌, ◌<◌, ◌≤◌, List, [], ◌∷◌, length, map, get_or, take, Option, Some, None, refl, ap, sym, ◌∙◌, arith, subst, sum_by, Result}
+use Rattle.std.proofs.Common.{ℕ, ◌≡◌, ◌≢◌, ◌+◌, ◌<◌, ◌≤◌, List, [], ◌∷◌, length, map, get_or, take, Option, Some, None, refl, ap, sym, ◌∙◌, arith, subst, sum_by, Result}
 use Rattle.std.specs.Prelude.{Ok, Err, OnOk, sum}
 use Rattle.std.proofs.lemmas.List.{length-map, length-take, take_all}
+use Rattle.std.proofs.lemmas.Option.{none-some}
 use Rattle.lert_bay.specs.declared.bay.TheConstants.{FRAMES}
 use Rattle.lert_bay.specs.Files.{Files, IfTold}
 use Rattle.lert_levels.specs.flush.Merged.{AreParts, picked}
@@ -13,6 +14,7 @@ use Rattle.lert_levels.specs.declared.landing.landing.Landing.{Landing}
 use Rattle.lert_merge.specs.order.Members.{limit_at}
 use Rattle.lert_levels.specs.declared.rows.bin_at.BinAt.{BinAt}
 use Rattle.lert_levels.specs.rows.Landing.{IsApart, landing_frame, AreApart}
+use Rattle.lert_levels.specs.rows.Checked.{rows_left}
 use Rattle.lert_levels.specs.rows.Loading.{AllStand}
 use Rattle.lert_spec.specs.Bins.{Bin}
 use Rattle.lert_spec.specs.Edges.{span}
@@ -31,6 +33,7 @@ use Rattle.lert_levels.proofs.FlushLaws.{made_at}
 use Rattle.lert_levels.proofs.PartLaws.{some_streams}
 use Rattle.lert_levels.proofs.PickLaws.{picked_part}
 use Rattle.lert_levels.proofs.PlacedLaws.{begun_reads}
+use Rattle.lert_levels.proofs.WholeLaws.{begun_whole}
 use Rattle.lert_levels.proofs.ReadyLaws.{first_landings, first_started}
 use Rattle.lert_levels.proofs.SourceLaws.{begun_length, begun_limit, begun_width, begun_told, sources_length, sources_pieces, sources_widths, sources_stand, bins_from}
 use Rattle.lert_levels.specs.rows.Rows.{IsRow}
@@ -65,7 +68,8 @@ module _ (s : Numbers) (valid : IsValid s) (young : List Bin) (rows : List (List
     (took : List Piece → Type 0) (before : Option Files) (lists : List (List Piece)) (len : length lists ≡ length bins)
     (given : (k : ℕ) → k < length bins → AreGiven (limit_at limit_of bins k) (get_or lists k []))
     (fits : (k : ℕ) → k < length bins → total (get_or lists k []) ≤ limit_at wide_of bins k) (totals_are : took (sums_of lists))
-    (told : (all : List (List Piece)) → length all ≡ length bins → ((k : ℕ) → k < length bins → to_come_at before bins k ≡ Some (get_or all k [])) → lists ≡ all) where
+    (told : (all : List (List Piece)) → length all ≡ length bins → ((k : ℕ) → k < length bins → to_come_at before bins k ≡ Some (get_or all k [])) → lists ≡ all)
+    (whole : before ≢ None → (k : ℕ) → k < length bins → to_come_at before bins k ≡ Some (get_or lists k [])) where
   each_fills : (k : ℕ) → k < length lists → Fills (tail_limit s) (get_or (widths_of young rows) k 0) (get_or lists k [])
   each_fills k below =
       let within : k < length bins = omega (arith, below, len) in
@@ -83,6 +87,12 @@ module _ (s : Numbers) (valid : IsValid s) (young : List Bin) (rows : List (List
       (sym (ap (length {A = List Piece}) pieces) ∙ length-map (sources young rows) (pieces_from held) ∙ sym (begun_length s (sources young rows) bins begun))
       (λ k below. begun_told s valid (sources young rows) bins k before here.seen held here.told begun hold below ∙ ap (λ (ls : List (List Piece)). Some (get_or ls k [])) pieces)
 
+  whole_rows : (file : List ℕ) → IsFrames before file → rows_left s file rows ≡ None
+  whole_rows file here =
+      let files : before ≢ None = λ none. none-some here.seen (sym none ∙ here.told) in
+      ap (λ (bytes : List ℕ). rows_left s bytes rows) here.is
+      ∙ begun_whole s young rows bins before here.seen here.told begun (λ k below none. none-some (get_or lists k []) (sym none ∙ whole files k below))
+
   pub made_of : (parts : List Part) → IsMade s young rows parts took (IsFrames before) (map (part_table lists) parts)
   made_of parts = record {
     lists = lists;
@@ -90,6 +100,7 @@ module _ (s : Numbers) (valid : IsValid s) (young : List Bin) (rows : List (List
     taken = totals_are;
     are = refl;
     told = told_lists;
+    whole = whole_rows;
   }
 
 -- ---- what it is given

@@ -7,6 +7,7 @@ pub mod LevelLaws
 pub mod FlushLaws
 pub mod SourceLaws
 pub mod PlacedLaws
+pub mod WholeLaws
 pub mod ReadyLaws
 pub mod LandedLaws
 pub mod ReachLaws

@@ -284,7 +284,7 @@ begun_row s before rows i now bins here below are =
 
 -- ---- a frame that is broken
 
-all_in : (P : Placed → Type 0) (some more : List Source) → AllOf P (some ++ more) → AllOf P some × AllOf P more
+pub all_in : (P : Placed → Type 0) (some more : List Source) → AllOf P (some ++ more) → AllOf P some × AllOf P more
 all_in P [] more all = (tt, all)
 all_in P (of_young bin ∷ some) more all = all_in P some more all
 all_in P (of_bin p ∷ some) more all = let rest = all_in P some more all.1 in ((all.0, rest.0), rest.1)

@@ -4,5 +4,6 @@ pub mod GatheringLaws
 pub mod BoundLaws
 pub mod PartLaws
 pub mod SteadyLaws
+pub mod WholeLaws
 pub mod MergingLaws
 pub mod Examples

@@ -1,5 +1,5 @@
 -- The merge of level 0 with some of the levels on disk.
-use Rattle.std.specs.Prelude.{◌≡◌, ℕ, ◌-◌, ◌≤◌, List, map, ◌++◌, Option, Some}
+use Rattle.std.specs.Prelude.{◌≡◌, ℕ, ◌-◌, ◌≤◌, List, map, ◌++◌, Option, Some, None}
 use Rattle.std.specs.List.{AllZip}
 use Rattle.lert_bay.specs.Files.{Files}
 use Rattle.lert_levels.specs.landing.Summed.{sums_of}
@@ -10,6 +10,7 @@ use Rattle.lert_spec.specs.declared.piece.Piece.{Piece}
 use Rattle.lert_levels.specs.declared.rows.bin_at.BinAt.{BinAt}
 use Rattle.lert_frames.specs.Place.{tail_limit}
 use Rattle.lert_levels.specs.Parts.{Part, part_table}
+use Rattle.lert_levels.specs.rows.Checked.{rows_left}
 use Rattle.lert_levels.specs.rows.Loading.{AllStand, held_in, widths_in}
 
 -- the pieces of its streams: those of the bins of level 0, and those that the frames of the rows' bins hold
@@ -30,7 +31,7 @@ abbrev pub AreBins : ℕ → List ℕ → List (List Piece) → Type 0
 AreBins limit widths lists = AllZip (Fills limit) widths lists
 
 -- what a merge of these streams took, from some lists: they fill bins of their widths, and are those that the frames hold, where
--- they stand in the file
+-- they stand in the file. None of the frames leaves its format.
 pub record IsMade (s : Numbers) (young : List Bin) (rows : List (List BinAt)) (parts : List Part) (took : List Piece → Type 0) (file_is : List ℕ → Type 0) (made : List (List Piece)) : Type 0
   where
     pub lists : List (List Piece)
@@ -38,6 +39,7 @@ pub record IsMade (s : Numbers) (young : List Bin) (rows : List (List BinAt)) (p
     pub taken : took (sums_of lists)
     pub are : made ≡ map (part_table lists) parts
     pub told : (file : List ℕ) → file_is file → (held : BinAt → List Piece) → AllStand s file held rows → lists ≡ streams_of young held rows
+    pub whole : (file : List ℕ) → file_is file → rows_left s file rows ≡ None
 
 -- these are the bytes of the file of frames, where a bay tells them
 pub record IsFrames (files : Option Files) (file : List ℕ) : Type 0 where

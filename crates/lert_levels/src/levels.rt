@@ -147,6 +147,9 @@ impl<T: CountTable> Levels<T> {
         ensures durable { OnOk result (IfTold (B.files bay.new) (λ seen. (image : Files) → B.leaves bay.new image → image FRAMES ≡ seen FRAMES)) }
         ensures rest { KeepsRest B.Bay (InNamed self.old.settings self.old.rows) bay.old bay.new }
 
+        // Where the bay tells its files, Ok comes only where each frame that is read was in its format to the end.
+        ensures whole { IfTold (B.files bay.old) (λ seen. OnOk result (rows_left self.old.settings (seen FRAMES) (take (depth self.old.settings m) self.old.rows) ≡ None)) }
+
         // Malformed comes nowhere where the frames hold bins of their widths, whatever these count.
         ensures sound { IfTold (B.files bay.old) (λ seen. (held : BinAt → List Piece) →
             AllStand self.old.settings (seen FRAMES) held (take (depth self.old.settings m) self.old.rows) →
@@ -181,6 +184,9 @@ impl<T: CountTable> Levels<T> {
             (λ _. O.took totals.new (tallied self.old.settings events))
             (λ fault. fault ≡ FlushFault.Failed)) }
         ensures took { OnOk result ((list : List Piece) × O.took totals.new list × IsTable (tail_limit self.old.settings) list) }
+
+        // Where the bay tells its files, Ok comes only where each frame was in its format to the end.
+        ensures whole { IfTold (B.files bay.old) (λ seen. OnOk result (rows_left self.old.settings (seen FRAMES) self.old.rows ≡ None)) }
         ensures sound { IfTold (B.files bay.old) (λ seen. (held : BinAt → List Piece) →
             AllStand self.old.settings (seen FRAMES) held self.old.rows →
             IfErr result (λ fault. fault ≡ FlushFault.Failed)) }

@@ -8,7 +8,7 @@ use Rattle.lert_base.specs.declared.pieces.PieceFault.TheVariants.{Failed, Malfo
 use Rattle.lert_io.specs.Fault.{HasRisen}
 use Rattle.lert_spec.specs.declared.piece.Piece.{Piece}
 use Rattle.lert_spec.specs.Table.{AreGiven}
-use Rattle.lert_merge.specs.order.Ordering.{Ordering, AreOver, AreKnown, AreSame, Tells, HasTaken, AreEnded, IsNext, IsNotBelow, IsBelow, IsNothingGiven, Breaks, part_in}
+use Rattle.lert_merge.specs.order.Ordering.{Ordering, AreOver, AreKnown, AreWhole, AreSame, Tells, HasTaken, AreEnded, IsNext, IsNotBelow, IsBelow, IsNothingGiven, Breaks, part_in}
 use Rattle.lert_merge.specs.declared.order.streams.Streams.{Ghosts as StreamsOf}
 use Rattle.lert_merge.proofs.order.GiveLemmas.{part_here, part_else}
 
@@ -39,6 +39,7 @@ StepSays members faults mark a x b y result = record {
       (λ g. (rest : List Piece) × (IsNext lists g.0 g.1 rest × Tells members b y (set lists g.0 rest))));
   untold : (k : ℕ) → k < members.count x.streams → members.to_come x.streams k a ≡ None → members.to_come y.streams k b ≡ None;
   known : OnOk result (AreKnown members a x b y);
+  whole : OnOk result (AreWhole members a x → AreWhole members b y);
   above : IfOk result (λ given. IfSome given (λ g. IsNotBelow x.last g.1.tail));
   below : IfOk result (λ given. IfSome given (λ g. IsBelow members y.streams g.0 g.1.tail));
   last : IfOk result (λ given. IfSome given (λ g. y.last ≡ Some g.1.tail));

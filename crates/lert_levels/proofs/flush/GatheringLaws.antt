@@ -9,7 +9,7 @@ use Rattle.lert_levels.specs.landing.Whole.{AreUpTo, Takes}
 use Rattle.lert_levels.specs.declared.landing.sum.Sum.{Sum}
 use Rattle.lert_levels.proofs.landing.SumLaws.{takes_none}
 use Rattle.lert_merge.specs.order.Fronts.{front_at, pieces_of}
-use Rattle.lert_merge.specs.order.Ordering.{Ordering, HasTaken, Tells, AreOver, IsNext, IsNotBelow, IsBelow, AreKnown, AreSame, Breaks, part_in}
+use Rattle.lert_merge.specs.order.Ordering.{Ordering, HasTaken, Tells, AreOver, IsNext, IsNotBelow, IsBelow, AreEnded, AreKnown, AreWhole, AreSame, Breaks, part_in}
 use Rattle.lert_merge.specs.declared.order.streams.Streams.{Ghosts as StreamsOf}
 use Rattle.lert_merge.specs.tree.Race.{number_at}
 use Rattle.lert_spec.specs.declared.piece.Piece.{Piece}
@@ -17,6 +17,7 @@ use Rattle.lert_spec.specs.Table.{total, plus, AreGiven, IsTable}
 use Rattle.lert_spec.proofs.GivenLaws.{given_wide}
 use Rattle.lert_levels.specs.flush.Merged.{is_of, picked, with_piece, IsUnread, AreToCome, AreTaken}
 use Rattle.lert_levels.specs.flush.Staying.{ComesTheSame}
+use Rattle.lert_levels.proofs.flush.WholeLaws.{all_to_come}
 use Rattle.lert_levels.proofs.flush.SumsLaws.{front_table, up_to-sums_of, sums_more, part_more}
 
 -- the lists of pieces that the streams gave so far, and what the totals have of them
@@ -30,6 +31,8 @@ pub record IsGathering {S C T : Type 0} (members : StreamsOf S C) (took : T → 
   pub same : AreSame members start first ctx now
   pub kept : members.same first.streams now.streams
   pub known : AreKnown members start first ctx now
+  pub untold : (k : ℕ) → k < members.count first.streams → members.to_come first.streams k start ≡ None → members.to_come now.streams k ctx ≡ None
+  pub whole : AreWhole members ctx now
   pub told : (given : List (List Piece)) → AreToCome members first.streams start given →
       (left : List (List Piece)) × Tells members ctx now left × ((k : ℕ) → k < members.count first.streams → get_or given k [] ≡ get_or lists k [] ++ get_or left k [])
 
@@ -42,6 +45,8 @@ pub record HasGiven {S C : Type 0} (members : StreamsOf S C) (now : Ordering S) 
   pub last : new.last ≡ Some next.1.tail
   pub told : (lists : List (List Piece)) → Tells members ctx now lists → (rest : List Piece) × (IsNext lists next.0 next.1 rest × Tells members after new (set lists next.0 rest))
   pub known : AreKnown members ctx now after new
+  pub whole : AreWhole members ctx now → AreWhole members after new
+  pub untold : (k : ℕ) → k < members.count now.streams → members.to_come now.streams k ctx ≡ None → members.to_come new.streams k after ≡ None
   pub same : AreSame members ctx now after new
   pub kept : members.same now.streams new.streams
 
@@ -73,6 +78,8 @@ gathering_none members took first start totals sums self unread empty none =
       same = record { streams = refl; room = refl; limits = λ k below. refl; same_breaks = λ k at below. ((λ breaks. breaks), (λ breaks. breaks)) };
       kept = self first.streams;
       known = λ k below untold. untold;
+      untold = λ k below untold. untold;
+      whole = λ tells k below under. absurd (omega (arith, under, ap length unread.counts));
       told = λ given are. (
         given,
         record {
@@ -237,6 +244,8 @@ module _ {S C T : Type 0} (members : StreamsOf S C) (took : T → List Piece →
       same = same_then;
       kept = same_on first.streams now.streams new.streams was.kept step.kept;
       known = λ k below untold. was.known k below (step.known k (now_below k below) untold);
+      untold = λ k below untold. step.untold k (now_below k below) (was.untold k below untold);
+      whole = step.whole was.whole;
       told = told_more;
     }
       where
@@ -253,9 +262,9 @@ module _ {S C T : Type 0} (members : StreamsOf S C) (took : T → List Piece →
 
   -- ---- calls elsewhere, through which the same is to come
 
-  pub gathering_on : (after : C) → ((k : ℕ) → k < members.count now.streams → ComesTheSame members.to_come members.breaks now.streams k ctx after) →
+  pub gathering_on : (after : C) → (members.tells after → members.tells ctx) → ((k : ℕ) → k < members.count now.streams → ComesTheSame members.to_come members.breaks now.streams k ctx after) →
       IsGathering members took first start lists now after totals sums
-  gathering_on after stays =
+  gathering_on after back stays =
       let now_under : (k : ℕ) → k < n → k < members.count now.streams = λ k below. omega (arith, below, was.same.streams) in
       record {
         len = was.len;
@@ -274,6 +283,8 @@ module _ {S C T : Type 0} (members : StreamsOf S C) (took : T → List Piece →
         };
         kept = was.kept;
         known = λ k below untold. was.known k below (sym (stays k (now_under k below)).coming ∙ untold);
+        untold = λ k below untold. (stays k (now_under k below)).coming ∙ was.untold k below untold;
+        whole = λ tells k below under ended untold. was.whole (back tells) k below under ended (sym (stays k below).coming ∙ untold);
         told = λ given are. (
             let before = was.told given are in (
               before.0,
@@ -300,25 +311,42 @@ module _ {S C T : Type 0} (members : StreamsOf S C) (took : T → List Piece →
         at_it = (was.same.same_breaks breaks.stream at within).0 breaks.at_it;
       }
 
+  -- where the context tells, each stream was told at the start
+  started_told : (after : C) (new : Ordering S) → AreEnded members new → AreWhole members after new → members.tells after → members.count new.streams ≡ members.count now.streams →
+      ((k : ℕ) → k < members.count now.streams → members.to_come now.streams k ctx ≡ None → members.to_come new.streams k after ≡ None) →
+      (k : ℕ) → k < n → members.to_come first.streams k start ≢ None
+  started_told after new over whole tells long untold k below none =
+      let under : k < members.count now.streams = omega (arith, below, was.same.streams) in
+      let inside : k < members.count new.streams = omega (arith, under, long) in
+      whole tells k inside (omega (arith, inside, over.all)) (over.ended k inside) (untold k under (was.untold k below none))
+
   pub taken_all : (width : S → ℕ → ℕ) (after : C) (new : Ordering S) (totals_then : T) → ((k : ℕ) → k < n → total (get_or lists k []) ≤ width first.streams k) →
       ((left : List (List Piece)) → Tells members ctx now left → AreOver left × Tells members after new left) →
       ((list : List Piece) → Takes took totals sums list → took totals_then list) →
+      (members.tells start → members.tells after) → AreEnded members new → (AreWhole members ctx now → AreWhole members after new) → AreSame members ctx now after new →
+      ((k : ℕ) → k < members.count now.streams → members.to_come now.streams k ctx ≡ None → members.to_come new.streams k after ≡ None) →
       AreTaken members width took first.streams start totals_then lists
-  taken_all width after new totals_then fits over ends = record {
+  taken_all width after new totals_then fits over ends on ended whole same untold = record {
     len = was.len;
     given = was.given;
     fits = fits;
     totals_are = ends (sums_of lists) was.totals_are;
-    told = λ given are. (
-        let before = was.told given are in
-        let none = (over before.0 before.1).0 in
-        ext_get_or [] lists given (was.len ∙ sym are.len)
-        (λ k below.
-        let under : k < n = omega (arith, below, was.len) in
-        sym (before.2 k under
-        ∙ (ap (λ (xs : List Piece). get_or lists k [] ++ xs) (none k (omega (arith, under, before.1.len, was.same.streams)))
-        ∙ append-nil (get_or lists k [])))));
+    told = told_all;
+    whole = λ tells. (
+        let some = all_to_come members first.streams start (started_told after new ended (whole was.whole) (on tells) same.streams untold) in
+        subst (AreToCome members first.streams start) (sym (told_all some.0 some.1)) some.1);
   }
+    where
+      told_all : (given : List (List Piece)) → AreToCome members first.streams start given → lists ≡ given
+      told_all given are =
+          let before = was.told given are in
+          let none = (over before.0 before.1).0 in
+          ext_get_or [] lists given (was.len ∙ sym are.len)
+          (λ k below.
+          let under : k < n = omega (arith, below, was.len) in
+          sym (before.2 k under
+          ∙ (ap (λ (xs : List Piece). get_or lists k [] ++ xs) (none k (omega (arith, under, before.1.len, was.same.streams)))
+          ∙ append-nil (get_or lists k []))))
 
 -- a fault shows that a stream wasn't told
 pub sound_by : {S C : Type 0} (members : StreamsOf S C) (start : C) (streams : S) (lists : List (List Piece)) (at : ℕ) → AreToCome members streams start lists →

@@ -15,8 +15,9 @@ use Rattle.lert_levels.specs.landing.Whole.{AreUpTo, Takes}
 use Rattle.lert_levels.specs.declared.landing.landing.Landing.{Landing}
 use Rattle.lert_levels.specs.declared.landing.sum.Sum.{Sum}
 use Rattle.lert_levels.proofs.landing.SummedLaws.{IsTable-sums_of}
-use Rattle.lert_merge.specs.order.Ordering.{Ordering, HasTaken, Tells, AreOver, IsNext, IsNotBelow, IsBelow, AreKnown, AreSame, part_in}
+use Rattle.lert_merge.specs.order.Ordering.{Ordering, HasTaken, Tells, AreOver, IsNext, IsNotBelow, IsBelow, AreKnown, AreWhole, AreSame, part_in}
 use Rattle.lert_merge.specs.declared.order.streams.Streams.{Ghosts as StreamsOf}
+use Rattle.lert_levels.specs.rows.Landing.{LeavesRest}
 use Rattle.lert_levels.proofs.rows.LandLaws.{turns_fewer}
 use Rattle.lert_spec.specs.declared.piece.Piece.{Piece}
 use Rattle.lert_spec.specs.Table.{plus, AreGiven, IsTable}
@@ -25,6 +26,7 @@ use Rattle.lert_levels.specs.flush.Staying.{NoneFailed}
 use Rattle.lert_levels.specs.flush.Writing.{LandingsWrite}
 use Rattle.lert_levels.proofs.flush.GatheringLaws.{IsGathering, HasGiven, nothing, gathering_none, gathering_more, gathering_on, more, part_are, tables_by}
 use Rattle.lert_levels.proofs.flush.PartLaws.{none_landed}
+use Rattle.lert_levels.proofs.flush.WholeLaws.{told_before}
 use Rattle.lert_levels.proofs.flush.SteadyLaws.{AreSteady, sure_stepped, comes_same, sure_written, apart_same, writes_none, writes_read, writes_on, writes_as}
 
 -- what was taken so far, by the totals and by the landings
@@ -69,6 +71,7 @@ module _ {S B T : Type 0} (members : StreamsOf S B) (took : T → List Piece →
       record {
         lists = more members took first start was.lists now bay totals sums was.gathering new middle next step;
         gathering = gathering_on members took first start _ new middle totals_then sums_then gathered after
+            (λ tells. (steady.telling middle).1 (told_before (LeavesRest (reads new.streams)) (bays.files middle) (bays.files after) turned ((steady.telling after).0 tells)))
             (comes_same members bays width reads sure steady new.streams middle after surely turned);
         landed = λ part d below. (
             let under : part < length landings_now = omega (arith, below, same_len) in
@@ -89,11 +92,13 @@ pub given_at : {S C : Type 0} (members : StreamsOf S C) (now : Ordering S) (ctx 
     IfSome given (λ g. IsBelow members new.streams g.0 g.1.tail) → IfSome given (λ g. IsNotBelow now.last g.1.tail) → IfSome given (λ g. new.last ≡ Some g.1.tail) →
     ((lists : List (List Piece)) → Tells members ctx now lists → MatchOption given (AreOver lists × Tells members after new lists)
     (λ g. (rest : List Piece) × (IsNext lists g.0 g.1 rest × Tells members after new (set lists g.0 rest)))) →
-    AreKnown members ctx now after new → AreSame members ctx now after new → members.same now.streams new.streams → HasGiven members now ctx new after next
-given_at members now ctx new after None next is taken ascending below above last told known same kept = absurd (none-some next is)
-given_at members now ctx new after (Some g) next is taken ascending below above last told known same kept =
+    AreKnown members ctx now after new → (AreWhole members ctx now → AreWhole members after new) →
+    ((k : ℕ) → k < members.count now.streams → members.to_come now.streams k ctx ≡ None → members.to_come new.streams k after ≡ None) →
+    AreSame members ctx now after new → members.same now.streams new.streams → HasGiven members now ctx new after next
+given_at members now ctx new after None next is taken ascending below above last told known whole untold same kept = absurd (none-some next is)
+given_at members now ctx new after (Some g) next is taken ascending below above last told known whole untold same kept =
     subst (HasGiven members now ctx new after) (let one : g ≡ next = cc in one)
-    (record { taken = taken; ascending = ascending; below = below; above = above; last = last; told = told; known = known; same = same; kept = kept })
+    (record { taken = taken; ascending = ascending; below = below; above = above; last = last; told = told; known = known; whole = whole; untold = untold; same = same; kept = kept })
 
 -- and where nothing comes
 pub none_at : {X : Type 0} (given : Option X) (N : Type 0) (P : X → Type 0) → given ≡ None → MatchOption given N P → N

@@ -1,5 +1,5 @@
 -- Bins over a bay: what stays of them through reads, and through writes elsewhere.
-use Rattle.std.proofs.Common.{ℕ, ◌≡◌, ◌<◌, ◌≤◌, ◌⊎◌, Option, Some, None, List, length, map, get_or, refl, ap, sym, ◌∙◌, subst, arith, inl, inr}
+use Rattle.std.proofs.Common.{ℕ, ◌≡◌, ◌≢◌, ◌<◌, ◌≤◌, ◌⊎◌, ◌↔◌, Option, Some, None, List, length, map, get_or, refl, ap, sym, ◌∙◌, subst, arith, inl, inr}
 use Rattle.std.proofs.lemmas.List.{get_or-map, length-map}
 use Rattle.lert_bay.specs.declared.bay.TheConstants.{FRAMES}
 use Rattle.lert_bay.specs.Files.{Files, IfTold, Turns}
@@ -31,6 +31,7 @@ pub record AreSteady {S B : Type 0} (members : StreamsOf S B) (bays : Bays B) (w
       (reads bins) seen later → sure bins (later FRAMES)
   pub stays_untold : (bins : S) (before after : B) → bays.files before ≡ None → bays.files after ≡ None → (stream : ℕ) → stream < members.count bins →
       ComesTheSame members.to_come members.breaks bins stream before after
+  pub telling : (bay : B) → members.tells bay ↔ (bays.files bay ≢ None)
   pub reading : (before after : B) → members.keeps before after → OnlyReads bays before after NoneFailed
   pub same_self : (bins : S) → members.same bins bins
   pub same_on : (a b c : S) → members.same a b → members.same b c → members.same a c

@@ -1,13 +1,18 @@
 -- A stream of a set that is asked, and a frame that is begun.
-use Rattle.std.proofs.Common.{ℕ, ◌≡◌, ◌+◌, ◌-◌, ◌<◌, ◌≤◌, ◌++◌, Option, Some, None, MatchOption, Result, Ok, List, [], ◌∷◌, length, map, set, take, get_or}
-use Rattle.std.proofs.Common.{refl, sym, ap, ap₂, ◌∙◌, subst, arith, length-set, length-append, length-take, append_assoc}
+use Rattle.std.proofs.Common.{ℕ, ◌≡◌, ◌≢◌, ◌+◌, ◌-◌, ◌<◌, ◌≤◌, ◌↔◌, ◌++◌, Option, Some, None, MatchOption, IfOk, Result, Ok, List, [], ◌∷◌, length, map, set, take, get_or}
+use Rattle.std.proofs.Common.{refl, sym, ap, ap₂, ◌∙◌, subst, inl, inr, arith, length-set, length-append, length-take, append_assoc}
 use Rattle.std.specs.Prelude.{option_to_list}
 use Rattle.std.proofs.Math.Seq.{take-set-lt}
 use Rattle.std.proofs.lemmas.List.{get_or-map, map-set, map-append, length-map, take_at, take_more_set, get_or-take, get_or-append_right, set-append_left, set-append_right}
 use Rattle.std.proofs.Math.ListN.{get_or-append}
+use Rattle.std.proofs.lemmas.Option.{none-some}
 use Rattle.lert_base.specs.declared.pieces.PieceFault.{PieceFault}
+use Rattle.lert_bay.specs.declared.bay.TheConstants.{FRAMES}
 use Rattle.lert_bay.specs.Files.{Files}
+use Rattle.lert_frames.proofs.CheckLaws.{whole_from}
+use Rattle.lert_frames.specs.ToCome.{Breaks, IsOver, if_whole, left_of, pieces_of, told_of}
 use Rattle.lert_frames.specs.declared.reader.FrameReader.{FrameReader}
+use Rattle.lert_merge.proofs.order.AskLemmas.{none_or}
 use Rattle.lert_spec.specs.declared.numbers.Numbers.{Numbers}
 use Rattle.lert_spec.specs.declared.piece.Piece.{Piece}
 use Rattle.lert_spec.specs.Table.{AreGiven}
@@ -89,6 +94,10 @@ told_next was becomes (Some p) ps gives ordered after told =
     let same : ps ≡ was.left = cc in
     (becomes.left, same ∙ gives.left, table_told becomes after)
 
+table_ended : (was becomes : TableBin) (piece : Option Piece) → Gives was becomes piece → IsOrdered was → piece ≡ None → table_to_come was ≡ Some []
+table_ended was becomes None gives ordered none = table_told was ordered ∙ ap Some gives.left.0
+table_ended was becomes (Some p) gives ordered none = absurd (none-some p (sym none))
+
 pub table_answers : (before after : Option Files) (was becomes : TableBin) (piece : Option Piece) → Gives was becomes piece → IsOrdered was →
     Answers before after (of_table was) (of_table becomes) (Ok piece)
 table_answers before after was becomes piece gives ordered =
@@ -96,6 +105,7 @@ table_answers before after was becomes piece gives ordered =
     record {
       told = λ ps told. told_next was becomes piece ps gives ordered later told;
       untold = λ none. absurd (let both : ◌≡◌ {A = Option (List Piece)} None (Some was.left) = sym none ∙ table_told was ordered in cc);
+      ended = λ files is. table_ended was becomes piece gives ordered (let none : piece ≡ None = cc in none);
       given = gives.given;
       refused = tt;
       ascending = subst (λ (ps : List Piece). AreGiven becomes.limit ps) (take_at becomes.given becomes.left (length becomes.given) refl)
@@ -105,6 +115,25 @@ table_answers before after was becomes piece gives ordered =
       leaves = λ at. ((λ no_more. no_more), (λ no_more. no_more));
       same = record { limit = gives.limit; all = same_all was becomes piece gives };
     }
+
+-- ---- a frame that ended
+
+-- where its bay tells the files, nothing was to come of it, since it left its format nowhere
+pub frame_ended : (before after : Option Files) (r becomes : FrameReader) (result : Result (Option Piece) PieceFault) → after ≡ before →
+    ((ps : List Piece) → told_of before r ≡ Some ps → IfOk result (λ piece. MatchOption piece ((ps ≡ []) × (told_of after becomes ≡ Some []))
+    (λ p. (rest : List Piece) × (ps ≡ p ∷ rest) × (told_of after becomes ≡ Some rest)))) →
+    ((at : ℕ) → Breaks after becomes at ↔ Breaks before r at) → (result ≡ Ok None → IsOver becomes) → before ≢ None → result ≡ Ok None → told_of before r ≡ Some []
+frame_ended before after r becomes result same told breaks over files is = elim (none_or before) [
+  | inl none ↦ absurd (files none)
+  | inr some ↦ (
+      let file = some.0 FRAMES in
+      let whole : left_of r file ≡ None = whole_from before after r becomes some.0 some.1 (same ∙ some.1) (λ at broke. (breaks at).1 broke) (over is) in
+      let coming : told_of before r ≡ Some (pieces_of r file) = ap (λ files. told_of files r) some.1 ∙ ap (λ left. if_whole left (pieces_of r file)) whole in
+      let none : pieces_of r file ≡ [] = (subst (λ (answer : Result (Option Piece) PieceFault). IfOk answer (λ piece. MatchOption piece
+      ((pieces_of r file ≡ []) × (told_of after becomes ≡ Some []))
+      (λ p. (rest : List Piece) × (pieces_of r file ≡ p ∷ rest) × (told_of after becomes ≡ Some rest)))) is (told (pieces_of r file) coming)).0 in
+      coming ∙ ap Some none)
+]
 
 -- ---- the stream that was asked, in its set
 

@@ -1,5 +1,5 @@
 -- What an answer of one stream says of the set.
-use Rattle.std.proofs.Common.{ℕ, zero, suc, ◌≡◌, ◌≢◌, ◌<◌, ◌↔◌, ◌++◌, Option, Some, None, MatchOption, Result, Err, IfOk, OnErr, List, [], ◌∷◌, length, map, set, get_or}
+use Rattle.std.proofs.Common.{ℕ, zero, suc, ◌≡◌, ◌≢◌, ◌<◌, ◌↔◌, ◌++◌, Option, Some, None, MatchOption, Result, Ok, Err, IfOk, OnErr, List, [], ◌∷◌, length, map, set, get_or}
 use Rattle.std.proofs.Common.{refl, sym, ap, ◌∙◌, subst, arith, length-set}
 use Rattle.std.specs.Prelude.{option_to_list}
 use Rattle.lert_base.specs.declared.pieces.PieceFault.{PieceFault}
@@ -37,6 +37,9 @@ module _ (before after : Option Files) (old new : BinSet) (i : ℕ) (result : Re
 
   pub next_untold : to_come_at before old.bins i ≡ None → to_come_at after new.bins i ≡ None
   next_untold none = becomes_is (to_come_of after) None ∙ asked.answers.untold (sym (was_is (to_come_of before) None) ∙ none)
+
+  pub next_ended : before ≢ None → result ≡ Ok None → to_come_at before old.bins i ≡ Some []
+  next_ended files is = was_is (to_come_of before) None ∙ asked.answers.ended files is
 
   pub next_given : IfOk result (λ piece. given_at given_of new.bins i ≡ given_at given_of old.bins i ++ option_to_list piece)
   next_given = rw (was_is given_of [], becomes_is given_of []) asked.answers.given

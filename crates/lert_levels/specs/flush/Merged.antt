@@ -65,7 +65,8 @@ pub record AreToCome {S C : Type 0} (members : StreamsOf S C) (streams : S) (ctx
   pub len : length lists ≡ members.count streams
   pub told : (k : ℕ) → k < members.count streams → members.to_come streams k ctx ≡ Some (slice_index_or lists k [])
 
--- all pieces of all streams were taken: a list for each stream, those that were told where they were
+-- all pieces of all streams were taken: a list for each stream, those that were told where they were. Where the context tells,
+-- they are those of streams that leave their format nowhere.
 pub record AreTaken {S C T : Type 0} (members : StreamsOf S C) (width : S → ℕ → ℕ) (took : T → List Piece → Type 0) (streams : S) (before : C) (totals : T)
     (lists : List (List Piece)) : Type 0 where
   pub len : length lists ≡ members.count streams
@@ -73,6 +74,7 @@ pub record AreTaken {S C T : Type 0} (members : StreamsOf S C) (width : S → �
   pub fits : (k : ℕ) → k < members.count streams → total (slice_index_or lists k []) ≤ width streams k
   pub totals_are : took totals (sums_of lists)
   pub told : (given : List (List Piece)) → AreToCome members streams before given → lists ≡ given
+  pub whole : members.tells before → AreToCome members streams before lists
 
 -- and each landing took the sums of its part
 pub record IsMerged {S C T : Type 0} (members : StreamsOf S C) (width : S → ℕ → ℕ) (took : T → List Piece → Type 0) (streams : S) (before : C) (parts : List (Option ℕ))

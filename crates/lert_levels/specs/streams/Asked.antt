@@ -1,5 +1,5 @@
 -- A stream of a set that was asked, and a frame that was begun.
-use Rattle.std.specs.Prelude.{ℕ, ◌≡◌, ◌+◌, ◌↔◌, Option, Some, None, MatchOption, Result, Err, IfOk, OnErr, List, [], ◌∷◌, ◌++◌, option_to_list, slice_index_or, slice_set}
+use Rattle.std.specs.Prelude.{ℕ, ◌≡◌, ◌≢◌, ◌+◌, ◌↔◌, Option, Some, None, MatchOption, Result, Ok, Err, IfOk, OnErr, List, [], ◌∷◌, ◌++◌, option_to_list, slice_index_or, slice_set}
 use Rattle.lert_base.specs.declared.pieces.PieceFault.{PieceFault}
 use Rattle.lert_base.specs.declared.pieces.PieceFault.TheVariants.{Malformed}
 use Rattle.lert_bay.specs.declared.bay.TheConstants.{FRAMES}
@@ -20,6 +20,7 @@ pub record Answers (before after : Option Files) (was becomes : Bin) (result : R
       ((ps ≡ []) × (to_come_of after becomes ≡ Some []))
       (λ p. (rest : List Piece) × (ps ≡ p ∷ rest) × (to_come_of after becomes ≡ Some rest)))
   pub untold : to_come_of before was ≡ None → to_come_of after becomes ≡ None
+  pub ended : before ≢ None → result ≡ Ok None → to_come_of before was ≡ Some []
   pub given : IfOk result (λ piece. given_of becomes ≡ given_of was ++ option_to_list piece)
   pub refused : OnErr result (given_of becomes ≡ given_of was)
   pub ascending : AreGiven (limit_of becomes) (given_of becomes)

@@ -1,6 +1,6 @@
 //! The bins of a flush.
 
-ghost use Rattle.std.specs.Prelude.{◌≡◌, ℕ, ◌<◌, ◌≤◌, List, Some, None, ◌↔◌};
+ghost use Rattle.std.specs.Prelude.{◌≡◌, ◌≢◌, ℕ, ◌<◌, ◌≤◌, List, Some, None, ◌↔◌};
 ghost use Rattle.lert_bay.specs.declared.bay.TheConstants.{FRAMES};
 ghost use Rattle.lert_bay.specs.Files.{Files};
 ghost use Rattle.lert_bay.specs.Kept.{OnlyReads};
@@ -48,6 +48,9 @@ pub trait Bins<B: Bay>: Streams<B> {
     /// Of a bay that doesn't tell its files it is the same at any time.
     ghost stays_untold: { (bins : Self) (before after : B) → B.files before ≡ None → B.files after ≡ None →
         (stream : ℕ) → stream < Self.count bins → ComesTheSame Self.to_come Self.breaks bins stream before after };
+
+    /// They tell just where the bay tells its files.
+    ghost telling: { (bay : B) → Self.tells bay ↔ (B.files bay ≢ None) };
 
     /// They only read the bay.
     ghost reading: { (before after : B) → Self.keeps before after → OnlyReads B.Bay before after NoneFailed };

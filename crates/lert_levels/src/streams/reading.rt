@@ -11,7 +11,8 @@ use lert_merge::Streams;
 // What is to come of a table are the pieces that are left, whether the bay tells its files or not; of a frame, what the
 // file says from where its reader stands.
 impl<'a, T: CountTable, B: Bay> Streams<B> for BinStreams<'a, T> {
-    ghost use Rattle.std.specs.Prelude.{length, Some, None};
+    ghost use Rattle.std.specs.Prelude.{◌≢◌, length, Some, None};
+    ghost use Rattle.std.proofs.Common.{◌∙◌};
     ghost use Rattle.lert_bay.specs.Kept.{OnlyReads};
     ghost use Rattle.lert_bay.proofs.KeptLaws.{reads_none, reads_on};
     ghost use Rattle.lert_merge.specs.order.Members.{given_at, limit_at};
@@ -32,6 +33,8 @@ impl<'a, T: CountTable, B: Bay> Streams<B> for BinStreams<'a, T> {
 
     ghost keeps = { λ before after. OnlyReads B.Bay before after ⊥ };
 
+    ghost tells = { λ bay. B.files bay ≢ None };
+
     ghost same = { IsSameSet };
 
     ghost in_order = { λ set k bay pieces within told. set_in_order (B.files bay) set.bins k pieces within told };
@@ -51,6 +54,8 @@ impl<'a, T: CountTable, B: Bay> Streams<B> for BinStreams<'a, T> {
     ghost keeps_untold = { λ set k a b one untold. set_told (B.files a) (B.files b) set.bins k None one.seen untold };
 
     ghost keeps_breaks = { λ set k a b at one. set_leaves (B.files a) (B.files b) set.bins k at one.seen };
+
+    ghost keeps_tells = { λ a b one told none. told (one.seen ∙ none) };
 
     ghost same_self = { same_set };
 
@@ -100,6 +105,8 @@ impl<'a, T: CountTable, B: Bay> Bins<B> for BinStreams<'a, T> {
       coming = set_told (B.files before) (B.files after) set.bins k _ (told_later ∙ sym told) refl;
       breaking = λ at. set_leaves (B.files before) (B.files after) set.bins k at (told_later ∙ sym told);
     } };
+
+    ghost telling = { λ bay. ((λ told. told), (λ told. told)) };
 
     ghost reading = { λ before after keeps. keeps };
 }

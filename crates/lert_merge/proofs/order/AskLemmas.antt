@@ -29,6 +29,7 @@ pub record AreLawful {S C : Type 0} (members : StreamsOf S C) : Type 0 where
   pub keeps_told : (streams : S) (k : ℕ) (a b : C) (ps : List Piece) → members.keeps a b → members.to_come streams k a ≡ Some ps → members.to_come streams k b ≡ Some ps
   pub keeps_untold : (streams : S) (k : ℕ) (a b : C) → members.keeps a b → members.to_come streams k a ≡ None → members.to_come streams k b ≡ None
   pub keeps_breaks : (streams : S) (k : ℕ) (a b : C) (at : ℕ) → members.keeps a b → members.breaks streams k b at ↔ members.breaks streams k a at
+  pub keeps_tells : (a b : C) → members.keeps a b → members.tells b → members.tells a
   pub same_self : (streams : S) → members.same streams streams
   pub same_on : (a b c : S) → members.same a b → members.same b c → members.same a c
 
@@ -37,6 +38,7 @@ pub record IsAsked {S C : Type 0} (members : StreamsOf S C) (i : ℕ) (before : 
   pub told : (ps : List Piece) → members.to_come old i before ≡ Some ps → MatchOption next ((ps ≡ []) × (members.to_come new i after ≡ Some []))
       (λ p. (rest : List Piece) × (ps ≡ p ∷ rest) × (members.to_come new i after ≡ Some rest))
   pub untold : members.to_come old i before ≡ None → members.to_come new i after ≡ None
+  pub ended : members.tells before → next ≡ None → members.to_come old i before ≡ Some []
   pub gave : members.given new i ≡ members.given old i ++ option_to_list next
   pub are : AreGiven (members.limit new i) (members.given new i)
   pub limits : members.limit new i ≡ members.limit old i

@@ -6,12 +6,12 @@ use Rattle.lert_spec.specs.declared.piece.Piece.{Piece}
 use Rattle.lert_spec.specs.Table.{AreGiven, AscendsFrom}
 use Rattle.lert_merge.specs.tree.Race.{number_at}
 use Rattle.lert_merge.specs.order.Fronts.{Fronts, front_at, IsPut, IsFront}
-use Rattle.lert_merge.specs.order.Ordering.{Ordering, AreRead, IsOrdering, IsAhead, IsGiven, IsNext, IsToCome, Tells, AllGive, part_in}
+use Rattle.lert_merge.specs.order.Ordering.{Ordering, AreRead, IsOrdering, IsAhead, IsGiven, IsNext, IsToCome, Tells, AllGive, AreWhole, part_in}
 use Rattle.lert_merge.specs.declared.order.streams.Streams.{Ghosts as StreamsOf}
 use Rattle.lert_merge.proofs.order.FrontLemmas.{pieces_some, put_here, put_else}
 use Rattle.lert_merge.proofs.order.AskLemmas.{AreLawful, IsAsked, IsCalled, gives_next, all_give}
 use Rattle.lert_merge.proofs.order.OrderLemmas.{asked_stands, counted_in, next_above, ends_one, small_last}
-use Rattle.lert_merge.proofs.order.ToldLemmas.{is_next, tells_behind}
+use Rattle.lert_merge.proofs.order.ToldLemmas.{is_next, tells_behind, all_whole}
 
 -- a piece in front is what its stream gave last
 front_ahead : {S C : Type 0} (members : StreamsOf S C) (order : Ordering S) (i : ℕ) (piece : Piece) → IsOrdering members order → AreRead members order →
@@ -114,3 +114,11 @@ given_told members laws a b before after lists i piece next is read front put ca
             (counted_in (members.limit after.streams i) (members.given before.streams i) (members.given after.streams i) next asked.gave asked.are) called asked come tells,
       ),
     )
+
+pub given_whole : {S C : Type 0} (members : StreamsOf S C) (laws : AreLawful members) (a b : C) (before seen after : Ordering S) (i : ℕ) (next : Option Piece) →
+    before ≡ seen → IsPut before.ahead after.ahead i next → IsCalled members i a before.streams b after.streams →
+    IsAsked members i a before.streams b after.streams next → AreWhole members a seen → AreWhole members b after
+given_whole {S} members laws a b before seen after i next is put called asked =
+    subst (λ (m : Ordering S). AreWhole members a m → AreWhole members b after) is
+    (all_whole members laws a b before after i next put
+    (counted_in (members.limit after.streams i) (members.given before.streams i) (members.given after.streams i) next asked.gave asked.are) called asked)

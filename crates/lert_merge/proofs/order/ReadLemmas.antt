@@ -2,12 +2,12 @@
 use Rattle.std.proofs.Common.{◌≡◌, ℕ, ◌+◌, ◌<◌, Option, None, [], length, arith, sym, ◌∙◌, refl, subst}
 use Rattle.lert_spec.specs.declared.piece.Piece.{Piece}
 use Rattle.lert_merge.specs.order.Fronts.{Fronts, IsPut}
-use Rattle.lert_merge.specs.order.Ordering.{Ordering, IsOrdering, AllGive, AllTold, none_of}
+use Rattle.lert_merge.specs.order.Ordering.{Ordering, IsOrdering, AllGive, AllTold, AreWhole, none_of}
 use Rattle.lert_merge.specs.declared.order.streams.Streams.{Ghosts as StreamsOf}
 use Rattle.lert_merge.proofs.order.FrontLemmas.{front_past, put_here, put_else}
 use Rattle.lert_merge.proofs.order.AskLemmas.{AreLawful, IsAsked, IsCalled, gives_next, all_give}
 use Rattle.lert_merge.proofs.order.OrderLemmas.{asked_stands, counted_in}
-use Rattle.lert_merge.proofs.order.ToldLemmas.{all_told}
+use Rattle.lert_merge.proofs.order.ToldLemmas.{all_told, all_whole}
 
 put_at : (ahead after : Fronts) (i : ℕ) (next : Option Piece) → i ≡ length ahead.counts → IsPut ahead after (length ahead.counts) next → IsPut ahead after i next
 put_at ahead after i next at put = subst (λ n. IsPut ahead after n next) (sym at) put
@@ -41,4 +41,12 @@ pub read_told : {S C : Type 0} (members : StreamsOf S C) (laws : AreLawful membe
 read_told {S} members laws a b before seen after i next is at put called asked =
     subst (λ (m : Ordering S). AllTold members a m b after) is
     (all_told members laws a b before after i next (front_past before.ahead i (omega arith)) (put_at before.ahead after.ahead i next at put)
+    (counted_in (members.limit after.streams i) (members.given before.streams i) (members.given after.streams i) next asked.gave asked.are) called asked)
+
+pub read_whole : {S C : Type 0} (members : StreamsOf S C) (laws : AreLawful members) (a b : C) (before seen after : Ordering S) (i : ℕ) (next : Option Piece) →
+    before ≡ seen → i ≡ length before.ahead.counts → IsPut before.ahead after.ahead (length before.ahead.counts) next →
+    IsCalled members i a before.streams b after.streams → IsAsked members i a before.streams b after.streams next → AreWhole members a seen → AreWhole members b after
+read_whole {S} members laws a b before seen after i next is at put called asked =
+    subst (λ (m : Ordering S). AreWhole members a m → AreWhole members b after) is
+    (all_whole members laws a b before after i next (put_at before.ahead after.ahead i next at put)
     (counted_in (members.limit after.streams i) (members.given before.streams i) (members.given after.streams i) next asked.gave asked.are) called asked)

@@ -4,7 +4,7 @@ use Rattle.std.proofs.Common.{subst, append-nil, Result, Ok, Err, IfOk, OnOk, On
 use Rattle.lert_base.specs.declared.pieces.PieceFault.{PieceFault}
 use Rattle.lert_spec.specs.declared.piece.Piece.{Piece}
 use Rattle.lert_merge.specs.order.Fronts.{front_at}
-use Rattle.lert_merge.specs.order.Ordering.{Ordering, HasTaken, none_of, part_of, part_in, AllGive, AllTold, AreKnown, AreSame, Breaks, IsGiven, IsStarted, Tells}
+use Rattle.lert_merge.specs.order.Ordering.{Ordering, HasTaken, none_of, part_of, part_in, AllGive, AllTold, AreKnown, AreWhole, AreSame, Breaks, IsGiven, IsStarted, Tells}
 use Rattle.lert_merge.specs.declared.order.streams.Streams.{Ghosts as StreamsOf}
 use Rattle.lert_merge.proofs.order.AskLemmas.{AreLawful}
 
@@ -74,6 +74,14 @@ told_started {S} members a b x y z told started =
       known = told.known;
     })
 
+pub whole_started : {S C : Type 0} (members : StreamsOf S C) (b : C) (y z : Ordering S) → AreWhole members b y → IsStarted y z → AreWhole members b z
+whole_started {S} members b y z whole started =
+    subst (AreWhole members b) (λ j. record {
+      streams = sym started.streams j;
+      ahead = record { tails = sym started.tails j; counts = sym started.counts j; is_begun = z.ahead.is_begun; first = z.ahead.first; room = sym started.room j };
+      last = sym started.last j;
+    }) whole
+
 -- the same, where the order that was asked is seen as another
 pub gives_behind : {S C : Type 0} (members : StreamsOf S C) (laws : AreLawful members) (part : ℕ → List Piece) (a b here c : C) (x y seen z : Ordering S) → seen ≡ y →
     here ≡ b → AllGive members none_of a x b y → AllGive members part here seen c z → AllGive members part a x c z
@@ -124,6 +132,7 @@ pub record IsReading {S C : Type 0} (members : StreamsOf S C) (faults mark : C �
   pub gives : AllGive members none_of before old after new
   pub last : new.last ≡ old.last
   pub told : AllTold members before old after new
+  pub whole : AreWhole members before old → AreWhole members after new
   pub faults_rise : faults before ≤ faults after
   pub same_mark : mark after ≡ mark before
   pub kept : members.keeps before after
@@ -144,18 +153,20 @@ reading_none members laws faults mark ctx x = record {
   };
   last = refl;
   told = record { same = λ k pieces under come. come; known = λ k under none. none };
+  whole = λ whole. whole;
   faults_rise = omega arith;
   same_mark = refl;
   kept = laws.keeps_same ctx;
 }
 
 pub reading_more : {S C : Type 0} (members : StreamsOf S C) (laws : AreLawful members) (faults mark : C → ℕ) (a b c : C) (x y z : Ordering S) →
-    IsReading members faults mark a x b y → AllGive members none_of b y c z → z.last ≡ y.last → AllTold members b y c z → faults b ≤ faults c → mark c ≡ mark b →
-    members.keeps b c → IsReading members faults mark a x c z
-reading_more members laws faults mark a b c x y z is gives last told rise same kept = record {
+    IsReading members faults mark a x b y → AllGive members none_of b y c z → z.last ≡ y.last → AllTold members b y c z →
+    (AreWhole members b y → AreWhole members c z) → faults b ≤ faults c → mark c ≡ mark b → members.keeps b c → IsReading members faults mark a x c z
+reading_more members laws faults mark a b c x y z is gives last told whole rise same kept = record {
   gives = gives_on members laws none_of a b c x y z is.gives gives;
   last = last ∙ is.last;
   told = told_on members a b c x y z is.gives.streams is.told told;
+  whole = λ was. whole (is.whole was);
   faults_rise = let one : faults a ≤ faults b = is.faults_rise in omega arith;
   same_mark = same ∙ is.same_mark;
   kept = laws.keeps_on a b c is.kept kept;

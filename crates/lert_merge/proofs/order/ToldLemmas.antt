@@ -7,8 +7,8 @@ use Rattle.lert_spec.specs.declared.piece.Piece.{Piece}
 use Rattle.lert_spec.specs.Table.{AreGiven, AscendsFrom}
 use Rattle.lert_spec.proofs.Tables.{tail_at_least}
 use Rattle.lert_merge.specs.tree.Race.{number_at}
-use Rattle.lert_merge.specs.order.Fronts.{Fronts, front_at, IsPut, IsFront, AreAllLast}
-use Rattle.lert_merge.specs.order.Ordering.{Ordering, AreRead, AreKnown, IsOrdering, IsSeated, IsAhead, IsToCome, Tells, AllTold, AreOver, IsNext}
+use Rattle.lert_merge.specs.order.Fronts.{Fronts, front_at, count_in, IsPut, IsFront, AreAllLast}
+use Rattle.lert_merge.specs.order.Ordering.{Ordering, AreRead, AreKnown, AreWhole, IsOrdering, IsSeated, IsAhead, IsToCome, Tells, AllTold, AreOver, IsNext}
 use Rattle.lert_merge.specs.order.Untouched.{IsUntouched}
 use Rattle.lert_merge.specs.declared.order.streams.Streams.{Ghosts as StreamsOf}
 use Rattle.lert_merge.proofs.order.FrontLemmas.{pieces_some, pieces_none, put_here, put_else}
@@ -55,6 +55,23 @@ known_next members i a b old new (Some p) asked none = elim (none_or (members.to
   | inl is ↦ is
   | inr some ↦ let told = (asked.told some.0 some.1).2 in absurd (cc (told, none))
 ]
+
+-- a stream that ended was told to its end
+whole_next : {S C : Type 0} (members : StreamsOf S C) (i : ℕ) (a b : C) (old new : S) (next : Option Piece) → IsAsked members i a old b new next →
+    ((p : Piece) → next ≡ Some p → 1 ≤ p.count) → members.tells a → count_in next ≡ 0 → members.to_come new i b ≢ None
+whole_next members i a b old new None asked some tells ended none =
+    let told = asked.ended tells refl in let untold = known_next members i a b old new None asked none in absurd (cc (told, untold))
+whole_next members i a b old new (Some p) asked some tells ended none = let one : 1 ≤ p.count = some p refl in let zero : p.count ≡ 0 = ended in absurd (omega arith)
+
+pub all_whole : {S C : Type 0} (members : StreamsOf S C) (laws : AreLawful members) (a b : C) (before after : Ordering S) (i : ℕ) (next : Option Piece) →
+    IsPut before.ahead after.ahead i next → ((p : Piece) → next ≡ Some p → 1 ≤ p.count) → IsCalled members i a before.streams b after.streams →
+    IsAsked members i a before.streams b after.streams next → AreWhole members a before → AreWhole members b after
+all_whole members laws a b before after i next put some called asked was tells_b =
+    let tells : members.tells a = laws.keeps_tells a b called.kept tells_b in
+    each_number (λ k. k < members.count after.streams → k < length after.ahead.counts → number_at after.ahead.counts k ≡ 0 → members.to_come after.streams k b ≢ None) i
+    (λ within under ended. whole_next members i a b before.streams after.streams next asked some tells (sym put.count ∙ ended))
+    (λ k ne within under ended none. was tells k (subst (λ n. k < n) called.counts within) ((put.read k ne).0 under) (sym (put.counts k ne) ∙ ended)
+    (other_known members laws a b before.streams after.streams k (called.others k ne) called.kept none))
 
 all_known : {S C : Type 0} (members : StreamsOf S C) (laws : AreLawful members) (a b : C) (before after : Ordering S) (i : ℕ) (next : Option Piece) →
     IsCalled members i a before.streams b after.streams → IsAsked members i a before.streams b after.streams next → AreKnown members a before b after

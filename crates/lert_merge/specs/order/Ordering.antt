@@ -1,5 +1,5 @@
 -- Several streams in one order: what was read ahead of each, what was given of each, and what is still to come.
-use Rattle.std.specs.Prelude.{ℕ, ◌≡◌, ◌<◌, ◌≤◌, ◌==◌, ◌^◌, ◌↔◌, All, true, Option, Some, None, List, [], ◌∷◌, ◌++◌, length, if◌then◌else◌}
+use Rattle.std.specs.Prelude.{ℕ, ◌≡◌, ◌≢◌, ◌<◌, ◌≤◌, ◌==◌, ◌^◌, ◌↔◌, All, true, Option, Some, None, List, [], ◌∷◌, ◌++◌, length, if◌then◌else◌}
 use Rattle.std.specs.Prelude.{Result, Ok, Err, slice_index_or}
 use Rattle.lert_base.specs.declared.pieces.PieceFault.{PieceFault}
 use Rattle.lert_spec.specs.declared.piece.Piece.{Piece}
@@ -124,6 +124,11 @@ pub record AllGive {S C : Type 0} (members : StreamsOf S C) (part : ℕ → List
 abbrev pub AreKnown : {S C : Type 0} → StreamsOf S C → C → Ordering S → C → Ordering S → Type 0
 AreKnown members before old after new = (k : ℕ) → k < members.count old.streams →
     members.to_come new.streams k after ≡ None → members.to_come old.streams k before ≡ None
+
+-- where the context tells, no stream has ended that leaves its format: what was to come of it was told
+abbrev pub AreWhole : {S C : Type 0} → StreamsOf S C → C → Ordering S → Type 0
+AreWhole members ctx order = members.tells ctx → (k : ℕ) → k < members.count order.streams → k < length order.ahead.counts →
+    number_at order.ahead.counts k ≡ 0 → members.to_come order.streams k ctx ≢ None
 
 -- what is to come of each stream, with what was read ahead of it, is the same, and where it was told it still is
 pub record AllTold {S C : Type 0} (members : StreamsOf S C) (before : C) (old : Ordering S) (after : C) (new : Ordering S) : Type 0 where

@@ -47,6 +47,9 @@ impl<C: Faulty, P: Pieces<C>> Streams<C> for Each<P> {
 
     ghost keeps = { P.keeps };
 
+    // A value's own contract says nothing of where it ends.
+    ghost tells = { λ ctx. ⊥ };
+
     ghost same = { λ old new. length new ≡ length old };
 
     ghost in_order = { at_in_order P.to_come P.given P.limit P.in_order };
@@ -60,6 +63,8 @@ impl<C: Faulty, P: Pieces<C>> Streams<C> for Each<P> {
     ghost keeps_untold = { at_untold P.to_come P.keeps P.keeps_untold };
 
     ghost keeps_breaks = { at_breaks P.breaks P.keeps P.keeps_breaks };
+
+    ghost keeps_tells = { λ a b kept told. told };
 
     ghost same_self = { λ streams. refl };
 

@@ -5,7 +5,7 @@ ghost use Rattle.lert_io.specs.Fault.{HasRisen};
 ghost use Rattle.lert_spec.specs.Table.{AreGiven};
 ghost use Rattle.lert_spec.specs.declared.piece.Piece.{Piece};
 ghost use Rattle.lert_merge.specs.order.Ordering.{Ordering, AreRead, Tells, HasTaken, part_in, part_of, none_of, IsNext, AreOver, IsNotBelow, IsBelow, IsNothingGiven, IsGiven, IsReady, IsStarted};
-ghost use Rattle.lert_merge.specs.order.Ordering.{AreEnded, AllGive, AllTold, AreKnown, AreSame, Breaks};
+ghost use Rattle.lert_merge.specs.order.Ordering.{AreEnded, AllGive, AllTold, AreKnown, AreWhole, AreSame, Breaks};
 
 use crate::order::ahead::Ahead;
 use crate::order::streams::Streams;
@@ -70,6 +70,9 @@ impl<C: Faulty, S: Streams<C>> Order<C, S> {
             S.to_come self.old.streams k ctx.old ≡ None → S.to_come self.new.streams k ctx.new ≡ None }
         ensures known { OnOk result (AreKnown S.Streams ctx.old self.old ctx.new self.new) }
 
+        // Where the context tells, a stream that ended was told to its end: none ends where it leaves its format.
+        ensures whole { OnOk result (AreWhole S.Streams ctx.old self.old → AreWhole S.Streams ctx.new self.new) }
+
         // Told or not, the tails ascend below their streams' limits, those of one stream strictly, and the pieces are
         // what the streams gave.
         ensures above { IfOk result (λ given. IfSome given (λ g. IsNotBelow self.old.last g.1.tail)) }
@@ -126,6 +129,7 @@ impl<C: Faulty, S: Streams<C>> Order<C, S> {
         ensures gives { AllGive S.Streams none_of ctx.old self.old ctx.new self.new }
         ensures last { self.new.last ≡ self.old.last }
         ensures told { OnOk result (AllTold S.Streams ctx.old self.old ctx.new self.new) }
+        ensures whole { OnOk result (AreWhole S.Streams ctx.old self.old → AreWhole S.Streams ctx.new self.new) }
         ensures ready { OnOk result (IsReady S.Streams self.new) }
 
         ensures failed { result ≡ Err PieceFault.Failed → HasRisen (C.faults ctx.old) (C.faults ctx.new) }
@@ -149,6 +153,7 @@ impl<C: Faulty, S: Streams<C>> Order<C, S> {
         ensures gives { AllGive S.Streams none_of ctx.old self.old ctx.new self.new }
         ensures last { self.new.last ≡ self.old.last }
         ensures told { OnOk result (AllTold S.Streams ctx.old self.old ctx.new self.new) }
+        ensures whole { OnOk result (AreWhole S.Streams ctx.old self.old → AreWhole S.Streams ctx.new self.new) }
         ensures len { OnOk result (length self.new.ahead.counts ≡ length self.old.ahead.counts + 1) }
 
         ensures failed { result ≡ Err PieceFault.Failed → HasRisen (C.faults ctx.old) (C.faults ctx.new) }
@@ -186,6 +191,7 @@ impl<C: Faulty, S: Streams<C>> Order<C, S> {
             MatchOption given (AreOver lists × Tells S.Streams ctx.new self.new lists) (λ g. (rest : List Piece) ×
             (IsNext lists g.0 g.1 rest × Tells S.Streams ctx.new self.new (slice_set lists g.0 rest)))) }
         ensures known { OnOk result (AreKnown S.Streams ctx.old self.old ctx.new self.new) }
+        ensures whole { OnOk result (AreWhole S.Streams ctx.old self.old → AreWhole S.Streams ctx.new self.new) }
 
         ensures failed { result ≡ Err PieceFault.Failed → HasRisen (C.faults ctx.old) (C.faults ctx.new) }
         ensures malformed { (at : ℕ) → result ≡ Err (PieceFault.Malformed at) →

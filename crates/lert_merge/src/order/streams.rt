@@ -1,6 +1,6 @@
 //! Sets of streams, which an order reads: the bins of a flush, from tables and from frames at once.
 
-ghost use Rattle.std.specs.Prelude.{◌≡◌, ◌≢◌, ℕ, ◌<◌, ◌≤◌, List, [], ◌∷◌, ◌++◌, Option, Some, None, Err, MatchOption, IfOk, OnErr, ◌↔◌, option_to_list};
+ghost use Rattle.std.specs.Prelude.{◌≡◌, ◌≢◌, ℕ, ◌<◌, ◌≤◌, List, [], ◌∷◌, ◌++◌, Option, Some, None, Ok, Err, MatchOption, IfOk, OnErr, ◌↔◌, option_to_list};
 ghost use Rattle.lert_io.specs.Fault.{HasRisen};
 ghost use Rattle.lert_spec.specs.Table.{AreGiven};
 ghost use Rattle.lert_spec.specs.declared.piece.Piece.{Piece};
@@ -29,6 +29,9 @@ pub trait Streams<C: Faulty> {
     /// What a call leaves of the context: the first is before calls, the second after.
     ghost keeps: { C → C → Type 0 };
 
+    /// Through such a context each stream is told that leaves its format nowhere.
+    ghost tells: { C → Type 0 };
+
     /// What calls leave of the set besides: which streams these are. The first is before calls, the second after.
     ghost same: { Self → Self → Type 0 };
 
@@ -45,6 +48,9 @@ pub trait Streams<C: Faulty> {
             ((ps ≡ []) × (to_come self.new stream ctx.new ≡ Some []))
             (λ p. (rest : List Piece) × (ps ≡ p ∷ rest) × (to_come self.new stream ctx.new ≡ Some rest))) }
         ensures untold { to_come self.old stream ctx.old ≡ None → to_come self.new stream ctx.new ≡ None }
+
+        // Where the context tells, None comes only where none is left: no stream ends where it leaves its format.
+        ensures ended { tells ctx.old → result ≡ Ok None → to_come self.old stream ctx.old ≡ Some [] }
 
         // Told or not, what was given ascends below the limit, each count from 1 to 2^47.
         ensures given { IfOk result (λ piece. given self.new stream ≡ given self.old stream ++ option_to_list piece) }
@@ -85,6 +91,9 @@ pub trait Streams<C: Faulty> {
 
     ghost keeps_breaks: { (streams : Self) (stream : ℕ) (a b : C) (at : ℕ) →
         keeps a b → (breaks streams stream b at ↔ breaks streams stream a at) };
+
+    /// It tells only where it told before.
+    ghost keeps_tells: { (a b : C) → keeps a b → tells b → tells a };
 
     /// Without a call the streams are the same, and so they are after two calls in turn.
     ghost same_self: { (streams : Self) → same streams streams };

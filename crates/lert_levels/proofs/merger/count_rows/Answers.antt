@@ -49,7 +49,8 @@ returns-clause-made g c =
     let before = g.B.Bay.files c.args.bay.now in
     on_ok c.count_bins-counted.result _ (IsMade s young rows [] took (IsFrames before) [])
     (λ taken. made_of s valid young rows (omega (arith, count, c.requires.few)) (λ k below. c.requires.rows k (omega (arith, below, count))) bins begun took before taken.0 taken.1.len
-    taken.1.given taken.1.fits taken.1.totals_are (λ all len told. taken.1.told all (record { len = len; told = told })) [])
+    taken.1.given taken.1.fits taken.1.totals_are (λ all len told. taken.1.told all (record { len = len; told = told }))
+    (λ files k below. (taken.1.whole files).told k below) [])
     c.count_bins-counted.ensures.counted
 
 pub returns-clause-malformed : goal.returns-clause-malformed

@@ -191,7 +191,8 @@ returns g c =
           (λ landed. has_made s m young rows reached parts landings laid took before after landed.lists
           (landed.all.len ∙ begun_number s young rows bins begun)
           (made_of s valid young rows reached.few reached.are bins begun took before landed.lists landed.all.len landed.all.given landed.all.fits landed.all.totals_are
-          (λ all len told. landed.all.told all (record { len = len; told = told })) (parts_at s m (length young) rows))
+          (λ all len told. landed.all.told all (record { len = len; told = told }))
+          (λ files k below. (landed.all.whole files).told k below) (parts_at s m (length young) rows))
           (λ seen told k d below. subst (λ (ps : List (Option ℕ)). HoldsFrame s (k + 1) (get_or landings k d).frame (seen FRAMES) (sums_of (picked ps k landed.lists)))
           c.deref.ensures.value (landed.stand s laid.are seen told k d below)))
           c.land_bins-landed.ensures.landed;

@@ -1,4 +1,4 @@
-use Rattle.std.proofs.Common.{◌<◌, ◌∙◌, None, [], length, get_or, arith}
+use Rattle.std.proofs.Common.{◌<◌, ◌∙◌, None, Ok, [], ap, length, get_or, arith}
 use Rattle.std.specs.Prelude.{IsErrOf}
 use Rattle.std.proofs.lemmas.Result.{err_from_is_err_and}
 use Rattle.lert_bay.proofs.KeptLaws.{IsLawful, keeps_as}
@@ -6,11 +6,14 @@ use Rattle.lert_base.specs.declared.pieces.PieceFault.TheVariants.{Failed}
 use Rattle.lert_levels.specs.landing.Landed.{CanTake}
 use Rattle.lert_levels.specs.landing.Summed.{sums_of}
 use Rattle.lert_levels.specs.declared.landing.landing.Landing.{Landing}
+use Rattle.lert_levels.specs.landing.Landings.{IsOutside}
+use Rattle.lert_levels.specs.rows.Landing.{LeavesRest}
 use Rattle.lert_levels.specs.flush.Staying.{NoneFailed}
 use Rattle.lert_levels.specs.flush.Writing.{LandingsWrite}
 use Rattle.lert_levels.proofs.flush.BoundLaws.{came_fits, all_fit, can_take, left_less}
 use Rattle.lert_levels.proofs.flush.GatheringLaws.{breaks_back, sound_by, taken_all, within, up_so_far}
 use Rattle.lert_levels.proofs.flush.MergingLaws.{merging_none, merging_more, given_at, none_at, if_some, is_own, never_failed, table_of}
+use Rattle.lert_levels.proofs.flush.WholeLaws.{told_still}
 use Rattle.lert_levels.proofs.flush.SteadyLaws.{AreSteady, landings_same, writes_read, writes_on, writes_as, reads_failed}
 use Rattle.lert_levels.proofs.flush.merge.merge_bins.Given as given
 use Rattle.lert_levels.proofs.flush.merge.merge_bins.Invariants.{bays}
@@ -28,6 +31,7 @@ steady g = record {
   stays = g.met.S.Bins.stays;
   sure_stays = g.met.S.Bins.sure_stays;
   stays_untold = g.met.S.Bins.stays_untold;
+  telling = g.met.S.Bins.telling;
   reading = g.met.S.Bins.reading;
   same_self = g.met.S.Streams.same_self;
   same_on = g.met.S.Streams.same_on;
@@ -45,7 +49,7 @@ add_total-requires g c =
     let was = c.loop-next.invariant in
     let e = c.in_ok-next.ensures in
     let step = given_at g.S.Streams c.loop-next.order c.loop-next.bay c.step.new.self c.step.new.ctx c.in_ok-next.field-0 c.in-Some.next c.in-Some.is
-    e.taken e.ascending e.below e.above e.last e.told e.known c.step.ensures.same c.step.ensures.kept in (
+    e.taken e.ascending e.below e.above e.last e.told e.known e.whole c.step.ensures.untold c.step.ensures.same c.step.ensures.kept in (
       sums_of was.lists,
       was.gathering.totals_are,
       up_so_far g.S.Streams g.O.Totals.took c.args.order.now c.args.bay.now was.lists c.loop-next.order c.loop-next.bay c.loop-next.totals c.loop-next.sum was.gathering
@@ -64,7 +68,7 @@ bounds-parts-next g c =
     let was = c.loop-next.invariant in
     let e = c.in_ok-next.ensures in
     let step = given_at g.S.Streams c.loop-next.order c.loop-next.bay c.step.new.self c.step.new.ctx c.in_ok-next.field-0 c.in-Some.next c.in-Some.is
-    e.taken e.ascending e.below e.above e.last e.told e.known c.step.ensures.same c.step.ensures.kept in
+    e.taken e.ascending e.below e.above e.last e.told e.known e.whole c.step.ensures.untold c.step.ensures.same c.step.ensures.kept in
     omega (
       arith,
       within g.S.Streams g.O.Totals.took c.args.order.now c.args.bay.now was.lists c.loop-next.order c.loop-next.bay c.loop-next.totals c.loop-next.sum
@@ -77,7 +81,7 @@ put_piece-requires-clause-part g c =
     let was = c.loop-next.invariant in
     let e = c.in_ok-next.ensures in
     let step = given_at g.S.Streams c.loop-next.order c.loop-next.bay c.step.new.self c.step.new.ctx c.in_ok-next.field-0 c.in-Some.next c.in-Some.is
-    e.taken e.ascending e.below e.above e.last e.told e.known c.step.ensures.same c.step.ensures.kept in
+    e.taken e.ascending e.below e.above e.last e.told e.known e.whole c.step.ensures.untold c.step.ensures.same c.step.ensures.kept in
     if_some (get_or c.args.parts.now c.in-Some.next.0 None) (λ own. own < length c.loop-next.landings)
     (λ own is.
     let below : own < length c.args.landings.now = rw is at (c.requires.parts.within c.in-Some.next.0 (omega (
@@ -93,7 +97,7 @@ put_piece-requires-clause-piece g c =
     let was = c.loop-next.invariant in
     let e = c.in_ok-next.ensures in
     let step = given_at g.S.Streams c.loop-next.order c.loop-next.bay c.step.new.self c.step.new.ctx c.in_ok-next.field-0 c.in-Some.next c.in-Some.is
-    e.taken e.ascending e.below e.above e.last e.told e.known c.step.ensures.same c.step.ensures.kept in
+    e.taken e.ascending e.below e.above e.last e.told e.known e.whole c.step.ensures.untold c.step.ensures.same c.step.ensures.kept in
     if_some (get_or c.args.parts.now c.in-Some.next.0 None) (λ own. (d : Landing) → CanTake (get_or c.loop-next.landings own d) c.in-Some.next.1)
     (λ own is d.
     let room = c.requires.room in
@@ -114,7 +118,7 @@ loop-next-smaller g c =
     let was = c.loop-next.invariant in
     let e = c.in_ok-next.ensures in
     let step = given_at g.S.Streams c.loop-next.order c.loop-next.bay c.step.new.self c.step.new.ctx c.in_ok-next.field-0 c.in-Some.next c.in-Some.is
-    e.taken e.ascending e.below e.above e.last e.told e.known c.step.ensures.same c.step.ensures.kept in
+    e.taken e.ascending e.below e.above e.last e.told e.known e.whole c.step.ensures.untold c.step.ensures.same c.step.ensures.kept in
     left_less g.S.Streams g.S.Bins.width g.met.S.Bins.summed g.met.S.Bins.width_same g.O.Totals.took c.args.order.now c.args.bay.now was.lists c.loop-next.order
     c.loop-next.bay c.loop-next.totals c.loop-next.sum was.gathering c.step.new.self c.step.new.ctx c.in-Some.next step g.met.S.Streams.same_on
 
@@ -123,7 +127,7 @@ loop-next-preserved g c =
     let was = c.loop-next.invariant in
     let e = c.in_ok-next.ensures in
     let step = given_at g.S.Streams c.loop-next.order c.loop-next.bay c.step.new.self c.step.new.ctx c.in_ok-next.field-0 c.in-Some.next c.in-Some.is
-    e.taken e.ascending e.below e.above e.last e.told e.known c.step.ensures.same c.step.ensures.kept in
+    e.taken e.ascending e.below e.above e.last e.told e.known e.whole c.step.ensures.untold c.step.ensures.same c.step.ensures.kept in
     merging_more g.S.Streams g.O.Totals.took (bays g) (lawful g) g.S.Bins.width g.S.Bins.reads g.S.Bins.sure (steady g) c.args.parts.now c.args.order.now c.args.bay.now
     c.args.landings.now c.loop-next.order c.loop-next.bay c.loop-next.landings c.loop-next.totals c.loop-next.sum was
     c.step.new.self c.step.new.ctx c.in-Some.next step c.step.ensures.keeps c.add_total.new.totals c.add_total.new.sum c.add_total.ensures c.requires.parts.len c.requires.apart
@@ -270,6 +274,10 @@ end_totals-requires g c =
 pub returns-clause-merged : goal.returns-clause-merged
 returns-clause-merged g c =
     let was = c.loop-next.invariant in
+    let writes = end_writes g c in
+    let on : g.S.Streams.tells c.args.bay.now → g.S.Streams.tells c.step.new.ctx = λ tells. (g.met.S.Bins.telling c.step.new.ctx).1
+    (told_still (LeavesRest (IsOutside c.args.landings.now)) (g.B.Bay.files c.args.bay.now) (g.B.Bay.files c.step.new.ctx) writes.rest.seen
+    ((g.met.S.Bins.telling c.args.bay.now).0 tells)) in
     record {
       lists = was.lists;
       all = taken_all g.S.Streams g.O.Totals.took c.args.order.now c.args.bay.now was.lists c.loop-next.order c.loop-next.bay c.loop-next.totals c.loop-next.sum was.gathering
@@ -277,7 +285,7 @@ returns-clause-merged g c =
           (λ k below. came_fits g.S.Streams g.S.Bins.width g.met.S.Bins.summed g.met.S.Bins.width_same c.args.order.now c.loop-next.order k (get_or was.lists k []) was.gathering.kept
           (omega (arith, below, was.gathering.same.streams)) (was.gathering.taken k below))
           (λ left tells. none_at c.in_ok-next.field-0 _ _ c.in_default.is (c.in_ok-next.ensures.told left tells))
-          c.end_totals.ensures.took;
+          c.end_totals.ensures.took on (c.in_ok-next.ensures.over (ap Ok c.in_default.is)) c.in_ok-next.ensures.whole c.step.ensures.same c.step.ensures.untold;
       landed = was.landed;
     }
 

@@ -1,4 +1,4 @@
-use Rattle.std.proofs.Common.{◌∙◌, [], get_or, arith}
+use Rattle.std.proofs.Common.{◌≡◌, ◌∙◌, [], Ok, get_or, ap, sym, arith}
 use Rattle.std.specs.Prelude.{IsErrOf}
 use Rattle.std.proofs.lemmas.Result.{err_from_is_err_and}
 use Rattle.lert_bay.proofs.KeptLaws.{IsLawful, reads_none, reads_on, reads_as}
@@ -32,7 +32,7 @@ add_total-requires g c =
     let was = c.loop-next.invariant in
     let e = c.in_ok-next.ensures in
     let step = given_at g.S.Streams c.loop-next.order c.loop-next.bay c.step.new.self c.step.new.ctx c.in_ok-next.field-0 c.in-Some.next c.in-Some.is
-    e.taken e.ascending e.below e.above e.last e.told e.known c.step.ensures.same c.step.ensures.kept in (
+    e.taken e.ascending e.below e.above e.last e.told e.known e.whole c.step.ensures.untold c.step.ensures.same c.step.ensures.kept in (
       sums_of was.lists,
       was.gathering.totals_are,
       up_so_far g.S.Streams g.O.Totals.took c.args.order.now c.args.bay.now was.lists c.loop-next.order c.loop-next.bay c.loop-next.totals c.loop-next.sum was.gathering
@@ -51,7 +51,7 @@ loop-next-smaller g c =
     let was = c.loop-next.invariant in
     let e = c.in_ok-next.ensures in
     let step = given_at g.S.Streams c.loop-next.order c.loop-next.bay c.step.new.self c.step.new.ctx c.in_ok-next.field-0 c.in-Some.next c.in-Some.is
-    e.taken e.ascending e.below e.above e.last e.told e.known c.step.ensures.same c.step.ensures.kept in
+    e.taken e.ascending e.below e.above e.last e.told e.known e.whole c.step.ensures.untold c.step.ensures.same c.step.ensures.kept in
     left_less g.S.Streams g.S.Bins.width g.met.S.Bins.summed g.met.S.Bins.width_same g.O.Totals.took c.args.order.now c.args.bay.now was.lists c.loop-next.order
     c.loop-next.bay c.loop-next.totals c.loop-next.sum was.gathering c.step.new.self c.step.new.ctx c.in-Some.next step g.met.S.Streams.same_on
 
@@ -60,7 +60,7 @@ loop-next-preserved g c =
     let was = c.loop-next.invariant in
     let e = c.in_ok-next.ensures in
     let step = given_at g.S.Streams c.loop-next.order c.loop-next.bay c.step.new.self c.step.new.ctx c.in_ok-next.field-0 c.in-Some.next c.in-Some.is
-    e.taken e.ascending e.below e.above e.last e.told e.known c.step.ensures.same c.step.ensures.kept in
+    e.taken e.ascending e.below e.above e.last e.told e.known e.whole c.step.ensures.untold c.step.ensures.same c.step.ensures.kept in
     record {
       lists = more g.S.Streams g.O.Totals.took c.args.order.now c.args.bay.now was.lists c.loop-next.order c.loop-next.bay c.loop-next.totals c.loop-next.sum was.gathering
           c.step.new.self c.step.new.ctx c.in-Some.next step;
@@ -114,14 +114,17 @@ end_totals-requires g c =
 
 pub returns-clause-merged : goal.returns-clause-merged
 returns-clause-merged g c =
-    let was = c.loop-next.invariant in (
+    let was = c.loop-next.invariant in
+    let files : g.B.Bay.files c.step.new.ctx ≡ g.B.Bay.files c.args.bay.now = (g.met.S.Bins.reading c.loop-next.bay c.step.new.ctx c.step.ensures.keeps).seen ∙ was.read.seen in
+    let on : g.S.Streams.tells c.args.bay.now → g.S.Streams.tells c.step.new.ctx = λ tells.
+    (g.met.S.Bins.telling c.step.new.ctx).1 (λ none. (g.met.S.Bins.telling c.args.bay.now).0 tells (sym files ∙ none)) in (
       was.lists,
       taken_all g.S.Streams g.O.Totals.took c.args.order.now c.args.bay.now was.lists c.loop-next.order c.loop-next.bay c.loop-next.totals c.loop-next.sum was.gathering
           g.S.Bins.width c.step.new.ctx c.step.new.self c.end_totals.new.totals
           (λ k below. came_fits g.S.Streams g.S.Bins.width g.met.S.Bins.summed g.met.S.Bins.width_same c.args.order.now c.loop-next.order k (get_or was.lists k []) was.gathering.kept
           (omega (arith, below, was.gathering.same.streams)) (was.gathering.taken k below))
           (λ left tells. none_at c.in_ok-next.field-0 _ _ c.in_default.is (c.in_ok-next.ensures.told left tells))
-          c.end_totals.ensures.took,
+          c.end_totals.ensures.took on (c.in_ok-next.ensures.over (ap Ok c.in_default.is)) c.in_ok-next.ensures.whole c.step.ensures.same c.step.ensures.untold,
     )
 
 pub returns-clause-took : goal.returns-clause-took

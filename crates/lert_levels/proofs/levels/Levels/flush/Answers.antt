@@ -60,6 +60,7 @@ returns-in_err-merge g c =
       took = tt;
       durable = tt;
       rest = rest_fewer (bays g) (AreApart s m reached) (InNamed s rows) c.args.bay.now c.merge.new.bay (named_apart s m rows e.rows (depth s m) deepest) e.rest;
+      whole = λ seen told. tt;
       sound = λ seen told hold stand.
           failed_by _ (λ at is. no_break s e.valid reached (seen FRAMES) hold at few each stand (e.malformed seen told at (ap Err is)));
       malformed = λ seen told at is. e.malformed seen told at (same_err _ _ is);
@@ -90,6 +91,7 @@ returns-in_err-sync_frames g c =
           (rest_fewer (bays g) (AreApart s m (take (depth s m) rows)) (InNamed s rows) c.args.bay.now c.merge.new.bay
           (named_apart s m rows one.rows (depth s m) deepest) one.rest)
           (rest_fewer (bays g) Anywhere (InNamed s rows) c.merge.new.bay c.sync_frames.new.bay (λ from to inside. tt) two.rest);
+      whole = λ seen told. rw p.1 tt;
       sound = λ seen told hold stand. rw p.1 p.2;
       malformed = λ seen told at is. absurd (no_place r.result r.ensures.1 at is);
       malformed_after = λ seen told at is. absurd (no_place r.result r.ensures.1 at is);
@@ -131,6 +133,7 @@ returns g c =
           (rest_fewer (bays g) (AreApart s m (take (depth s m) rows)) (InNamed s rows) c.args.bay.now c.merge.new.bay
           (named_apart s m rows one.rows (depth s m) deepest) one.rest)
           (rest_fewer (bays g) Anywhere (InNamed s rows) c.merge.new.bay c.sync_frames.new.bay (λ from to inside. tt) two.rest);
+      whole = λ seen told. has.is.whole (seen FRAMES) (record { seen = seen; told = told; is = refl });
       sound = λ seen told hold stand. tt;
       malformed = λ seen told at is. absurd (not_err _ _ is);
       malformed_after = λ seen told at is. absurd (not_err _ _ is);

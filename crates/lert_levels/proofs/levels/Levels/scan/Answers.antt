@@ -1,4 +1,4 @@
-use Rattle.std.proofs.Common.{ℕ, ◌≡◌, ◌+◌, ◌*◌, ◌-◌, ◌≤◌, ◌∙◌, List, Option, Vec, Global, [], map, take, length, get_or, ap, sym, subst, arith, refl}
+use Rattle.std.proofs.Common.{ℕ, ◌≡◌, ◌+◌, ◌*◌, ◌-◌, ◌≤◌, ◌∙◌, List, Option, None, Vec, Global, [], map, take, length, get_or, ap, sym, subst, arith, refl}
 use Rattle.std.proofs.lemmas.List.{take_all, length-map}
 use Rattle.lert_bay.specs.Files.{Files}
 use Rattle.lert_bay.specs.declared.bay.TheConstants.{FRAMES}
@@ -9,6 +9,7 @@ use Rattle.lert_spec.specs.declared.numbers.Numbers.{Numbers}
 use Rattle.lert_spec.specs.Bins.{tallied}
 use Rattle.lert_spec.specs.Limits.{IsValid}
 use Rattle.lert_levels.specs.declared.rows.bin_at.BinAt.{BinAt}
+use Rattle.lert_levels.specs.rows.Checked.{rows_left}
 use Rattle.lert_levels.specs.rows.Loading.{AllStand, OneBreaks}
 use Rattle.lert_levels.specs.rows.Rows.{IsRow, AreRows, tallied_in}
 use Rattle.lert_levels.proofs.rows.CheckLaws.{lent_rows}
@@ -94,6 +95,12 @@ returns-clause-told g c seen told events of =
     (λ value is. scan_taken s (valid g c) rows c.args.zero.now.bins [] took (IsFrames before) []
     (made g c took before (at_ok _ c.count_rows-reading.result.1 value is c.count_rows-reading.ensures.made)) (seen FRAMES) events here (are g c) of)
     (λ at is. unbroken g c (seen FRAMES) (tallied_in s events) at (subst (AllStand s (seen FRAMES) (tallied_in s events)) (whole g c) stand) (returns-clause-malformed g c seen told at is))
+
+pub returns-clause-whole : goal.returns-clause-whole
+returns-clause-whole g c seen told =
+    on_ok c.count_rows-reading.result.1 _ (rows_left c.args.self.now.settings (seen FRAMES) c.args.self.now.rows ≡ None)
+    (λ is. said g c (λ t rs. rows_left t (seen FRAMES) rs ≡ None) (is.whole (seen FRAMES) (record { seen = seen; told = told; is = refl })))
+    c.count_rows-reading.ensures.made
 
 -- ---- the other clauses
 

@@ -12,6 +12,7 @@ laws g = record {
   keeps_told = g.met.S.Streams.keeps_told;
   keeps_untold = g.met.S.Streams.keeps_untold;
   keeps_breaks = g.met.S.Streams.keeps_breaks;
+  keeps_tells = g.met.S.Streams.keeps_tells;
   same_self = g.met.S.Streams.same_self;
   same_on = g.met.S.Streams.same_on;
 }

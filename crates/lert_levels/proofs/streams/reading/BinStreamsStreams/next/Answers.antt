@@ -1,4 +1,4 @@
-use Rattle.lert_levels.proofs.streams.NextLaws.{next_told, next_untold, next_given, next_refused, next_ascending, next_limit, next_malformed, next_leaves, next_others, next_count, next_same}
+use Rattle.lert_levels.proofs.streams.NextLaws.{next_told, next_untold, next_ended, next_given, next_refused, next_ascending, next_limit, next_malformed, next_leaves, next_others, next_count, next_same}
 use Rattle.lert_levels.proofs.streams.reading.BinStreamsStreams.next.Goals as goal
 
 pub returns-clause-told : goal.returns-clause-told
@@ -7,6 +7,10 @@ returns-clause-told g c ps told = next_told (g.B.Bay.files c.args.ctx.now) (g.B.
 
 pub returns-clause-untold : goal.returns-clause-untold
 returns-clause-untold g c none = next_untold (g.B.Bay.files c.args.ctx.now) (g.B.Bay.files c.ask.new.bay) c.args.self.now c.ask.new.self c.args.stream c.ask.result c.ask.ensures.asked c.requires none
+
+pub returns-clause-ended : goal.returns-clause-ended
+returns-clause-ended g c files is = next_ended (g.B.Bay.files c.args.ctx.now) (g.B.Bay.files c.ask.new.bay) c.args.self.now c.ask.new.self c.args.stream c.ask.result c.ask.ensures.asked
+    c.requires files is
 
 pub returns-clause-given : goal.returns-clause-given
 returns-clause-given g c = next_given (g.B.Bay.files c.args.ctx.now) (g.B.Bay.files c.ask.new.bay) c.args.self.now c.ask.new.self c.args.stream c.ask.result c.ask.ensures.asked c.requires

@@ -1,6 +1,6 @@
 use Rattle.std.proofs.Common.{◌+◌, ap, length, arith, refl}
 use Rattle.std.specs.Vec.{vec_capacity}
-use Rattle.lert_levels.proofs.streams.AskLaws.{all_length, table_kept, table_asked, frame_kept, frame_asked}
+use Rattle.lert_levels.proofs.streams.AskLaws.{all_length, table_kept, table_asked, frame_kept, frame_ended, frame_asked}
 use Rattle.lert_levels.proofs.streams.TableLaws.{cursors_length, stands_here}
 use Rattle.lert_levels.specs.streams.BinSet.{BinSet}
 use Rattle.lert_levels.proofs.streams.streams.BinStreams.ask.Goals as goal
@@ -63,6 +63,8 @@ returns-clause-asked g c = frame_asked (λ table. g.T.CountTable.quotient_bits t
     c.if-stream-tables.false c.requires c.index_mut-2.ensures.value (record {
       told = c.next-2.ensures.told;
       untold = c.next-2.ensures.untold;
+      ended = frame_ended (g.B.Bay.files c.args.bay.now) (g.B.Bay.files c.next-2.new.ctx) c.index_mut-2.result.now c.next-2.new.self c.next-2.result
+          c.next-2.ensures.only_reads.seen c.next-2.ensures.told c.next-2.ensures.breaks c.next-2.ensures.over;
       given = c.next-2.ensures.given;
       refused = c.next-2.ensures.refused;
       ascending = c.next-2.ensures.ascending;

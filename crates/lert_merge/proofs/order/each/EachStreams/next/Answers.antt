@@ -50,3 +50,6 @@ returns-clause-breaks g c at = same_breaks g.P.Pieces.breaks _ _ c.args.stream _
 
 pub returns-clause-others : goal.returns-clause-others
 returns-clause-others g c k ne = others_stay g.P.Pieces.to_come g.P.Pieces.given g.P.Pieces.limit g.P.Pieces.breaks _ _ c.args.stream k _ c.self.view_is ne
+
+pub returns-clause-ended : goal.returns-clause-ended
+returns-clause-ended g c tells is = absurd tells

@@ -1,9 +1,9 @@
-use Rattle.std.proofs.Common.{◌≡◌, ◌<◌, None, length, sym, subst, refl, ap, arith}
+use Rattle.std.proofs.Common.{◌≡◌, ◌<◌, None, Ok, length, sym, subst, refl, ap, arith}
 use Rattle.std.proofs.lemmas.Result.{err_from_is_err_and}
 use Rattle.lert_merge.specs.order.Ordering.{Ordering, AreRead, Tells}
 use Rattle.lert_merge.proofs.order.AskLemmas.{AreLawful, IsAsked, IsCalled, all_refused, breaks_at}
 use Rattle.lert_merge.proofs.order.OrderLemmas.{refused_stands}
-use Rattle.lert_merge.proofs.order.GiveLemmas.{front_above, given_stands, given_gives, given_seen, given_told}
+use Rattle.lert_merge.proofs.order.GiveLemmas.{front_above, given_stands, given_gives, given_seen, given_told, given_whole}
 use Rattle.lert_merge.specs.order.Fronts.{AreAllLast}
 use Rattle.lert_merge.proofs.order.StepLemmas.{reading_none, ok_apart, some_apart, rose_none}
 use Rattle.lert_merge.proofs.order.ToldLemmas.{are_over, known_seen}
@@ -18,6 +18,7 @@ laws g = record {
   keeps_told = g.met.S.Streams.keeps_told;
   keeps_untold = g.met.S.Streams.keeps_untold;
   keeps_breaks = g.met.S.Streams.keeps_breaks;
+  keeps_tells = g.met.S.Streams.keeps_tells;
   same_self = g.met.S.Streams.same_self;
   same_on = g.met.S.Streams.same_on;
 }
@@ -56,6 +57,7 @@ replace-requires-clause-above g c =
     let asked : IsAsked g.S.Streams c.in-Some.stream c.args.ctx.now c.self.inside.streams c.next.new.ctx c.next.new.self c.in_ok-next.next = record {
       told = c.in_ok-next.ensures.told;
       untold = c.next.ensures.untold;
+      ended = λ tells none. c.in_ok-next.ensures.ended tells (ap Ok none);
       gave = c.in_ok-next.ensures.given;
       are = c.next.ensures.ascending;
       limits = c.next.ensures.limit;
@@ -72,6 +74,7 @@ asked : (g : given.Over) (c : goal.After-drop-self-inside g) →
 asked g c = record {
   told = c.in_ok-next.ensures.told;
   untold = c.next.ensures.untold;
+  ended = λ tells none. c.in_ok-next.ensures.ended tells (ap Ok none);
   gave = c.in_ok-next.ensures.given;
   are = c.next.ensures.ascending;
   limits = c.next.ensures.limit;
@@ -103,6 +106,11 @@ pub returns-clause-known : goal.returns-clause-known
 returns-clause-known g c = known_seen g.S.Streams (laws g) c.args.ctx.now c.next.new.ctx (record { streams = c.self.inside.streams; ahead = c.self.inside.ahead; last = c.self.inside.last.value })
     _ (record { streams = c.next.new.self; ahead = c.replace.new.self; last = c.of.result.value }) c.in-Some.stream c.in_ok-next.next c.self.view_is (called g c) (asked g c)
 
+pub returns-clause-whole : goal.returns-clause-whole
+returns-clause-whole g c = given_whole g.S.Streams (laws g) c.args.ctx.now c.next.new.ctx
+    (record { streams = c.self.inside.streams; ahead = c.self.inside.ahead; last = c.self.inside.last.value }) c.args.self.now
+    (record { streams = c.next.new.self; ahead = c.replace.new.self; last = c.of.result.value }) c.in-Some.stream c.in_ok-next.next c.self.view_is c.replace.ensures.put (called g c) (asked g c)
+
 -- ---- no piece is left
 
 pub returns-in_default-clause-gives : goal.returns-in_default-clause-gives
@@ -123,6 +131,9 @@ returns-in_default-clause-nothing_given g c none = refl
 
 pub returns-in_default-clause-known : goal.returns-in_default-clause-known
 returns-in_default-clause-known g c k under none = none
+
+pub returns-in_default-clause-whole : goal.returns-in_default-clause-whole
+returns-in_default-clause-whole g c whole = whole
 
 pub returns-in_default-clause-failed : goal.returns-in_default-clause-failed
 returns-in_default-clause-failed g c is = absurd (ok_apart _ _ _ refl is)
@@ -146,6 +157,9 @@ returns-in_err-next-clause-given g c = rw (err_from_is_err_and c.from_residual.r
 
 pub returns-in_err-next-clause-known : goal.returns-in_err-next-clause-known
 returns-in_err-next-clause-known g c = rw (err_from_is_err_and c.from_residual.result c.from_residual.ensures.1).1 tt
+
+pub returns-in_err-next-clause-whole : goal.returns-in_err-next-clause-whole
+returns-in_err-next-clause-whole g c = rw (err_from_is_err_and c.from_residual.result c.from_residual.ensures.1).1 tt
 
 pub returns-in_err-next-clause-told : goal.returns-in_err-next-clause-told
 returns-in_err-next-clause-told g c lists tells = rw (err_from_is_err_and c.from_residual.result c.from_residual.ensures.1).1 tt

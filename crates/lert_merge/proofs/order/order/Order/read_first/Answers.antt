@@ -3,7 +3,7 @@ use Rattle.std.proofs.lemmas.Result.{err_from_is_err_and}
 use Rattle.lert_io.proofs.Rising.{risen_since}
 use Rattle.lert_merge.specs.order.Ordering.{none_of}
 use Rattle.lert_merge.proofs.order.AskLemmas.{AreLawful}
-use Rattle.lert_merge.proofs.order.StepLemmas.{reading_none, reading_more, breaks_on, gives_on, gives_started, told_started, ok_apart}
+use Rattle.lert_merge.proofs.order.StepLemmas.{reading_none, reading_more, breaks_on, gives_on, gives_started, told_started, whole_started, ok_apart}
 use Rattle.lert_merge.proofs.order.order.Order.read_first.Given as given
 use Rattle.lert_merge.proofs.order.order.Order.read_first.Goals as goal
 
@@ -15,6 +15,7 @@ laws g = record {
   keeps_told = g.met.S.Streams.keeps_told;
   keeps_untold = g.met.S.Streams.keeps_untold;
   keeps_breaks = g.met.S.Streams.keeps_breaks;
+  keeps_tells = g.met.S.Streams.keeps_tells;
   same_self = g.met.S.Streams.same_self;
   same_on = g.met.S.Streams.same_on;
 }
@@ -25,7 +26,8 @@ loop-self-init g c = reading_none g.S.Streams (laws g) g.C.Faulty.faults g.C.Fau
 pub loop-self-preserved : goal.loop-self-preserved
 loop-self-preserved g c = reading_more g.S.Streams (laws g) g.C.Faulty.faults g.C.Faulty.mark
     c.args.ctx.now c.loop-self.ctx c.read_one.new.ctx c.args.self.now c.loop-self.self c.read_one.new.self c.loop-self.invariant
-    c.read_one.ensures.gives c.read_one.ensures.last c.in_ok-read_one.ensures.told c.read_one.ensures.faults c.read_one.ensures.mark c.read_one.ensures.keeps
+    c.read_one.ensures.gives c.read_one.ensures.last c.in_ok-read_one.ensures.told c.in_ok-read_one.ensures.whole
+    c.read_one.ensures.faults c.read_one.ensures.mark c.read_one.ensures.keeps
 
 pub returns-in_err-read_one-clause-malformed : goal.returns-in_err-read_one-clause-malformed
 returns-in_err-read_one-clause-malformed g c at is =
@@ -47,6 +49,9 @@ returns-in_err-read_one-clause-last g c = c.read_one.ensures.last ∙ c.loop-sel
 
 pub returns-in_err-read_one-clause-told : goal.returns-in_err-read_one-clause-told
 returns-in_err-read_one-clause-told g c = rw (err_from_is_err_and c.from_residual.result c.from_residual.ensures.1).1 tt
+
+pub returns-in_err-read_one-clause-whole : goal.returns-in_err-read_one-clause-whole
+returns-in_err-read_one-clause-whole g c = rw (err_from_is_err_and c.from_residual.result c.from_residual.ensures.1).1 tt
 
 pub returns-in_err-read_one-clause-ready : goal.returns-in_err-read_one-clause-ready
 returns-in_err-read_one-clause-ready g c = rw (err_from_is_err_and c.from_residual.result c.from_residual.ensures.1).1 tt
@@ -73,6 +78,9 @@ returns-clause-last g c = c.start.ensures.started.last ∙ c.loop-self.invariant
 
 pub returns-clause-told : goal.returns-clause-told
 returns-clause-told g c = told_started g.S.Streams c.args.ctx.now c.loop-self.ctx c.args.self.now c.loop-self.self c.start.new.self c.loop-self.invariant.told c.start.ensures.started
+
+pub returns-clause-whole : goal.returns-clause-whole
+returns-clause-whole g c was = whole_started g.S.Streams c.loop-self.ctx c.loop-self.self c.start.new.self (c.loop-self.invariant.whole was) c.start.ensures.started
 
 pub returns-clause-ready : goal.returns-clause-ready
 returns-clause-ready g c = c.start.ensures.ready

@@ -1,9 +1,9 @@
-use Rattle.std.proofs.Common.{◌<◌, length, sym, subst, refl}
+use Rattle.std.proofs.Common.{◌<◌, Ok, length, sym, ap, subst, refl}
 use Rattle.std.proofs.lemmas.Result.{err_from_is_err_and}
 use Rattle.lert_merge.specs.order.Ordering.{Ordering}
 use Rattle.lert_merge.proofs.order.AskLemmas.{AreLawful, IsAsked, IsCalled, all_refused, breaks_at}
 use Rattle.lert_merge.proofs.order.OrderLemmas.{refused_stands}
-use Rattle.lert_merge.proofs.order.ReadLemmas.{read_stands, read_gives, read_told}
+use Rattle.lert_merge.proofs.order.ReadLemmas.{read_stands, read_gives, read_told, read_whole}
 use Rattle.lert_merge.proofs.order.order.Order.read_one.Given as given
 use Rattle.lert_merge.proofs.order.order.Order.read_one.Goals as goal
 
@@ -15,6 +15,7 @@ laws g = record {
   keeps_told = g.met.S.Streams.keeps_told;
   keeps_untold = g.met.S.Streams.keeps_untold;
   keeps_breaks = g.met.S.Streams.keeps_breaks;
+  keeps_tells = g.met.S.Streams.keeps_tells;
   same_self = g.met.S.Streams.same_self;
   same_on = g.met.S.Streams.same_on;
 }
@@ -44,6 +45,7 @@ asked : (g : given.Over) (c : goal.After-push g) → IsAsked g.S.Streams c.len-s
 asked g c = record {
   told = c.in_ok-first.ensures.told;
   untold = c.next.ensures.untold;
+  ended = λ tells none. c.in_ok-first.ensures.ended tells (ap Ok none);
   gave = c.in_ok-first.ensures.given;
   are = c.next.ensures.ascending;
   limits = c.next.ensures.limit;
@@ -65,4 +67,10 @@ returns-clause-gives g c = read_gives g.S.Streams (laws g) _ _ _ _ _ c.len-strea
 
 pub returns-clause-told : goal.returns-clause-told
 returns-clause-told g c = read_told g.S.Streams (laws g) _ _ _ _ _ c.len-stream.result c.in_ok-first.first c.self.view_is c.len-stream.ensures c.push.ensures.put
+    (called g c) (asked g c)
+
+pub returns-clause-whole : goal.returns-clause-whole
+returns-clause-whole g c = read_whole g.S.Streams (laws g) c.args.ctx.now c.next.new.ctx
+    (record { streams = c.self.inside.streams; ahead = c.self.inside.ahead; last = c.self.inside.last.value }) c.args.self.now
+    (record { streams = c.next.new.self; ahead = c.push.new.self; last = c.self.inside.last.value }) c.len-stream.result c.in_ok-first.first c.self.view_is c.len-stream.ensures c.push.ensures.put
     (called g c) (asked g c)

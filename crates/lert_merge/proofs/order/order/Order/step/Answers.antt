@@ -19,6 +19,7 @@ laws g = record {
   keeps_told = g.met.S.Streams.keeps_told;
   keeps_untold = g.met.S.Streams.keeps_untold;
   keeps_breaks = g.met.S.Streams.keeps_breaks;
+  keeps_tells = g.met.S.Streams.keeps_tells;
   same_self = g.met.S.Streams.same_self;
   same_on = g.met.S.Streams.same_on;
 }
@@ -81,6 +82,9 @@ returns-in_err-read_first-clause-taken g c = rw (err_from_is_err_and c.from_resi
 pub returns-in_err-read_first-clause-known : goal.returns-in_err-read_first-clause-known
 returns-in_err-read_first-clause-known g c = rw (err_from_is_err_and c.from_residual.result c.from_residual.ensures.1).1 tt
 
+pub returns-in_err-read_first-clause-whole : goal.returns-in_err-read_first-clause-whole
+returns-in_err-read_first-clause-whole g c = rw (err_from_is_err_and c.from_residual.result c.from_residual.ensures.1).1 tt
+
 pub returns-in_err-read_first-clause-told : goal.returns-in_err-read_first-clause-told
 returns-in_err-read_first-clause-told g c lists tells = rw (err_from_is_err_and c.from_residual.result c.from_residual.ensures.1).1 tt
 
@@ -132,6 +136,7 @@ before g c = elim c.if-not-is_begun.branch [
         gives = w.read_first.ensures.gives;
         last = w.read_first.ensures.last;
         told = w.in_ok-read_first.ensures.told;
+        whole = w.in_ok-read_first.ensures.whole;
         faults_rise = w.read_first.ensures.faults;
         same_mark = w.read_first.ensures.mark;
         kept = w.read_first.ensures.keeps;
@@ -183,6 +188,9 @@ returns-clause-known g c =
     let was = before g c in
     on_ok _ _ c.give.result c.give.ensures.known (λ then.
     known_on g.S.Streams c.args.ctx.now c.if-not-is_begun.ctx c.give.new.ctx c.args.self.now c.if-not-is_begun.self c.give.new.self was.gives.streams was.told.known then)
+
+pub returns-clause-whole : goal.returns-clause-whole
+returns-clause-whole g c = let reading = before g c in on_ok _ _ c.give.result c.give.ensures.whole (λ then was. then (reading.whole was))
 
 pub returns-clause-untold : goal.returns-clause-untold
 returns-clause-untold g c k under = let all = gives g c in (all.each k under).untold
