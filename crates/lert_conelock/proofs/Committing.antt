@@ -14,6 +14,7 @@ use Rattle.lert_conelock.specs.Rule.{Views, Has, Passes, Holds}
 use Rattle.lert_conelock.specs.Steps.{Mine}
 use Rattle.lert_conelock.proofs.Prefixes.{prefix_itself, prefix_append, prefix_trans}
 use Rattle.lert_conelock.proofs.Replaced.{Grows, has_here, stopped_back, refused_on, passes_after}
+use Rattle.lert_conelock.proofs.Moved.{moved_same}
 
 -- a packet of another number is none of this number's own
 own_other : (history : List Packet) (e : Packet) (n : ℕ) → (e.by ≡ n → ⊥) → own (history ++ e ∷ []) n ≡ own history n
@@ -109,6 +110,9 @@ module _ {H T R F : Type 0} (held : HeldOf H T R F) (first : H) (numbers : ℕ) 
             home = λ free. absurd (taken free);
             none_tries = λ free. absurd (taken free);
             one_tries = λ _. record { seat = id; pass = q; packet = e; there = has_here s.views id p q there; tries = tries };
+            moves = w.moves;
+            moved = moved_same numbers s.views w.moves w.moved id p q there refl refl refl refl (λ d t. t);
+            none_holds = λ free. absurd (taken free);
           },
         ),
         λ p' e' is' tries'.

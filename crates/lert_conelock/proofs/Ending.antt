@@ -1,7 +1,8 @@
 -- The rule at the start, and what it says at the end.
-use Rattle.std.proofs.Common.{◌≡◌, ℕ, zero, suc, ◌<◌, ◌≤◌, true, eqb, List, [], ◌∷◌, ◌⊎◌, map, get_or, Option, Some, None, sym, refl, ap, ◌∙◌, subst, inl, inr}
+use Rattle.std.proofs.Common.{◌≡◌, ℕ, zero, suc, ◌<◌, ◌≤◌, true, eqb, List, [], ◌∷◌, ◌⊎◌, map, get_or, set, Option, Some, None, sym, refl, ap, ◌∙◌, subst, inl, inr}
 use Rattle.std.proofs.Common.{⊎_elim, arith, append-nil, eq-eqb}
-use Rattle.std.specs.Prelude.{IsTrue, Contains}
+use Rattle.std.specs.Prelude.{IsTrue, Contains, sum_by}
+use Rattle.std.proofs.lemmas.List.Sums.{sum_by-cons}
 use Rattle.std.proofs.lemmas.Option.{none-some}
 use Rattle.std.proofs.lemmas.Bool.{false≢true}
 use mathlib.Core.Option.{some, some-ne-none}
@@ -10,14 +11,24 @@ use native.Mathlib.Decide.{ℕ_discrete}
 use lib.ListN.{get_elem?}
 use Rattle.atomic_table.specs.Table.{State, opening, Final, Seen}
 use Rattle.atomic_table.specs.Seated.{TableId}
+use Rattle.atomic_table.proofs.Lists.{at_set}
 use Rattle.lert_base.specs.declared.held.Held.{Ghosts as HeldOf}
 use Rattle.lert_base.specs.Packet.{Packet, own}
+use Rattle.lert_conelock.specs.Prefix.{IsPrefix}
+use Rattle.lert_conelock.specs.Moves.{own_moves}
 use Rattle.lert_conelock.specs.Shown.{Shown, whole}
-use Rattle.lert_conelock.specs.Rule.{Views, Has, IsStopped, IsRefused, IsPart, Passes, IsHome, HoldsWith, Holds}
+use Rattle.lert_conelock.specs.Rule.{Views, Has, met_of, IsStopped, IsRefused, IsPart, Passes, IsHome, HoldsWith, Holds}
 use Rattle.lert_conelock.specs.Sight.{LockSight, sight, Closed}
 use Rattle.lert_conelock.proofs.Prefixes.{prefix_nil}
 use Rattle.lert_conelock.proofs.Contained.{no_item, Contains-filter}
 use Rattle.lert_conelock.proofs.Replaced.{there_again}
+use Rattle.lert_conelock.proofs.Moved.{met_replaced}
+
+-- where no pass is live, none missed a take
+none_met : {H F : Type 0} (views : Views H F) → ((a : ℕ) (r : Shown H F) → Has views a r → ⊥) → sum_by met_of views ≡ 0
+none_met [] none = refl
+none_met (None ∷ views) none = omega (arith, sum_by-cons met_of None views, none_met views (λ a r at. none (suc a) r at))
+none_met (Some p ∷ views) none = absurd (none 0 p refl)
 
 -- a list of one view
 only_one : {H F : Type 0} (v : Shown H F) (seat : ℕ) (p : Shown H F) → Has (Some v ∷ []) seat p → (seat ≡ 0) × (v ≡ p)
@@ -84,6 +95,16 @@ module _ {H T R F : Type 0} (held : HeldOf H T R F) where
         home = λ _. (first, ap (λ (l : List (Option H)). get_elem? (map some l) 0) is, start_home);
         none_tries = λ _ seat p e there t. never seat p e there t;
         one_tries = λ one. absurd (omega arith);
+        moves = [];
+        moved = record {
+          orderly = tt;
+          no_others = λ n over. refl;
+          begins = λ seat p there. subst (λ (x : Shown H F). IsPrefix x.moves []) (only_one start seat p there).1 (prefix_nil []);
+          own = λ seat p there n lo hi. subst (λ (x : Shown H F). own_moves x.moves n ≡ []) (only_one start seat p there).1 refl;
+          counted = refl;
+          trying = λ seat p e there t. absurd (never seat p e there t);
+        };
+        none_holds = λ _. refl;
       },
     )
 
@@ -116,6 +137,14 @@ module _ {H T R F : Type 0} (held : HeldOf H T R F) where
         let inside = (w.passes.parts r.seat r.pass r.there).within in let below = r.high in
         (r.refusal, omega arith, subst (λ (x : Shown H F). Contains x.refused (e, r.refusal)) (sym same) r.shown)
 
+    -- without this pass there is none
+    no_other : (a : ℕ) (r : Shown H F) → Has (set s.views id None) a r → ⊥
+    no_other a r at = ⊎_elim (λ (t : (a ≡ id) × (None ≡ Some r)). none-some r t.1)
+        (λ (t : (a ≡ id → ⊥) × Has s.views a r). let b = w.passes in let part = b.parts a r t.1 in let not_empty = part.not_empty in
+        let inside = part.within in
+        ⊎_elim (λ (far : r.hi ≤ p.lo). omega arith) (λ (far : p.hi ≤ r.lo). omega arith) (b.apart a id r p t.1 there t.0))
+        (at_set s.views id a None (Some r) at)
+
     closed : (tid : TableId) (state : H) → IsHome held lock.first history s.views state
         → Closed held lock (sight tid (Some p)) state
     closed tid state h = let part = w.passes.parts id p there in record {
@@ -138,6 +167,13 @@ module _ {H T R F : Type 0} (held : HeldOf H T R F) where
           (λ (r : IsRefused s.views t.0). let got = refused_here t.0 r in no_item (t.0, got.0)
           (subst (λ (l : List (Packet × F)). Contains l (t.0, got.0)) no_refused got.2))
           t.1)) h.fresh_is;
+      moves = w.moves;
+      knows = w.moved.begins id p there;
+      orderly = w.moved.orderly;
+      no_others = w.moved.no_others;
+      freed = w.none_holds is_free;
+      met = (let all = w.moved.counted in let rest = met_replaced s.views id (Some p) None there in
+          let none = none_met (set s.views id None) no_other in omega (arith, all, rest, none));
     }
 
   -- where a pass of all numbers is idle, the state is home

@@ -1,5 +1,5 @@
 -- The pass that has the lock brings the state home and frees the lock, and the rule goes on.
-use Rattle.std.proofs.Common.{◌≡◌, ℕ, List, [], ◌⊎◌, get_or, set, Some, sym, refl, ap, ◌∙◌, subst, inl, inr, ⊎_elim, arith, length-set, get_or-set_same, get_or-set_other}
+use Rattle.std.proofs.Common.{◌≡◌, ◌≢◌, ℕ, ◌+◌, List, [], ◌∷◌, ◌++◌, ◌⊎◌, get_or, set, Some, None, sym, refl, ap, ◌∙◌, subst, inl, inr, ⊎_elim, arith, length-set, get_or-set_same, get_or-set_other}
 use Rattle.std.specs.Prelude.{Contains}
 use Rattle.std.proofs.lemmas.Option.{same_Some, none-some}
 use mathlib.Core.Option.{some}
@@ -8,18 +8,24 @@ use Rattle.atomic_table.proofs.Lists.{set_here}
 use Rattle.lert_base.specs.declared.held.Held.{Ghosts as HeldOf}
 use Rattle.lert_base.specs.Packet.{Packet}
 use Rattle.lert_conelock.specs.After.{StandsAfter}
+use Rattle.lert_conelock.specs.Moves.{Move, Free, Moves}
 use Rattle.lert_conelock.specs.Shown.{Shown, freed}
 use Rattle.lert_conelock.specs.Rule.{Views, Has, Passes, IsHome, Holds}
 use Rattle.lert_conelock.specs.Steps.{Mine, InHand, HasLock}
 use Rattle.lert_conelock.proofs.Contained.{no_item}
 use Rattle.lert_conelock.proofs.Prefixes.{prefix_itself}
 use Rattle.lert_conelock.proofs.Replaced.{Grows, has_after, stopped_back, refused_on, passes_after}
+use Rattle.lert_conelock.proofs.Moving.{held_more}
+use Rattle.lert_conelock.proofs.Moved.{moved_knows, moved_more}
+
+add_zero : (n : ℕ) → n + 0 ≡ n
+add_zero n = omega arith
 
 module _ {H T R F : Type 0} (held : HeldOf H T R F) (first : H) (numbers : ℕ) where
   module _ (history : List Packet) (views : Views H F) (b : Passes held first numbers history views)
-      (id : ℕ) (p : Shown H F) (there : Has views id p) (e : Packet) (tries : p.tries ≡ Some e) (more : ℕ) where
+      (id : ℕ) (p : Shown H F) (there : Has views id p) (e : Packet) (tries : p.tries ≡ Some e) (more : ℕ) (known : List Move) where
     abbrev q : Shown H F
-    q = freed more p
+    q = freed more known p
 
     grows : Grows p q
     grows = record { lo_is = refl; hi_is = refl; refused = λ d g c. c; stops = λ s. s }
@@ -67,14 +73,20 @@ module _ {H T R F : Type 0} (held : HeldOf H T R F) (first : H) (numbers : ℕ) 
 
   pub frees : (slots id : ℕ) (me : Mine H F) (state : H) (more : ℕ) → slots ≡ 1 → HasLock held state (Some state) me
       → Allows (Holds held first numbers) slots id me 0 (λ _. 0)
-      (λ found after. (p' : Shown H F) → me.0 ≡ Some p' → after ≡ (Some (freed more p'), rest me.1))
+      (λ found after. (p' : Shown H F) → me.0 ≡ Some p' → (moves : List Move) × Moves p'.lo p'.moves (Free p'.lo ∷ []) moves
+      × (after ≡ (Some (freed more moves p'), rest me.1)))
   frees slots id me state more slot lock = let p = lock.pass in let e = lock.packet in let tries = lock.tries in
       let hand = lock.hand in subst
       (λ (m : Mine H F). Allows (Holds held first numbers) slots id m 0 (λ _. 0)
-      (λ found after. (p' : Shown H F) → m.0 ≡ Some p' → after ≡ (Some (freed more p'), rest m.1))) (sym lock.me_is)
+      (λ found after. (p' : Shown H F) → m.0 ≡ Some p' → (moves : List Move) × Moves p'.lo p'.moves (Free p'.lo ∷ []) moves
+      × (after ≡ (Some (freed more moves p'), rest m.1)))) (sym lock.me_is)
       (λ s holds one at _.
       let there : Has s.views id p = at in let history = holds.0 in let w = holds.1 in let b = w.passes in
-      let q : Shown H F = freed more p in (
+      let moves : List Move = w.moves ++ Free p.lo ∷ [] in
+      let q : Shown H F = freed more moves p in
+      let mine = w.moved.trying id p e there tries in
+      let apart = λ (a : ℕ) (r : Shown H F) (ne : a ≢ id) (seen : Has s.views a r). b.apart id a p r there seen (λ same. ne (sym same)) in
+      let not_empty = (b.parts id p there).not_empty in let within = (b.parts id p there).within in (
         Some q,
         gives,
         tt,
@@ -87,12 +99,12 @@ module _ {H T R F : Type 0} (held : HeldOf H T R F) (first : H) (numbers : ℕ) 
             count_word = get_or-set_other s.words 0 1 0 0 (omega arith) ∙ w.count_word;
             opened = w.opened;
             numbered = w.numbered;
-            passes = passes_freed history s.views b id p there e tries more;
+            passes = passes_freed history s.views b id p there e tries more moves;
             home = λ _. (
               state,
               set_here s.homes 0 (some (Some state))
                   (omega arith),
-              home_freed history s.views b id p there e tries more state hand,
+              home_freed history s.views b id p there e tries more moves state hand,
             );
             none_tries = λ _ a r d at t. ⊎_elim
                 (λ (u : (a ≡ id) × (q ≡ r)). none-some d (subst (λ (x : Shown H F). x.tries ≡ Some d) (sym u.1) t))
@@ -100,7 +112,17 @@ module _ {H T R F : Type 0} (held : HeldOf H T R F) (first : H) (numbers : ℕ) 
                 (has_after s.views id p q there a r at);
             one_tries = λ one. absurd (let two = w.two_words in
                 let z : get_or (set s.words 0 0) 0 0 ≡ 0 = get_or-set_same s.words 0 0 0 (omega arith) in omega arith);
+            moves = moves;
+            moved = moved_more numbers s.views w.moves w.moved id p q there (Free p.lo) refl not_empty within apart mine refl refl refl (sym (add_zero p.met))
+                (λ a r d ne at t. absurd (ne (b.alone a id r p d e at there t tries)))
+                (λ d t. absurd (none-some d t));
+            none_holds = λ _. held_more None w.moves (Free p.lo);
           },
         ),
-        λ p' is'. let pp : p ≡ p' = same_Some p p' is' in λ i. (Some (freed more (pp i)), []),
+        λ p' is'. subst (λ (x : Shown H F). (l : List Move) × Moves x.lo x.moves (Free x.lo ∷ []) l
+            × ◌≡◌ {A = Mine H F} (Some q, []) (Some (freed more l x), [])) (same_Some p p' is') (
+              moves,
+              moved_knows numbers s.views w.moves w.moved id p q there (Free p.lo) refl not_empty within apart mine,
+              refl,
+            ),
       ))

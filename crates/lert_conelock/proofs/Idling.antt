@@ -1,23 +1,24 @@
 -- A pass without the lock sees more of the history, or counts a lost take, and the rule goes on.
-use Rattle.std.proofs.Common.{◌≡◌, ℕ, List, set, Option, Some, None, sym, refl, ◌∙◌, subst, inl, ⊎_elim}
+use Rattle.std.proofs.Common.{◌≡◌, ℕ, List, get_or, set, Option, Some, None, sym, refl, ◌∙◌, subst, inl, ⊎_elim}
 use Rattle.std.specs.Prelude.{IsTrue}
 use Rattle.std.proofs.lemmas.Option.{none-some}
 use Rattle.atomic_table.specs.Table.{State}
 use Rattle.lert_base.specs.declared.held.Held.{Ghosts as HeldOf}
 use Rattle.lert_base.specs.Packet.{Packet}
 use Rattle.lert_conelock.specs.Prefix.{IsPrefix}
+use Rattle.lert_conelock.specs.Moves.{Move, held_after}
 use Rattle.lert_conelock.specs.Shown.{Shown}
-use Rattle.lert_conelock.specs.Rule.{Views, Has, IsStopped, Passes, IsHome, HoldsWith}
+use Rattle.lert_conelock.specs.Rule.{Views, Has, IsStopped, Moved, Passes, IsHome, HoldsWith}
 use Rattle.lert_conelock.proofs.Prefixes.{prefix_itself}
 use Rattle.lert_conelock.proofs.Homes.{home_after}
 use Rattle.lert_conelock.proofs.Replaced.{Grows, has_after, forward, stopped_back, refused_on, passes_after}
 
 module _ {H T R F : Type 0} (held : HeldOf H T R F) (first : H) (numbers : ℕ) where
   module _ (s : State (Option H) (Option (Shown H F))) (history : List Packet) (w : HoldsWith held first numbers s history)
-      (id : ℕ) (p : Shown H F) (there : Has s.views id p) (idle : p.tries ≡ None) (seen : List Packet) (met : ℕ)
+      (id : ℕ) (p : Shown H F) (there : Has s.views id p) (idle : p.tries ≡ None) (seen : List Packet) (met : ℕ) (known : List Move)
       (known_part : IsPrefix seen history) where
     abbrev q : Shown H F
-    q = record p { seen = seen; met = met }
+    q = record p { seen = seen; met = met; moves = known }
 
     abbrev after : Views H F
     after = set s.views id (Some q)
@@ -53,8 +54,9 @@ module _ {H T R F : Type 0} (held : HeldOf H T R F) (first : H) (numbers : ℕ) 
     home_idle : (state : H) → IsHome held first history s.views state → IsHome held first history after state
     home_idle = home_after held first history s.views after stop_was (refused_on s.views id p q there grows)
 
-    pub idles : HoldsWith held first numbers (record { words = s.words; homes = s.homes; views = after }) history
-    idles = record {
+    pub idles : (moves : List Move) → Moved numbers after moves → (get_or s.words 0 0 ≡ 0 → held_after None moves ≡ None)
+        → HoldsWith held first numbers (record { words = s.words; homes = s.homes; views = after }) history
+    idles moves moved none_holds = record {
       two_words = w.two_words;
       lock_word = w.lock_word;
       count_word = w.count_word;
@@ -71,4 +73,7 @@ module _ {H T R F : Type 0} (held : HeldOf H T R F) (first : H) (numbers : ℕ) 
           (subst (λ (x : Shown H F). x.tries ≡ Some t.packet) (sym u.1) t.tries)))
           (λ u. record { seat = t.seat; pass = t.pass; packet = t.packet; there = u.1; tries = t.tries })
           (forward s.views id p q there t.seat t.pass t.there);
+      moves = moves;
+      moved = moved;
+      none_holds = none_holds;
     }

@@ -1,5 +1,5 @@
 -- A pass takes in the pass that begins where it ends, and the rule goes on.
-use Rattle.std.proofs.Common.{◌≡◌, ℕ, ◌<◌, ◌≤◌, ltb, List, ◌⊎◌, length, set, Option, Some, None, sym, ap, ◌∙◌, subst, inl, inr, ⊎_elim, arith}
+use Rattle.std.proofs.Common.{◌≡◌, ℕ, ◌<◌, ◌≤◌, ltb, List, ◌⊎◌, length, set, Option, Some, None, sym, ap, ◌∙◌, subst, inl, inr, ⊎_elim, arith, ltb-true, ltb-false}
 use Rattle.std.specs.Prelude.{IsTrue, Contains}
 use Rattle.std.proofs.lemmas.Option.{same_Some, none-some}
 use Rattle.std.proofs.lemmas.Bool.{cases_lt, cond_both, or_cases, or_left, or_right}
@@ -11,9 +11,13 @@ use Rattle.lert_base.specs.declared.held.Held.{Ghosts as HeldOf}
 use Rattle.lert_base.specs.Packet.{Packet}
 use Rattle.lert_conelock.specs.Prefix.{IsPrefix}
 use Rattle.lert_conelock.specs.Steps.{Mine, IsIdle}
+use Rattle.lert_conelock.specs.Moves.{Move, own_moves}
 use Rattle.lert_conelock.specs.Shown.{Shown, joined, both_of}
-use Rattle.lert_conelock.specs.Rule.{Views, Has, IsStopped, IsRefused, IsCovered, IsTried, IsPart, IsCaused, Passes, Holds}
+use Rattle.lert_conelock.specs.Rule.{Views, Has, IsStopped, IsRefused, IsCovered, IsTried, IsPart, IsCaused, Passes, Moved, Holds}
 use Rattle.lert_conelock.proofs.Replaced.{at_within, there_again}
+use Rattle.lert_conelock.proofs.Prefixes.{comparable}
+use Rattle.lert_conelock.proofs.Moving.{own_between}
+use Rattle.lert_conelock.proofs.Moved.{met_replaced}
 use Rattle.lert_conelock.proofs.Homes.{home_after}
 use Rattle.lert_conelock.proofs.Cuts.{joined_below, joined_above, Contains-low, Contains-high, Contains-both_sides}
 
@@ -217,6 +221,45 @@ module _ {H F : Type 0} (views : Views H F) (id : ℕ) (p : Shown H F) (mine : H
       trying = λ a r e there t. let h = b.trying a r e (trier a r e (kind a r there) t) t in (h.0, λ x. h.1 (stopped_back x));
     }
 
+    -- the longer list of moves has all own ones of both
+    one_moves : (moves : List Move) → Moved numbers views moves → IsPrefix (joined p q).moves moves
+        × ((n : ℕ) → p.lo ≤ n → n < q.hi → own_moves (joined p q).moves n ≡ own_moves moves n)
+    one_moves moves m = let mine' = m.begins id p mine in let theirs' = m.begins other q theirs in
+        let b = ltb (length p.moves) (length q.moves) in (
+          cond_both b q.moves p.moves (λ (l : List Move). IsPrefix l moves) (λ _. theirs') (λ _. mine'),
+          λ n lo hi. ⊎_elim
+              (λ (under : n < q.lo). let own = m.own id p mine n lo (omega (arith, under, meets)) in
+              cond_both b q.moves p.moves (λ (l : List Move). own_moves l n ≡ own_moves moves n)
+              (λ shorter. own_between p.moves q.moves moves n (comparable p.moves q.moves moves mine' theirs'
+              (omega (arith, ltb-true (length p.moves) (length q.moves) shorter))) theirs' own)
+              (λ _. own))
+              (λ (over : q.lo ≤ n). let own = m.own other q theirs n over hi in
+              cond_both b q.moves p.moves (λ (l : List Move). own_moves l n ≡ own_moves moves n)
+              (λ _. own)
+              (λ no_shorter. own_between q.moves p.moves moves n (comparable q.moves p.moves moves theirs' mine'
+              (ltb-false (length p.moves) (length q.moves) no_shorter)) mine' own))
+              (cases_lt n q.lo),
+        )
+
+    moves_of : (moves : List Move) → Moved numbers views moves → (a : ℕ) (r : Shown H F) → Kind a r → IsPrefix r.moves moves
+        × ((n : ℕ) → r.lo ≤ n → n < r.hi → own_moves r.moves n ≡ own_moves moves n)
+    moves_of moves m a r (one same is) = subst (λ (x : Shown H F). IsPrefix x.moves moves
+        × ((n : ℕ) → x.lo ≤ n → n < x.hi → own_moves x.moves n ≡ own_moves moves n)) is (one_moves moves m)
+    moves_of moves m a r (else_ far far' e) = (m.begins a r e, m.own a r e)
+
+    moved_joined : (moves : List Move) → Moved numbers views moves → Moved numbers after moves
+    moved_joined moves m = record {
+      orderly = m.orderly;
+      no_others = m.no_others;
+      begins = λ a r e. (moves_of moves m a r (kind a r e)).0;
+      own = λ a r e. (moves_of moves m a r (kind a r e)).1;
+      counted = (let all = m.counted in let one_met = met_replaced views id (Some p) (Some (joined p q)) mine in
+          let spent = met_replaced (set views id (Some (joined p q))) other (Some q) None
+          (set_else views id other (Some (joined p q)) ne ∙ theirs) in
+          omega (arith, all, one_met, spent));
+      trying = λ a r e there t. m.trying a r e (trier a r e (kind a r there) t) t;
+    }
+
     tried_into : (t : IsTried views) → Was t.seat t.pass → IsTried after
     tried_into t (low same is) = absurd (never t.packet (subst (λ (x : Shown H F). x.tries ≡ Some t.packet) (sym is) t.tries))
     tried_into t (high same is) = absurd (none-some t.packet (sym idle'
@@ -248,6 +291,9 @@ module _ {H T R F : Type 0} (held : HeldOf H T R F) (first : H) (numbers : ℕ) 
               (kind s.views id p mine other q theirs ne a r at) t) t;
           one_tries = λ locked. let t = w.one_tries locked in tried_into s.views id p mine other q theirs ne held first numbers history w.passes idle idle' meets t
               (was s.views id p mine other q theirs ne t.seat t.pass t.there);
+          moves = w.moves;
+          moved = moved_joined s.views id p mine other q theirs ne held first numbers history w.passes idle idle' meets w.moves w.moved;
+          none_holds = w.none_holds;
         },
       )
 

@@ -1,5 +1,7 @@
 pub mod Prefixes
+pub mod Moving
 pub mod Replaced
+pub mod Moved
 pub mod Words
 pub mod Contained
 pub mod Gathered

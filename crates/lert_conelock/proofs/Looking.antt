@@ -12,6 +12,7 @@ use Rattle.lert_conelock.specs.Steps.{Mine, Looked}
 use Rattle.lert_conelock.proofs.Prefixes.{prefix_itself, comparable}
 use Rattle.lert_conelock.proofs.Words.{set_found}
 use Rattle.lert_conelock.proofs.Idling.{idles}
+use Rattle.lert_conelock.proofs.Moved.{moved_same}
 
 module _ {H T R F : Type 0} (held : HeldOf H T R F) (first : H) (numbers : ℕ) where
   pub looking : (slots id : ℕ) (me : Mine H F) (p : Shown H F) → me.0 ≡ Some p → p.tries ≡ None
@@ -19,7 +20,8 @@ module _ {H T R F : Type 0} (held : HeldOf H T R F) (first : H) (numbers : ℕ) 
       (λ found after. (p' : Shown H F) → me.0 ≡ Some p' → (q : Shown H F) × (after ≡ (Some q, me.1)) × Looked found p' q)
   looking slots id me p is idle s holds _ at _ =
       let there : Has s.views id p = at ∙ ap some is in let history = holds.0 in let w = holds.1 in
-      let q : Shown H F = record p { seen = history } in (
+      let q : Shown H F = record p { seen = history } in
+      let moved = moved_same numbers s.views w.moves w.moved id p q there refl refl refl refl (λ e t. t) in (
         Some q,
         keeps,
         tt,
@@ -28,7 +30,7 @@ module _ {H T R F : Type 0} (held : HeldOf H T R F) (first : H) (numbers : ℕ) 
           subst (λ (ws : List ℕ). HoldsWith held first numbers
               (record { words = ws; homes = s.homes; views = set s.views id (Some q) }) history)
               (sym (set_found s.words 1 0))
-              (idles held first numbers s history w id p there idle history p.met (prefix_itself history)),
+              (idles held first numbers s history w id p there idle history p.met p.moves (prefix_itself history) w.moves moved w.none_holds),
         ),
         λ p' is'. let same : p ≡ p' = same_Some p p' (sym is ∙ is') in
             subst (λ (x : Shown H F). (r : Shown H F) × ◌≡◌ {A = Mine H F} (Some q, me.1) (Some r, me.1)

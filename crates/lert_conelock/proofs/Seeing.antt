@@ -1,9 +1,11 @@
 -- From what a pass shows to what callers see.
-use Rattle.std.proofs.Common.{◌≡◌, ℕ, ◌+◌, ◌-◌, ◌≤◌, Bool, true, false, List, [], ◌∷◌, length, Option, Some, None, sym, refl, ap, ◌∙◌, subst, inl, inr, ⊎_elim}
+use Rattle.std.proofs.Common.{◌≡◌, ℕ, ◌+◌, ◌≤◌, Bool, true, false, List, [], ◌∷◌, ◌++◌, replicate, length, Option, Some, None, sym, refl, ap, ◌∙◌, subst, inl, inr, ⊎_elim}
 use Rattle.std.proofs.Common.{arith, le_refl, cond, ltb, ltb-true, ltb-false}
 use Rattle.std.specs.Prelude.{IsTrue, is_none, Result, Ok, Err, IfOk, IfErr}
 use Rattle.std.proofs.lemmas.Option.{same_Some}
 use Rattle.std.proofs.lemmas.Bool.{false≢true}
+use Rattle.std.proofs.lemmas.List.Folds.{sum_by-replicate}
+use Rattle.std.proofs.lemmas.List.Sums.{sum_by-append}
 use mathlib.Core.Option.{some, some-injective}
 use lib.ListN.{get_elem?}
 use Rattle.atomic_table.specs.Table.{Final, Seen}
@@ -14,13 +16,15 @@ use Rattle.lert_conelock.specs.declared.turn.Turn.{Turn}
 use Rattle.lert_conelock.specs.declared.turn.Turn.TheVariants.{Done, Refused, Busy}
 use Rattle.lert_conelock.specs.Prefix.{IsPrefix}
 use Rattle.lert_conelock.specs.After.{AnswersAfter, RefusesAfter}
+use Rattle.lert_conelock.specs.Moves.{Move, Take, Free, Miss, Moves, is_missed, misses, own_moves, waits_and_takes}
 use Rattle.lert_conelock.specs.Shown.{Shown, missed, joined}
-use Rattle.lert_conelock.specs.Steps.{Mine, IsIdle, MayTake}
-use Rattle.lert_conelock.specs.Turns.{WasTaken, WasRefused}
-use Rattle.lert_conelock.specs.Sight.{Sight, LockSight, sight, is_idle, BelongsTo, Keeps, Joined, Acted, Declined, Closed}
-use Rattle.lert_conelock.specs.Lost.{lost}
+use Rattle.lert_conelock.specs.Steps.{Mine, IsIdle, MayTake, Missed}
+use Rattle.lert_conelock.specs.Turns.{Waited, WasTaken, WasRefused}
+use Rattle.lert_conelock.specs.Sight.{Sight, LockSight, sight, is_idle, BelongsTo, Counts, Keeps, Loses, Joined, Acted, Declined, Closed}
+use Rattle.lert_conelock.specs.Lost.{lost, moves_of}
 use Rattle.lert_conelock.specs.Rule.{Holds}
 use Rattle.lert_conelock.proofs.Prefixes.{prefix_itself, prefix_append, prefix_trans}
+use Rattle.lert_conelock.proofs.Moving.{moves_on}
 use Rattle.lert_conelock.proofs.Cuts.{joined_below, joined_above}
 use Rattle.lert_conelock.proofs.Ending.{closes}
 
@@ -30,6 +34,14 @@ none_of (Some a) e = absurd (false≢true e)
 
 none_is : {A : Type 0} (o : Option A) → o ≡ None → is_none o ≡ true
 none_is o e = ap is_none e
+
+-- how many takes a call that waited so often missed
+missed_so : (number hi lost : ℕ) → misses (waits_and_takes number hi lost) ≡ lost
+missed_so number hi lost = omega (
+  arith,
+  sum_by-append is_missed (replicate lost (Miss number hi)) (Take number ∷ Free number ∷ []),
+  sum_by-replicate is_missed lost (Miss number hi),
+)
 
 idle_part : {H F : Type 0} (v : Option (Shown H F)) → is_idle v ≡ true → (p : Shown H F) × (v ≡ Some p) × (p.tries ≡ None)
 idle_part None e = absurd (false≢true e)
@@ -63,28 +75,44 @@ module _ {H F : Type 0} where
       let new : sight tid (Some q) ≡ sight tid' me'.0 = λ i. sight (sym same i) (sym is i).0 in
       subst (λ (x : Sight H F). P old x) new (subst (λ (x : Sight H F). P x (sight tid (Some q))) view fact)
 
+  -- what a call counts, by the moves that it made
+  counts_of : (tid : TableId) (p q : Shown H F) (added : List Move) (n : ℕ) → q.lo ≡ p.lo → Moves p.lo p.moves added q.moves → q.met ≡ p.met + n
+      → misses added ≡ n → Counts (sight tid (Some p)) (sight tid (Some q))
+  counts_of tid p q added n lo_is moved met is = record {
+    lo_is = lo_is;
+    begins = moved.begins;
+    orderly = λ _. moved.orderly;
+    met = omega (arith, met, is, ap misses moved.own, sum_by-append is_missed (own_moves p.moves p.lo) added);
+  }
+
   -- a pass after a try that lost one take, and after which nothing else is changed
   pub lost_once : (tid tid' : TableId) (me me' : Mine H F) (old : Sight H F) → sight tid me.0 ≡ old → tid' ≡ tid → (p : Shown H F) → me.0 ≡ Some p
-      → me' ≡ (Some (missed p), []) → sight tid' me'.0 ≡ record old { met = old.met + 1 }
-  lost_once tid tid' me me' old view same p is now =
-      seen_both (λ (x y : Sight H F). y ≡ record x { met = x.met + 1 }) tid tid' me' old p (missed p) (view_of tid me old view p is) same now refl
+      → Missed p me' → Loses old (sight tid' me'.0)
+  lost_once tid tid' me me' old view same p is lost =
+      seen_both Loses tid tid' me' old p (missed (lost.before ++ Miss p.lo p.hi ∷ []) p) (view_of tid me old view p is) same lost.after_is
+      (record { before = lost.before; begins = lost.begins; another = lost.another; shows = refl })
 
-  -- a pass after a try that lost so many takes
-  pub record Turned (tid : TableId) (p : Shown H F) (me : Mine H F) (n : ℕ) : Type 0 where
+  -- a pass after a call that lost so many takes, and made these moves
+  pub record Turned (tid : TableId) (p : Shown H F) (me : Mine H F) (n : ℕ) (added : List Move) : Type 0 where
     pub pass : Shown H F
     pub me_is : me ≡ (Some pass, [])
     pub idle : pass.tries ≡ None
     pub keeps : Keeps (sight tid (Some p)) (sight tid (Some pass))
     pub met : pass.met ≡ p.met + n
+    pub moved : Moves p.lo p.moves added pass.moves
 
   module _ (tid tid' : TableId) (me me' : Mine H F) (old : Sight H F) (view : sight tid me.0 ≡ old)
-      (same : tid' ≡ tid) (p : Shown H F) (is : me.0 ≡ Some p) (n : ℕ) (t : Turned tid p me' n) where
+      (same : tid' ≡ tid) (p : Shown H F) (is : me.0 ≡ Some p) (n : ℕ) (added : List Move) (t : Turned tid p me' n added) where
     pub turned_keeps : Keeps old (sight tid' me'.0)
     turned_keeps = seen_both Keeps tid tid' me' old p t.pass (view_of tid me old view p is) same t.me_is t.keeps
 
     pub turned_met : (sight tid' me'.0).met ≡ old.met + n
     turned_met = seen_both (λ (x y : Sight H F). y.met ≡ x.met + n) tid tid' me' old p t.pass
         (view_of tid me old view p is) same t.me_is t.met
+
+    pub turned_moved : Moves p.lo old.moves added (sight tid' me'.0).moves
+    turned_moved = seen_both (λ (x y : Sight H F). Moves p.lo x.moves added y.moves) tid tid' me' old p t.pass
+        (view_of tid me old view p is) same t.me_is t.moved
 
     pub turned_inside : (lo : ℕ) → (sight tid me.0).lo ≡ lo → (is_idle me'.0 ≡ true) × (me'.1 ≡ []) × ((sight tid' me'.0).lo ≡ lo)
     turned_inside lo was = (
@@ -93,10 +121,18 @@ module _ {H F : Type 0} where
       turned_keeps.lo_is ∙ (ap (λ (x : Sight H F). x.lo) (sym view) ∙ was),
     )
 
+  -- the moves of a call, under the numbers that callers see of its pass
+  pub seen_moves : (tid : TableId) (me : Mine H F) (old : Sight H F) → sight tid me.0 ≡ old → (p : Shown H F) → me.0 ≡ Some p
+      → (added : ℕ → ℕ → List Move) (new : List Move) → Moves p.lo old.moves (added p.lo p.hi) new → Moves old.lo old.moves (added old.lo old.hi) new
+  seen_moves tid me old view p is added new moved = let seen = view_of tid me old view p is in
+      subst (λ (x : Sight H F). Moves x.lo old.moves (added x.lo x.hi) new) seen moved
+
   module _ {T R : Type 0} (held : HeldOf H T R F) (e : Packet) (more : ℕ) where
-    keeps_taken : (tid : TableId) (reply : R) (p q : Shown H F) (m : ℕ)
-        → WasTaken held e reply more (record p { met = m }) q → Keeps (sight tid (Some p)) (sight tid (Some q))
-    keeps_taken tid reply p q m w = record {
+    keeps_taken : (tid : TableId) (reply : R) (p q : Shown H F) (m : ℕ) (known : List Move)
+        → WasTaken held e reply more (record p { met = m; moves = known }) q
+        → Counts (sight tid (Some p)) (sight tid (Some q)) → Keeps (sight tid (Some p)) (sight tid (Some q))
+    keeps_taken tid reply p q m known w counts = record {
+      counts = counts;
       lock_is = refl;
       first_is = ap (λ (x : Shown H F). Some x.first) w.shows;
       lo_is = ap (λ (x : Shown H F). x.lo) w.shows;
@@ -106,9 +142,11 @@ module _ {H F : Type 0} where
       stops = λ s. subst IsTrue (ap (λ (x : Shown H F). x.stopped) (sym w.shows)) (w.stops s);
     }
 
-    keeps_refused : (tid : TableId) (f : F) (p q : Shown H F) (m : ℕ)
-        → WasRefused held e f more (record p { met = m }) q → Keeps (sight tid (Some p)) (sight tid (Some q))
-    keeps_refused tid f p q m w = record {
+    keeps_refused : (tid : TableId) (f : F) (p q : Shown H F) (m : ℕ) (known : List Move)
+        → WasRefused held e f more (record p { met = m; moves = known }) q
+        → Counts (sight tid (Some p)) (sight tid (Some q)) → Keeps (sight tid (Some p)) (sight tid (Some q))
+    keeps_refused tid f p q m known w counts = record {
+      counts = counts;
       lock_is = refl;
       first_is = ap (λ (x : Shown H F). Some x.first) w.shows;
       lo_is = ap (λ (x : Shown H F). x.lo) w.shows;
@@ -117,10 +155,10 @@ module _ {H F : Type 0} where
       stops = λ s. subst IsTrue (ap (λ (x : Shown H F). x.stopped) (sym w.shows)) (w.stops s);
     }
 
-    acted_of : (tid : TableId) (first : H) (reply : R) (p q : Shown H F) (m : ℕ) → p.met ≤ m → p.first ≡ first
-        → WasTaken held e reply more (record p { met = m }) q
+    acted_of : (tid : TableId) (first : H) (reply : R) (p q : Shown H F) (m : ℕ) (known : List Move) → p.met ≤ m → p.first ≡ first
+        → WasTaken held e reply more (record p { met = m; moves = known }) q
         → Acted held first e reply more (sight tid (Some p)) (sight tid (Some q))
-    acted_of tid first reply p q m least same w = record {
+    acted_of tid first reply p q m known least same w = record {
       past = w.past;
       begins = w.begins;
       answer = subst (λ (x : H). AnswersAfter held x w.past e reply) same w.answer;
@@ -133,16 +171,17 @@ module _ {H F : Type 0} where
         calls = (w.shows i).calls;
         refused = (w.shows i).refused;
         seen = (w.shows i).seen;
+        moves = q.moves;
         met = q.met;
         waits = (w.shows i).waits;
         stopped = q.stopped;
       };
     }
 
-    declined_of : (tid : TableId) (first : H) (f : F) (p q : Shown H F) (m : ℕ) → p.met ≤ m → p.first ≡ first
-        → WasRefused held e f more (record p { met = m }) q
+    declined_of : (tid : TableId) (first : H) (f : F) (p q : Shown H F) (m : ℕ) (known : List Move) → p.met ≤ m → p.first ≡ first
+        → WasRefused held e f more (record p { met = m; moves = known }) q
         → Declined held first e f more (sight tid (Some p)) (sight tid (Some q))
-    declined_of tid first f p q m least same w = record {
+    declined_of tid first f p q m known least same w = record {
       past = w.past;
       begins = w.begins;
       cause = ⊎_elim (λ stop. inl (subst IsTrue (ap (λ (x : Shown H F). x.stopped) (sym w.shows)) stop))
@@ -156,6 +195,7 @@ module _ {H F : Type 0} where
         calls = (w.shows i).calls;
         refused = (w.shows i).refused;
         seen = (w.shows i).seen;
+        moves = q.moves;
         met = q.met;
         waits = (w.shows i).waits;
         stopped = q.stopped;
@@ -164,38 +204,39 @@ module _ {H F : Type 0} where
 
     module _ (tid tid' : TableId) (me me' : Mine H F) (old : Sight H F) (view : sight tid me.0 ≡ old)
         (same : tid' ≡ tid) (p : Shown H F) (is : me.0 ≡ Some p) (first : H) (first_is : p.first ≡ first) where
-      pub acted : (reply : R) → (q : Shown H F) × (m : ℕ) × (p.met ≤ m) × (me' ≡ (Some q, []))
-          × WasTaken held e reply more (record p { met = m }) q
+      acted : (reply : R) (m : ℕ) (known : List Move) → p.met ≤ m → (q : Shown H F) → me' ≡ (Some q, [])
+          → WasTaken held e reply more (record p { met = m; moves = known }) q
           → Acted held first e reply more old (sight tid' me'.0)
-      acted reply t = seen_both (Acted held first e reply more) tid tid' me' old p t.0
-          (view_of tid me old view p is) same t.3 (acted_of tid first reply p t.0 t.1 t.2 first_is t.4)
+      acted reply m known least q now w = seen_both (Acted held first e reply more) tid tid' me' old p q
+          (view_of tid me old view p is) same now (acted_of tid first reply p q m known least first_is w)
 
-      pub declined : (f : F) → (q : Shown H F) × (m : ℕ) × (p.met ≤ m) × (me' ≡ (Some q, []))
-          × WasRefused held e f more (record p { met = m }) q
+      declined : (f : F) (m : ℕ) (known : List Move) → p.met ≤ m → (q : Shown H F) → me' ≡ (Some q, [])
+          → WasRefused held e f more (record p { met = m; moves = known }) q
           → Declined held first e f more old (sight tid' me'.0)
-      declined f t = seen_both (Declined held first e f more) tid tid' me' old p t.0
-          (view_of tid me old view p is) same t.3 (declined_of tid first f p t.0 t.1 t.2 first_is t.4)
+      declined f m known least q now w = seen_both (Declined held first e f more) tid tid' me' old p q
+          (view_of tid me old view p is) same now (declined_of tid first f p q m known least first_is w)
 
       pub acted_once : (reply : R) → (q : Shown H F) × (me' ≡ (Some q, [])) × WasTaken held e reply more p q
           → Acted held first e reply more old (sight tid' me'.0)
-      acted_once reply t = acted reply (t.0, p.met, le_refl p.met, t.1, t.2)
+      acted_once reply t = acted reply p.met p.moves (le_refl p.met) t.0 t.1 t.2
 
       pub declined_once : (f : F) → (q : Shown H F) × (me' ≡ (Some q, [])) × WasRefused held e f more p q
           → Declined held first e f more old (sight tid' me'.0)
-      declined_once f t = declined f (t.0, p.met, le_refl p.met, t.1, t.2)
+      declined_once f t = declined f p.met p.moves (le_refl p.met) t.0 t.1 t.2
 
       pub acted_at_last : (result : Result R F) → IfOk result
-          (λ reply. (q : Shown H F) × (m : ℕ) × (p.met ≤ m) × (me' ≡ (Some q, []))
-          × WasTaken held e reply more (record p { met = m }) q)
+          (λ reply. (w q : Shown H F) × Waited p w × (me' ≡ (Some q, [])) × WasTaken held e reply more w q)
           → IfOk result (λ reply. Acted held first e reply more old (sight tid' me'.0))
-      acted_at_last (Ok reply) t = acted reply t
+      acted_at_last (Ok reply) t = acted reply (p.met + t.2.lost) t.2.moves (omega arith) t.1 t.3
+          (subst (λ (x : Shown H F). WasTaken held e reply more x t.1) t.2.shows t.4)
       acted_at_last (Err f) t = tt
 
       pub declined_at_last : (result : Result R F) → IfErr result
-          (λ f. (q : Shown H F) × (m : ℕ) × (p.met ≤ m) × (me' ≡ (Some q, [])) × WasRefused held e f more (record p { met = m }) q)
+          (λ f. (w q : Shown H F) × Waited p w × (me' ≡ (Some q, [])) × WasRefused held e f more w q)
           → IfErr result (λ f. Declined held first e f more old (sight tid' me'.0))
       declined_at_last (Ok reply) t = tt
-      declined_at_last (Err f) t = declined f t
+      declined_at_last (Err f) t = declined f (p.met + t.2.lost) t.2.moves (omega arith) t.1 t.3
+          (subst (λ (x : Shown H F). WasRefused held e f more x t.1) t.2.shows t.4)
 
     any_turn : (result : Turn R F) (P : Turn R F → Type 0) → ((reply : R) → result ≡ Done reply → P (Done reply))
         → ((f : F) → result ≡ Refused f → P (Refused f)) → (result ≡ Busy → P Busy) → P result
@@ -207,25 +248,33 @@ module _ {H F : Type 0} where
     pub turned : (tid : TableId) (p : Shown H F) (me' : Mine H F) (result : Turn R F)
         → ((reply : R) → result ≡ Done reply → (q : Shown H F) × (me' ≡ (Some q, [])) × WasTaken held e reply more p q)
         → ((f : F) → result ≡ Refused f → (q : Shown H F) × (me' ≡ (Some q, [])) × WasRefused held e f more p q)
-        → (result ≡ Busy → me' ≡ (Some (missed p), [])) → p.tries ≡ None → Turned tid p me' (lost result)
-    turned tid p me' result done refused busy idle = any_turn result (λ (r : Turn R F). Turned tid p me' (lost r))
-        (λ reply is. let t = done reply is in record {
+        → (result ≡ Busy → Missed p me') → p.tries ≡ None → Turned tid p me' (lost result) (moves_of p.lo p.hi result)
+    turned tid p me' result done refused busy idle = any_turn result (λ (r : Turn R F). Turned tid p me' (lost r) (moves_of p.lo p.hi r))
+        (λ reply is. let t = done reply is in
+        let met_is : t.0.met ≡ p.met + 0 = (let m : t.0.met ≡ p.met = ap (λ (x : Shown H F). x.met) t.2.shows in omega arith) in
+        let moved_so = subst (Moves p.lo p.moves (Take p.lo ∷ Free p.lo ∷ [])) (ap (λ (x : Shown H F). x.moves) (sym t.2.shows)) t.2.moved in record {
           pass = t.0;
           me_is = t.1;
           idle = ap (λ (x : Shown H F). x.tries) t.2.shows;
-          keeps = keeps_taken tid reply p t.0 p.met t.2;
-          met = (let m : t.0.met ≡ p.met = ap (λ (x : Shown H F). x.met) t.2.shows in omega arith);
+          keeps = keeps_taken tid reply p t.0 p.met p.moves t.2
+              (counts_of tid p t.0 (Take p.lo ∷ Free p.lo ∷ []) 0 (ap (λ (x : Shown H F). x.lo) t.2.shows) moved_so met_is refl);
+          met = met_is;
+          moved = moved_so;
         })
-        (λ f is. let t = refused f is in record {
+        (λ f is. let t = refused f is in
+        let met_is : t.0.met ≡ p.met + 0 = (let m : t.0.met ≡ p.met = ap (λ (x : Shown H F). x.met) t.2.shows in omega arith) in
+        let moved_so = subst (Moves p.lo p.moves (Take p.lo ∷ Free p.lo ∷ [])) (ap (λ (x : Shown H F). x.moves) (sym t.2.shows)) t.2.moved in record {
           pass = t.0;
           me_is = t.1;
           idle = ap (λ (x : Shown H F). x.tries) t.2.shows;
-          keeps = keeps_refused tid f p t.0 p.met t.2;
-          met = (let m : t.0.met ≡ p.met = ap (λ (x : Shown H F). x.met) t.2.shows in omega arith);
+          keeps = keeps_refused tid f p t.0 p.met p.moves t.2
+              (counts_of tid p t.0 (Take p.lo ∷ Free p.lo ∷ []) 0 (ap (λ (x : Shown H F). x.lo) t.2.shows) moved_so met_is refl);
+          met = met_is;
+          moved = moved_so;
         })
-        (λ is. record {
-          pass = missed p;
-          me_is = busy is;
+        (λ is. let miss = busy is in record {
+          pass = missed (miss.before ++ Miss p.lo p.hi ∷ []) p;
+          me_is = miss.after_is;
           idle = idle;
           keeps = record {
             lock_is = refl;
@@ -234,38 +283,51 @@ module _ {H F : Type 0} where
             hi_is = refl;
             begins = prefix_itself p.seen;
             stops = λ s. s;
+            counts = counts_of tid p (missed (miss.before ++ Miss p.lo p.hi ∷ []) p) (Miss p.lo p.hi ∷ []) 1 refl miss.moved refl refl;
           };
           met = refl;
+          moved = miss.moved;
         })
 
     -- the same after a call that lost any number of takes
     pub turned_at_last : (tid : TableId) (p : Shown H F) (me' : Mine H F) (result : Result R F)
-        → IfOk result (λ reply. (q : Shown H F) × (m : ℕ) × (p.met ≤ m) × (me' ≡ (Some q, []))
-        × WasTaken held e reply more (record p { met = m }) q)
-        → IfErr result (λ f. (q : Shown H F) × (m : ℕ) × (p.met ≤ m) × (me' ≡ (Some q, []))
-        × WasRefused held e f more (record p { met = m }) q)
-        → (n : ℕ) × Turned tid p me' n
-    turned_at_last tid p me' (Ok reply) done refused = (
-      done.1 - p.met,
-      record {
-        pass = done.0;
-        me_is = done.3;
-        idle = ap (λ (x : Shown H F). x.tries) done.4.shows;
-        keeps = keeps_taken tid reply p done.0 done.1 done.4;
-        met = (let now : done.0.met ≡ done.1 = ap (λ (x : Shown H F). x.met) done.4.shows in let least = done.2 in omega arith);
-      },
-    )
-    turned_at_last tid p me' (Err f) done refused = (
-      refused.1 - p.met,
-      record {
-        pass = refused.0;
-        me_is = refused.3;
-        idle = ap (λ (x : Shown H F). x.tries) refused.4.shows;
-        keeps = keeps_refused tid f p refused.0 refused.1 refused.4;
-        met = (let now : refused.0.met ≡ refused.1 = ap (λ (x : Shown H F). x.met) refused.4.shows in
-            let least = refused.2 in omega arith);
-      },
-    )
+        → IfOk result (λ reply. (w q : Shown H F) × Waited p w × (me' ≡ (Some q, [])) × WasTaken held e reply more w q)
+        → IfErr result (λ f. (w q : Shown H F) × Waited p w × (me' ≡ (Some q, [])) × WasRefused held e f more w q)
+        → (n : ℕ) × Turned tid p me' n (waits_and_takes p.lo p.hi n)
+    turned_at_last tid p me' (Ok reply) done refused =
+        let waited = done.2 in
+        let was = subst (λ (x : Shown H F). WasTaken held e reply more x done.1) waited.shows done.4 in
+        let moved_so = subst (Moves p.lo p.moves (waits_and_takes p.lo p.hi waited.lost)) (ap (λ (x : Shown H F). x.moves) (sym was.shows))
+        (moves_on p.lo p.moves waited.moves was.moves (replicate waited.lost (Miss p.lo p.hi)) (Take p.lo ∷ Free p.lo ∷ []) waited.begins waited.own was.moved) in (
+          waited.lost,
+          record {
+            pass = done.1;
+            me_is = done.3;
+            idle = ap (λ (x : Shown H F). x.tries) was.shows;
+            keeps = keeps_taken tid reply p done.1 (p.met + waited.lost) waited.moves was
+                (counts_of tid p done.1 (waits_and_takes p.lo p.hi waited.lost) waited.lost (ap (λ (x : Shown H F). x.lo) was.shows) moved_so
+                (ap (λ (x : Shown H F). x.met) was.shows) (missed_so p.lo p.hi waited.lost));
+            met = ap (λ (x : Shown H F). x.met) was.shows;
+            moved = moved_so;
+          },
+        )
+    turned_at_last tid p me' (Err f) done refused =
+        let waited = refused.2 in
+        let was = subst (λ (x : Shown H F). WasRefused held e f more x refused.1) waited.shows refused.4 in
+        let moved_so = subst (Moves p.lo p.moves (waits_and_takes p.lo p.hi waited.lost)) (ap (λ (x : Shown H F). x.moves) (sym was.shows))
+        (moves_on p.lo p.moves waited.moves was.moves (replicate waited.lost (Miss p.lo p.hi)) (Take p.lo ∷ Free p.lo ∷ []) waited.begins waited.own was.moved) in (
+          waited.lost,
+          record {
+            pass = refused.1;
+            me_is = refused.3;
+            idle = ap (λ (x : Shown H F). x.tries) was.shows;
+            keeps = keeps_refused tid f p refused.1 (p.met + waited.lost) waited.moves was
+                (counts_of tid p refused.1 (waits_and_takes p.lo p.hi waited.lost) waited.lost (ap (λ (x : Shown H F). x.lo) was.shows) moved_so
+                (ap (λ (x : Shown H F). x.met) was.shows) (missed_so p.lo p.hi waited.lost));
+            met = ap (λ (x : Shown H F). x.met) was.shows;
+            moved = moved_so;
+          },
+        )
 
 -- the longer of two lists that begin one history
 longer_begins : {A : Type 0} (xs ys : List A) (b : Bool) → IsPrefix (cond b xs ys) (cond b ys xs)

@@ -4,6 +4,7 @@ use Rattle.std.proofs.Common.{⊎_elim, arith, length-set}
 use Rattle.std.specs.Prelude.{IsTrue, Contains}
 use Rattle.std.proofs.lemmas.Option.{same_Some, none-some}
 use Rattle.std.proofs.lemmas.Bool.{cases_lt}
+use Rattle.std.proofs.lemmas.List.Sums.{sum_by_push}
 use mathlib.Core.Option.{some, some-injective, some-ne-none}
 use mathlib.Core.Logic.{dite}
 use native.Mathlib.Decide.{ℕ_discrete}
@@ -14,9 +15,12 @@ use Rattle.lert_base.specs.declared.held.Held.{Ghosts as HeldOf}
 use Rattle.lert_base.specs.Packet.{Packet}
 use Rattle.std.specs.Option.{option_map}
 use Rattle.lert_conelock.specs.Steps.{Mine, IsIdle}
+use Rattle.lert_conelock.specs.Prefix.{IsPrefix}
+use Rattle.lert_conelock.specs.Moves.{Move, own_moves}
 use Rattle.lert_conelock.specs.Shown.{Shown, lower, upper}
-use Rattle.lert_conelock.specs.Rule.{Views, Has, IsStopped, IsRefused, IsCovered, IsTried, IsPart, IsCaused, Passes, Holds}
+use Rattle.lert_conelock.specs.Rule.{Views, Has, IsStopped, IsRefused, IsCovered, IsTried, IsPart, IsCaused, Passes, Moved, Holds, met_of}
 use Rattle.lert_conelock.proofs.Replaced.{at_within, there_again}
+use Rattle.lert_conelock.proofs.Moved.{met_replaced}
 use Rattle.lert_conelock.proofs.Homes.{home_after}
 
 snoc_cases : {A : Type 0} (l : List A) (j : ℕ) (a b : A) → get_elem? (l ++ a ∷ []) j ≡ some b
@@ -240,6 +244,27 @@ module _ {H F : Type 0} (views : Views H F) (id : ℕ) (p : Shown H F) (mine : H
       trying = λ a r e there t. let h = b.trying a r e (trier a r e (kind a r there) t) t in (h.0, λ x. h.1 (stopped_back x));
     }
 
+    moves_of : (moves : List Move) → Moved numbers views moves → (a : ℕ) (r : Shown H F) → Kind a r → IsPrefix r.moves moves
+        × ((n : ℕ) → r.lo ≤ n → n < r.hi → own_moves r.moves n ≡ own_moves moves n)
+    moves_of moves m a r (low same is) = subst (λ (x : Shown H F). IsPrefix x.moves moves
+        × ((n : ℕ) → x.lo ≤ n → n < x.hi → own_moves x.moves n ≡ own_moves moves n)) is
+        (m.begins id p mine, λ n lo hi. m.own id p mine n lo (omega (arith, hi, below)))
+    moves_of moves m a r (high same is) = subst (λ (x : Shown H F). IsPrefix x.moves moves
+        × ((n : ℕ) → x.lo ≤ n → n < x.hi → own_moves x.moves n ≡ own_moves moves n)) is
+        (m.begins id p mine, λ n lo hi. m.own id p mine n (omega (arith, lo, above)) hi)
+    moves_of moves m a r (else_ ne e) = (m.begins a r e, m.own a r e)
+
+    moved_split : (moves : List Move) → Moved numbers views moves → Moved numbers after moves
+    moved_split moves m = record {
+      orderly = m.orderly;
+      no_others = m.no_others;
+      begins = λ a r e. (moves_of moves m a r (kind a r e)).0;
+      own = λ a r e. (moves_of moves m a r (kind a r e)).1;
+      counted = (let all = m.counted in let here = met_replaced views id (Some p) (Some (lower at p)) mine in
+          omega (arith, all, here, sum_by_push met_of (set views id (Some (lower at p))) (Some (upper at p))));
+      trying = λ a r e there t. m.trying a r e (trier a r e (kind a r there) t) t;
+    }
+
     tried_on : IsTried views → IsTried after
     tried_on t = ⊎_elim
         (λ (u : (t.seat ≡ id) × (p ≡ t.pass)). absurd (never t.packet
@@ -275,6 +300,9 @@ module _ {H T R F : Type 0} (held : HeldOf H T R F) (first : H) (numbers : ℕ) 
           (trier s.views id p mine at held first numbers history w.passes idle above below a r d
           (kind s.views id p mine at a r there) t) t;
       one_tries = λ locked. tried_on s.views id p mine at held first numbers history w.passes idle above below (w.one_tries locked);
+      moves = w.moves;
+      moved = moved_split s.views id p mine at held first numbers history w.passes idle above below w.moves w.moved;
+      none_holds = w.none_holds;
     },
   )
 

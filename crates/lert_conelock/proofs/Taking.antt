@@ -1,8 +1,8 @@
 -- A take, won or lost, and the rule goes on.
-use Rattle.std.proofs.Common.{◌≡◌, ℕ, ◌+◌, eqb, List, [], ◌∷◌, ◌⊎◌, get_or, set, Option, Some, sym, refl, ap, ◌∙◌, subst, inl, inr, ⊎_elim, arith, length-set}
+use Rattle.std.proofs.Common.{◌≡◌, ◌≢◌, ℕ, zero, suc, ◌+◌, ◌<◌, ◌≤◌, eqb, List, [], ◌∷◌, ◌++◌, ◌⊎◌, get_or, set, Option, Some, None, sym, refl, ap, ◌∙◌, subst, inl, inr, ⊎_elim, arith, length-set}
 use Rattle.std.proofs.Common.{get_or-set_same, get_or-set_other}
 use Rattle.std.specs.Prelude.{IsTrue, Contains}
-use Rattle.std.proofs.lemmas.Option.{same_Some}
+use Rattle.std.proofs.lemmas.Option.{same_Some, none-some}
 use mathlib.Core.Option.{some}
 use prog.Atomic.{either}
 use Rattle.atomic_table.specs.Table.{State, Act, Valid, Allows, keeps, takes, stepped, carried_after}
@@ -10,20 +10,34 @@ use Rattle.atomic_table.proofs.Lists.{exchanged}
 use Rattle.lert_base.specs.declared.held.Held.{Ghosts as HeldOf}
 use Rattle.lert_base.specs.Packet.{Packet}
 use Rattle.lert_conelock.specs.After.{StandsAfter}
+use Rattle.lert_conelock.specs.Moves.{Move, Take, Miss, IsAnothers, held_after}
 use Rattle.lert_conelock.specs.Shown.{Shown, missed, taken}
-use Rattle.lert_conelock.specs.Rule.{Views, Has, IsRefused, Passes, IsHome, HoldsWith, Holds}
-use Rattle.lert_conelock.specs.Steps.{Mine, MayTake, Took}
+use Rattle.lert_conelock.specs.Rule.{Views, Has, IsRefused, IsTried, Passes, IsHome, HoldsWith, Holds}
+use Rattle.lert_conelock.specs.Steps.{Mine, MayTake, Missed, Took}
 use Rattle.lert_conelock.proofs.Prefixes.{prefix_itself}
-use Rattle.lert_conelock.proofs.Replaced.{Grows, has_here, stopped_back, refused_on, passes_after}
+use Rattle.lert_conelock.proofs.Replaced.{Grows, has_here, stopped_back, refused_on, passes_after, there_again}
+use Rattle.lert_conelock.proofs.Moved.{moved_knows, moved_more}
 use Rattle.lert_conelock.proofs.Gathered.{any_stopped, all_refused, stop_shown, stop_counts, refusal_shown, refusal_counts}
 use Rattle.lert_conelock.proofs.Words.{set_found}
 use Rattle.lert_conelock.proofs.Idling.{idles}
 
+one_of : (n : ℕ) → n ≤ 1 → (n ≡ 0 → ⊥) → n ≡ 1
+one_of zero bound none = absurd (none refl)
+one_of (suc zero) bound none = refl
+one_of (suc (suc n)) bound none = absurd (omega arith)
+
+add_zero : (n : ℕ) → n + 0 ≡ n
+add_zero n = omega arith
+
 module _ {H T R F : Type 0} (held : HeldOf H T R F) (first : H) (numbers : ℕ) where
   module _ (s : State (Option H) (Option (Shown H F))) (history : List Packet) (w : HoldsWith held first numbers s history)
       (id : ℕ) (p : Shown H F) (there : Has s.views id p) (e : Packet) (named : e.by ≡ p.lo) (free : get_or s.words 0 0 ≡ 0) where
+    -- the take behind all moves until now
+    abbrev moves : List Move
+    moves = w.moves ++ Take p.lo ∷ []
+
     abbrev won : Shown H F
-    won = taken e history (any_stopped s.views) (all_refused s.views) p
+    won = taken e history (any_stopped s.views) (all_refused s.views) moves p
 
     abbrev after : Views H F
     after = set s.views id (Some won)
@@ -33,6 +47,15 @@ module _ {H T R F : Type 0} (held : HeldOf H T R F) (first : H) (numbers : ℕ) 
 
     grows : Grows p won
     grows = record { lo_is = refl; hi_is = refl; refused = λ d g c. c; stops = stops }
+
+    not_empty : p.lo < p.hi
+    not_empty = (w.passes.parts id p there).not_empty
+
+    within : p.hi ≤ numbers
+    within = (w.passes.parts id p there).within
+
+    apart : (a : ℕ) (r : Shown H F) → a ≢ id → Has s.views a r → (p.hi ≤ r.lo) ⊎ (r.hi ≤ p.lo)
+    apart a r ne at = w.passes.apart id a p r there at (λ same. ne (sym same))
 
     passes_won : Passes held first numbers history after
     passes_won = let b = w.passes in let part = b.parts id p there in passes_after s.views id p won there held first numbers history history b (prefix_itself history) grows
@@ -68,6 +91,10 @@ module _ {H T R F : Type 0} (held : HeldOf H T R F) (first : H) (numbers : ℕ) 
           home = λ z. absurd (omega arith);
           none_tries = λ z. absurd (omega arith);
           one_tries = λ _. record { seat = id; pass = won; packet = e; there = has_here s.views id p won there; tries = refl };
+          moves = moves;
+          moved = moved_more numbers s.views w.moves w.moved id p won there (Take p.lo) refl not_empty within apart (w.none_holds free) refl refl refl (sym (add_zero p.met))
+              (λ a r d ne at t. absurd (w.none_tries free a r d at t)) (λ d t. refl);
+          none_holds = λ z. absurd (omega arith);
         }
 
     pub took : (state : H) → IsHome held first history s.views state
@@ -76,7 +103,9 @@ module _ {H T R F : Type 0} (held : HeldOf H T R F) (first : H) (numbers : ℕ) 
       seen = history;
       stop = any_stopped s.views;
       known = all_refused s.views;
+      moves = moves;
       after_is = refl;
+      moved = moved_knows numbers s.views w.moves w.moved id p won there (Take p.lo) refl not_empty within apart (w.none_holds free);
       more = part.seen;
       stops = stops;
       opened = (w.opened.0, subst (λ (x : H). held.stands_for x w.opened.0) same w.opened.1);
@@ -95,14 +124,59 @@ module _ {H T R F : Type 0} (held : HeldOf H T R F) (first : H) (numbers : ℕ) 
       };
     }
 
+  -- a pass that finds the lock held
+  module _ (s : State (Option H) (Option (Shown H F))) (history : List Packet) (w : HoldsWith held first numbers s history)
+      (id : ℕ) (p : Shown H F) (there : Has s.views id p) (idle : p.tries ≡ None) (locked : get_or s.words 0 0 ≡ 0 → ⊥) where
+    abbrev behind : List Move
+    behind = w.moves ++ Miss p.lo p.hi ∷ []
+
+    holder : IsTried s.views
+    holder = let bound = w.lock_word in w.one_tries (one_of (get_or s.words 0 0) bound locked)
+
+    not_mine : holder.seat ≡ id → ⊥
+    not_mine same = none-some holder.packet (sym idle ∙ subst (λ (x : Shown H F). x.tries ≡ Some holder.packet)
+        (there_again holder.pass p (sym holder.there ∙ subst (λ (n : ℕ). Has s.views n p) (sym same) there)) holder.tries)
+
+    another : IsAnothers (held_after None w.moves) p.lo p.hi
+    another = let part = w.passes.parts holder.seat holder.pass holder.there in let not_empty = part.not_empty in record {
+      number = holder.pass.lo;
+      held = w.moved.trying holder.seat holder.pass holder.packet holder.there holder.tries;
+      outside = ⊎_elim (λ (far : p.hi ≤ holder.pass.lo). inr far) (λ (far : holder.pass.hi ≤ p.lo). inl (omega (arith, far, not_empty)))
+          (w.passes.apart id holder.seat p holder.pass there holder.there (λ same. not_mine (sym same)));
+    }
+
+    not_empty' : p.lo < p.hi
+    not_empty' = (w.passes.parts id p there).not_empty
+
+    within' : p.hi ≤ numbers
+    within' = (w.passes.parts id p there).within
+
+    apart' : (a : ℕ) (r : Shown H F) → a ≢ id → Has s.views a r → (p.hi ≤ r.lo) ⊎ (r.hi ≤ p.lo)
+    apart' a r ne at = w.passes.apart id a p r there at (λ same. ne (sym same))
+
+    pub loses : HoldsWith held first numbers (record { words = s.words; homes = s.homes; views = set s.views id (Some (missed behind p)) }) history
+    loses = idles held first numbers s history w id p there idle p.seen (p.met + 1) behind (w.passes.parts id p there).seen behind
+        (moved_more numbers s.views w.moves w.moved id p (missed behind p) there (Miss p.lo p.hi) refl not_empty' within' apart' another refl refl refl refl
+        (λ a r d ne at t. w.moved.trying a r d at t) (λ d t. absurd (none-some d (sym idle ∙ t))))
+        (λ free. absurd (locked free))
+
+    pub found_held : Missed p (Some (missed behind p), [])
+    found_held = record {
+      before = w.moves;
+      begins = w.moved.begins id p there;
+      another = another;
+      moved = moved_knows numbers s.views w.moves w.moved id p (missed behind p) there (Miss p.lo p.hi) refl not_empty' within' apart' another;
+      after_is = refl;
+    }
+
   pub taking : (slots id : ℕ) (me : Mine H F) (e : Packet) → MayTake me e
       → Allows (Holds held first numbers) slots id me 0 (λ n. either (eqb n 0) 1 n)
       (λ found after. (p' : Shown H F) → me.0 ≡ Some p' → (found ≡ 0 → (state : H)
-      × Took held e p' state (Some state) after) × ((found ≡ 0 → ⊥) → after ≡ (Some (missed p'), [])))
+      × Took held e p' state (Some state) after) × ((found ≡ 0 → ⊥) → Missed p' after))
   taking slots id me e may = let p = may.pass in let idle = may.idle in let named = may.own in subst
       (λ (m : Mine H F). Allows (Holds held first numbers) slots id m 0 (λ n. either (eqb n 0) 1 n)
       (λ found after. (p' : Shown H F) → m.0 ≡ Some p' → (found ≡ 0 → (state : H)
-      × Took held e p' state (Some state) after) × ((found ≡ 0 → ⊥) → after ≡ (Some (missed p'), [])))) (sym may.me_is)
+      × Took held e p' state (Some state) after) × ((found ≡ 0 → ⊥) → Missed p' after))) (sym may.me_is)
       (λ s holds one at _.
       let history = holds.0 in let w = holds.1 in
       exchanged (get_or s.words 0 0) 0 1
@@ -110,7 +184,7 @@ module _ {H T R F : Type 0} (held : HeldOf H T R F) (first : H) (numbers : ℕ) 
       × Holds held first numbers (stepped s 0 x id [] v a)
       × ((p' : Shown H F) → Some p ≡ Some p' → (get_or s.words 0 0 ≡ 0 → (state : H)
       × Took held e p' state (Some state) (v, carried_after [] a))
-      × ((get_or s.words 0 0 ≡ 0 → ⊥) → ◌≡◌ {A = Mine H F} (v, carried_after [] a) (Some (missed p'), []))))
+      × ((get_or s.words 0 0 ≡ 0 → ⊥) → Missed p' (v, carried_after [] a))))
       (λ free. let t = w.home free in (
         Some (won s history w id p at e named free),
         takes 0 (Some t.0),
@@ -127,18 +201,18 @@ module _ {H T R F : Type 0} (held : HeldOf H T R F) (first : H) (numbers : ℕ) 
         ),
       ))
       (λ locked. (
-        Some (missed p),
+        Some (missed (behind s history w id p at idle locked) p),
         keeps,
         tt,
         (
           history,
           subst (λ (ws : List ℕ). HoldsWith held first numbers
-              (record { words = ws; homes = s.homes; views = set s.views id (Some (missed p)) }) history)
-              (sym (set_found s.words 0 0))
-              (idles held first numbers s history w id p at idle p.seen (p.met + 1) (w.passes.parts id p at).seen),
+              (record { words = ws; homes = s.homes; views = set s.views id (Some (missed (behind s history w id p at idle locked) p)) }) history)
+              (sym (set_found s.words 0 0)) (loses s history w id p at idle locked),
         ),
         λ p' same. (
           (λ free. absurd (locked free)),
-          (λ _ i. (Some (missed (same_Some p p' same i)), [])),
+          (λ _. subst (λ (x : Shown H F). Missed x (Some (missed (behind s history w id p at idle locked) p), [])) (same_Some p p' same)
+              (found_held s history w id p at idle locked)),
         ),
       )))

@@ -9,9 +9,11 @@ use Rattle.atomic_table.specs.Table.{rest}
 use Rattle.lert_base.specs.declared.held.Held.{Ghosts as HeldOf}
 use Rattle.lert_base.specs.Packet.{Packet}
 use Rattle.lert_conelock.specs.After.{RefusesAfter}
+use Rattle.lert_conelock.specs.Moves.{Move, Take, Free, Moves}
 use Rattle.lert_conelock.specs.Shown.{Shown, taken, committed, noted, freed}
 use Rattle.lert_conelock.specs.Steps.{Mine, IsIdle, MayTake, InHand, Took, HasLock, IsTrying, IsReason}
 use Rattle.lert_conelock.specs.Turns.{WasTaken, WasRefused}
+use Rattle.lert_conelock.proofs.Moving.{moves_on}
 
 pub taker : {H F : Type 0} {me : Mine H F} {e : Packet} (may : MayTake me e) → me.0 ≡ Some may.pass
 taker may i = (may.me_is i).0
@@ -38,7 +40,7 @@ module _ {H T R F : Type 0} (held : HeldOf H T R F) where
 
   module _ (e : Packet) (p : Shown H F) (s : H) (me : Mine H F) (took : Took held e p s None me) where
     abbrev pub pass : Shown H F
-    pass = taken e took.seen took.stop took.known p
+    pass = taken e took.seen took.stop took.known took.moves p
 
     pub me_pass : me.0 ≡ Some pass
     me_pass = λ i. (took.after_is i).0
@@ -136,29 +138,35 @@ module _ {H T R F : Type 0} (held : HeldOf H T R F) where
             subst (λ (x : Shown H F). IsReason held (held.stopped t) x d f) same
             (subst (λ (x : Packet). IsReason held (held.stopped t) pass x f) same' reason_of)
 
-        pub was_refused : (more : ℕ) → WasRefused held e f more p (freed more refused)
-        was_refused more = record {
+        pub was_refused : (more : ℕ) (moves : List Move) → Moves p.lo took.moves (Free p.lo ∷ []) moves
+            → WasRefused held e f more p (freed more moves refused)
+        was_refused more moves moved = record {
           past = took.seen;
           stop = took.stop || held.stopped t;
+          moves = moves;
+          moved = moves_on p.lo p.moves took.moves moves (Take p.lo ∷ []) (Free p.lo ∷ []) took.moved.begins took.moved.own moved;
           begins = took.more;
           cause = ⊎_elim (λ stop. inl (or_right took.stop (held.stopped t) stop)) (λ rule. inr rule) reason_of;
           stops = λ x. or_left took.stop (held.stopped t) (took.stops x);
           shows = refl;
         }
 
-        pub was_refused_as : (f' : F) (more : ℕ) → f ≡ f' → (me' : Mine H F) → me' ≡ (Some (freed more refused), [])
+        pub was_refused_as : (f' : F) (more : ℕ) → f ≡ f' → (me' : Mine H F)
+            → (moves : List Move) × Moves p.lo took.moves (Free p.lo ∷ []) moves × (me' ≡ (Some (freed more moves refused), []))
             → (q : Shown H F) × (me' ≡ (Some q, [])) × WasRefused held e f' more p q
-        was_refused_as f' more same me' is = (
-          freed more (noted e f' (held.stopped t) pass),
-          is ∙ (λ i. (Some (freed more (noted e (same i) (held.stopped t) pass)), [])),
-          subst (λ (x : F). WasRefused held e x more p (freed more (noted e x (held.stopped t) pass))) same (was_refused more),
+        was_refused_as f' more same me' freed_so = let moves = freed_so.0 in (
+          freed more moves (noted e f' (held.stopped t) pass),
+          freed_so.2 ∙ (λ i. (Some (freed more moves (noted e (same i) (held.stopped t) pass)), [])),
+          subst (λ (x : F). WasRefused held e x more p (freed more moves (noted e x (held.stopped t) pass))) same (was_refused more moves freed_so.1),
         )
 
     pub was_taken : (reply : R) (more : ℕ) → ((h : List Packet) → held.stands_for s h → held.answers (held.terms s) h e reply)
-        → WasTaken held e reply more p (freed more (committed e pass))
-    was_taken reply more says = record {
+        → (moves : List Move) → Moves p.lo took.moves (Free p.lo ∷ []) moves → WasTaken held e reply more p (freed more moves (committed e pass))
+    was_taken reply more says moves moved = record {
       past = took.seen;
       stop = took.stop;
+      moves = moves;
+      moved = moves_on p.lo p.moves took.moves moves (Take p.lo ∷ []) (Free p.lo ∷ []) took.moved.begins took.moved.own moved;
       begins = took.more;
       answer = λ h opens. subst (λ (x : T). held.answers x (h ++ took.seen) e reply) took.hand.terms_are
           (says (h ++ took.seen) (took.hand.stands h opens));
@@ -168,10 +176,11 @@ module _ {H T R F : Type 0} (held : HeldOf H T R F) where
 
     pub was_taken_as : (reply reply' : R) (more : ℕ) → ((h : List Packet) → held.stands_for s h
         → held.answers (held.terms s) h e reply)
-        → reply ≡ reply' → (me' : Mine H F) → me' ≡ (Some (freed more (committed e pass)), [])
+        → reply ≡ reply' → (me' : Mine H F)
+        → (moves : List Move) × Moves p.lo took.moves (Free p.lo ∷ []) moves × (me' ≡ (Some (freed more moves (committed e pass)), []))
         → (q : Shown H F) × (me' ≡ (Some q, [])) × WasTaken held e reply' more p q
-    was_taken_as reply reply' more says same me' is = (
-      freed more (committed e pass),
-      is,
-      subst (λ (x : R). WasTaken held e x more p (freed more (committed e pass))) same (was_taken reply more says),
+    was_taken_as reply reply' more says same me' freed_so = let moves = freed_so.0 in (
+      freed more moves (committed e pass),
+      freed_so.2,
+      subst (λ (x : R). WasTaken held e x more p (freed more moves (committed e pass))) same (was_taken reply more says moves freed_so.1),
     )

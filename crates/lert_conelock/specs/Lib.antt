@@ -1,4 +1,5 @@
 pub mod Prefix
+pub mod Moves
 pub mod After
 pub mod Shown
 pub mod Rule

@@ -1,11 +1,12 @@
 -- The rule of a cone lock: its words, its slot and all passes show one history.
-use Rattle.std.specs.Prelude.{◌≡◌, ℕ, ◌<◌, ◌≤◌, List, ◌⊎◌, length, slice_index, Option, Some, None, IsTrue, Contains}
+use Rattle.std.specs.Prelude.{◌≡◌, ℕ, ◌<◌, ◌≤◌, List, [], ◌⊎◌, length, slice_index, sum_by, Option, Some, None, IsTrue, Contains}
 use mathlib.Core.Option.{some}
 use lib.ListN.{get_elem?}
 use Rattle.atomic_table.specs.Table.{State}
 use Rattle.lert_base.specs.declared.held.Held.{Ghosts as HeldOf}
 use Rattle.lert_base.specs.Packet.{Packet, own}
 use Rattle.lert_conelock.specs.Prefix.{IsPrefix}
+use Rattle.lert_conelock.specs.Moves.{Move, AreOrderly, held_after, misses, own_moves}
 use Rattle.lert_conelock.specs.After.{StandsAfter, RefusesAfter}
 use Rattle.lert_conelock.specs.Shown.{Shown}
 
@@ -60,6 +61,21 @@ pub record IsTried {H F : Type 0} (views : Views H F) : Type 0 where
   pub there : Has views seat pass
   pub tries : pass.tries ≡ Some packet
 
+-- how many takes of a seat's pass found the lock held
+abbrev pub met_of : {H F : Type 0} → Option (Shown H F) → ℕ
+met_of None = 0
+met_of (Some p) = p.met
+
+-- all passes together show these moves: each pass knows its own ones, and counts its misses
+pub record Moved {H F : Type 0} (numbers : ℕ) (views : Views H F) (moves : List Move) : Type 0 where
+  pub orderly : AreOrderly None moves
+  pub no_others : (n : ℕ) → numbers ≤ n → own_moves moves n ≡ []
+  pub begins : (seat : ℕ) (p : Shown H F) → Has views seat p → IsPrefix p.moves moves
+  pub own : (seat : ℕ) (p : Shown H F) → Has views seat p → (n : ℕ) → p.lo ≤ n → n < p.hi → own_moves p.moves n ≡ own_moves moves n
+  pub counted : sum_by met_of views ≡ misses moves
+  -- the pass that has the lock is the one that took it last
+  pub trying : (seat : ℕ) (p : Shown H F) (e : Packet) → Has views seat p → p.tries ≡ Some e → held_after None moves ≡ Some p.lo
+
 module _ {H T R F : Type 0} (held : HeldOf H T R F) where
   -- the packet was refused so by rule, after some beginning of the history, or the state is stopped
   abbrev pub IsCaused : H → List Packet → Views H F → Packet → F → Type 0
@@ -105,6 +121,10 @@ module _ {H T R F : Type 0} (held : HeldOf H T R F) where
     pub none_tries : slice_index s.words 0 ≡ 0 → (seat : ℕ) (p : Shown H F) (e : Packet)
         → Has s.views seat p → p.tries ≡ Some e → ⊥
     pub one_tries : slice_index s.words 0 ≡ 1 → IsTried s.views
+    -- and nobody's take is left unfreed
+    pub moves : List Move
+    pub moved : Moved numbers s.views moves
+    pub none_holds : slice_index s.words 0 ≡ 0 → held_after None moves ≡ None
 
   -- the whole rule: there is such a history
   abbrev pub Holds : H → ℕ → State (Option H) (Option (Shown H F)) → Type 0

@@ -1,6 +1,7 @@
 -- What a pass shows to the rule of its lock. It stands in contracts alone: no code holds it.
 use Rattle.std.specs.Prelude.{ℕ, ◌+◌, Bool, false, ◌||◌, if◌then◌else◌, nat_lt, nat_le, List, [], ◌∷◌, ◌++◌, length, filter, Option, Some, None}
 use Rattle.lert_base.specs.Packet.{Packet}
+use Rattle.lert_conelock.specs.Moves.{Move}
 
 -- H is the state in the lock, F what a refused call is answered by
 pub record Shown (H F : Type 0) : Type 0 where
@@ -16,6 +17,8 @@ pub record Shown (H F : Type 0) : Type 0 where
   pub seen : List Packet
   -- what the other pass of its last join had seen, or this one where that was less
   pub lesser : List Packet
+  -- what all callers did to the lock, as far as the pass knows it
+  pub moves : List Move
   -- how many takes found the lock held, and how many calls waited for it
   pub met : ℕ
   pub waits : ℕ
@@ -37,6 +40,7 @@ module _ {H F : Type 0} where
     refused = [];
     seen = [];
     lesser = [];
+    moves = [];
     met = 0;
     waits = 0;
     stopped = false;
@@ -44,13 +48,13 @@ module _ {H F : Type 0} where
     known = [];
   }
 
-  -- a take found the lock held
-  abbrev pub missed : Shown H F → Shown H F
-  missed p = record p { met = p.met + 1 }
+  -- a take found the lock held, and these moves are known
+  abbrev pub missed : List Move → Shown H F → Shown H F
+  missed moves p = record p { met = p.met + 1; moves = moves }
 
-  -- the lock is taken for the packet, and this is known of the history, of the stop and of refusals
-  abbrev pub taken : Packet → List Packet → Bool → List Packet → Shown H F → Shown H F
-  taken e seen stop known p = record p { seen = seen; stopped = stop; known = known; tries = Some e }
+  -- the lock is taken for the packet, and this is known of the history, of the stop, of refusals and of moves
+  abbrev pub taken : Packet → List Packet → Bool → List Packet → List Move → Shown H F → Shown H F
+  taken e seen stop known moves p = record p { seen = seen; stopped = stop; known = known; tries = Some e; moves = moves }
 
   -- the packet was taken in
   abbrev pub committed : Packet → Shown H F → Shown H F
@@ -64,9 +68,9 @@ module _ {H F : Type 0} where
     stopped = p.stopped || stop;
   }
 
-  -- the lock is free again, after a call that waited so often
-  abbrev pub freed : ℕ → Shown H F → Shown H F
-  freed more p = record p { tries = None; known = []; waits = p.waits + more }
+  -- the lock is free again, after a call that waited so often, and these moves are known
+  abbrev pub freed : ℕ → List Move → Shown H F → Shown H F
+  freed more moves p = record p { tries = None; known = []; waits = p.waits + more; moves = moves }
 
   -- the two passes of a split
   abbrev pub lower : ℕ → Shown H F → Shown H F
@@ -95,6 +99,7 @@ module _ {H F : Type 0} where
     refused = both_sides (λ r. r.0.by) q.lo p.refused q.refused;
     seen = longer p.seen q.seen;
     lesser = shorter p.seen q.seen;
+    moves = longer p.moves q.moves;
     met = p.met + q.met;
     waits = p.waits + q.waits;
     stopped = p.stopped || q.stopped;

@@ -5,6 +5,7 @@ use Rattle.atomic_table.specs.Seated.{TableId}
 use Rattle.lert_base.specs.declared.held.Held.{Ghosts as HeldOf}
 use Rattle.lert_base.specs.Packet.{Packet, own}
 use Rattle.lert_conelock.specs.Prefix.{IsPrefix}
+use Rattle.lert_conelock.specs.Moves.{Move, Miss, AreOrderly, IsAnothers, held_after, misses, own_moves}
 use Rattle.lert_conelock.specs.After.{StandsAfter, AnswersAfter, RefusesAfter}
 use Rattle.lert_conelock.specs.Shown.{Shown, longer}
 
@@ -18,6 +19,7 @@ pub record Sight (H F : Type 0) : Type 0 where
   pub calls : List Packet
   pub refused : List (Packet × F)
   pub seen : List Packet
+  pub moves : List Move
   pub met : ℕ
   pub waits : ℕ
   pub stopped : Bool
@@ -43,6 +45,7 @@ module _ {H F : Type 0} where
     calls = [];
     refused = [];
     seen = [];
+    moves = [];
     met = 0;
     waits = 0;
     stopped = false;
@@ -55,6 +58,7 @@ module _ {H F : Type 0} where
     calls = p.calls;
     refused = p.refused;
     seen = p.seen;
+    moves = p.moves;
     met = p.met;
     waits = p.waits;
     stopped = p.stopped;
@@ -75,6 +79,7 @@ module _ {H F : Type 0} where
     calls = [];
     refused = [];
     seen = [];
+    moves = [];
     met = 0;
     waits = 0;
     stopped = false;
@@ -85,7 +90,16 @@ pub record BelongsTo {H F : Type 0} (pass : Sight H F) (lock : LockSight H) : Ty
   pub lock_is : pass.lock ≡ lock.id
   pub first_is : pass.first ≡ Some lock.first
 
--- what a call leaves of its pass, whatever it answers: its lock, its numbers, what it has seen, and that the state is stopped
+-- calls under the first number of a pass: it counts as many lost takes more as it missed in what all callers did since, and
+-- that is orderly
+pub record Counts {H F : Type 0} (old new : Sight H F) : Type 0 where
+  pub lo_is : new.lo ≡ old.lo
+  pub begins : IsPrefix old.moves new.moves
+  pub orderly : AreOrderly None old.moves → AreOrderly None new.moves
+  pub met : new.met + misses (own_moves old.moves old.lo) ≡ old.met + misses (own_moves new.moves old.lo)
+
+-- what a call leaves of its pass, whatever it answers: its lock, its numbers, what it has seen, that the state is stopped, and
+-- which takes it lost
 pub record Keeps {H F : Type 0} (old new : Sight H F) : Type 0 where
   pub lock_is : new.lock ≡ old.lock
   pub first_is : new.first ≡ old.first
@@ -93,6 +107,14 @@ pub record Keeps {H F : Type 0} (old new : Sight H F) : Type 0 where
   pub hi_is : new.hi ≡ old.hi
   pub begins : IsPrefix old.seen new.seen
   pub stops : IsTrue old.stopped → IsTrue new.stopped
+  pub counts : Counts old new
+
+-- a take was lost: behind these moves, of which the pass knew a beginning, another caller had the lock
+pub record Loses {H F : Type 0} (old new : Sight H F) : Type 0 where
+  pub before : List Move
+  pub begins : IsPrefix old.moves before
+  pub another : IsAnothers (held_after None before) old.lo old.hi
+  pub shows : new ≡ record old { moves = before ++ Miss old.lo old.hi ∷ []; met = old.met + 1 }
 
 -- one pass of two, of which the other began where the old one ended
 pub record Joined {H F : Type 0} (old other new : Sight H F) : Type 0 where
@@ -101,6 +123,7 @@ pub record Joined {H F : Type 0} (old other new : Sight H F) : Type 0 where
     calls = new.calls;
     refused = new.refused;
     seen = longer old.seen other.seen;
+    moves = longer old.moves other.moves;
     met = old.met + other.met;
     waits = old.waits + other.waits;
     stopped = old.stopped || other.stopped;
@@ -124,6 +147,7 @@ module _ {H T R F : Type 0} (held : HeldOf H T R F) where
     pub shows : new ≡ record old {
       seen = past ++ e ∷ [];
       calls = old.calls ++ e ∷ [];
+      moves = new.moves;
       met = new.met;
       waits = old.waits + more;
       stopped = new.stopped;
@@ -138,6 +162,7 @@ module _ {H T R F : Type 0} (held : HeldOf H T R F) where
     pub shows : new ≡ record old {
       seen = past;
       refused = old.refused ++ (e, f) ∷ [];
+      moves = new.moves;
       met = new.met;
       waits = old.waits + more;
       stopped = new.stopped;
@@ -159,3 +184,10 @@ module _ {H T R F : Type 0} (held : HeldOf H T R F) where
         ⊎ ((past : List Packet) × IsPrefix past history × RefusesAfter held lock.first past e f)
     -- without a call it is the first state itself
     pub untouched : pass.calls ≡ [] → pass.refused ≡ [] → state ≡ lock.first
+    -- what all callers did to the lock, whose misses are the takes that they lost; nobody has it
+    pub moves : List Move
+    pub knows : IsPrefix pass.moves moves
+    pub orderly : AreOrderly None moves
+    pub no_others : (n : ℕ) → lock.numbers ≤ n → own_moves moves n ≡ []
+    pub freed : held_after None moves ≡ None
+    pub met : pass.met ≡ misses moves

@@ -1,11 +1,12 @@
 -- What the steps of a cone lock tell the caller that makes them.
-use Rattle.std.specs.Prelude.{◌≡◌, ℕ, ◌<◌, ◌≤◌, Bool, List, [], ◌∷◌, ◌⊎◌, length, Option, Some, None, IsTrue, Contains}
+use Rattle.std.specs.Prelude.{◌≡◌, ℕ, ◌<◌, ◌≤◌, Bool, List, [], ◌∷◌, ◌++◌, ◌⊎◌, length, Option, Some, None, IsTrue, Contains}
 use Rattle.atomic_table.specs.Table.{Me}
 use Rattle.lert_base.specs.declared.held.Held.{Ghosts as HeldOf}
 use Rattle.lert_base.specs.Packet.{Packet, own}
 use Rattle.lert_conelock.specs.Prefix.{IsPrefix}
 use Rattle.lert_conelock.specs.After.{StandsAfter, RefusesAfter}
-use Rattle.lert_conelock.specs.Shown.{Shown, taken}
+use Rattle.lert_conelock.specs.Moves.{Move, Take, Miss, Moves, IsAnothers, held_after}
+use Rattle.lert_conelock.specs.Shown.{Shown, missed, taken}
 
 -- a seat's view, and the slot that it holds
 abbrev pub Mine : Type 0 → Type 0 → Type 0
@@ -31,6 +32,14 @@ pub record IsTrying {H F : Type 0} (me : Mine H F) : Type 0 where
   pub me_is : me.0 ≡ Some pass
   pub tries : pass.tries ≡ Some packet
 
+-- p found the lock held by another pass, behind these moves
+pub record Missed {H F : Type 0} (p : Shown H F) (after : Mine H F) : Type 0 where
+  pub before : List Move
+  pub begins : IsPrefix p.moves before
+  pub another : IsAnothers (held_after None before) p.lo p.hi
+  pub moved : Moves p.lo p.moves (Miss p.lo p.hi ∷ []) (before ++ Miss p.lo p.hi ∷ [])
+  pub after_is : after ≡ (Some (missed (before ++ Miss p.lo p.hi ∷ []) p), [])
+
 -- p has looked: q knows the whole history, of which this many packets were found
 pub record Looked {H F : Type 0} (found : ℕ) (p q : Shown H F) : Type 0 where
   pub shows : q ≡ record p { seen = q.seen }
@@ -53,11 +62,13 @@ module _ {H T R F : Type 0} (held : HeldOf H T R F) where
     pub seen : List Packet
     pub stop : Bool
     pub known : List Packet
-    pub after_is : after ≡ (Some (taken e seen stop known p), (0, slot) ∷ [])
+    pub moves : List Move
+    pub after_is : after ≡ (Some (taken e seen stop known moves p), (0, slot) ∷ [])
+    pub moved : Moves p.lo p.moves (Take p.lo ∷ []) moves
     pub more : IsPrefix p.seen seen
     pub stops : IsTrue p.stopped → IsTrue stop
     pub opened : (h : List Packet) × held.stands_for p.first h
-    pub hand : InHand (taken e seen stop known p) state
+    pub hand : InHand (taken e seen stop known moves p) state
 
   -- the seat has the lock, and this is in the slot
   pub record HasLock (state : H) (slot : Option H) (me : Mine H F) : Type 0 where

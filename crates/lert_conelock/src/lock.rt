@@ -4,8 +4,9 @@ ghost use Rattle.std.specs.Prelude.{◌≡◌, ℕ, ◌+◌, ◌<◌, ◌≤◌,
 ghost use Rattle.lert_base.specs.Packet.{Packet, own};
 ghost use Rattle.lert_base.specs.Entries.{packet_of};
 ghost use Rattle.lert_conelock.specs.Prefix.{IsPrefix};
-ghost use Rattle.lert_conelock.specs.Sight.{first_pass, BelongsTo, Keeps, Joined, Acted, Declined, Closed};
-ghost use Rattle.lert_conelock.specs.Lost.{lost};
+ghost use Rattle.lert_conelock.specs.Sight.{first_pass, BelongsTo, Keeps, Loses, Joined, Acted, Declined, Closed};
+ghost use Rattle.lert_conelock.specs.Lost.{lost, moves_of};
+ghost use Rattle.lert_conelock.specs.Moves.{Moves, waits_and_takes};
 
 use crate::pass::Pass;
 use crate::plays::Trying;
@@ -104,8 +105,10 @@ impl<S: Held> ConeLock<S> {
             Acted S.Held self.now.first (packet_of entry.now) reply 0 pass.old pass.new }
         ensures refused { (refusal : S.Refusal) → result ≡ Turn.Refused refusal →
             Declined S.Held self.now.first (packet_of entry.now) refusal 0 pass.old pass.new }
-        ensures busy { result ≡ Turn.Busy → pass.new ≡ record pass.old { met = pass.old.met + 1 } }
+        ensures busy { result ≡ Turn.Busy → Loses pass.old pass.new }
         ensures met { pass.new.met ≡ pass.old.met + lost result }
+        ensures moved { Moves pass.old.lo pass.old.moves
+            (moves_of pass.old.lo pass.old.hi result) pass.new.moves }
     {
         try_turn::<S, Trying>(&self.table.shared, &mut pass.seat, entry)
     }
@@ -126,6 +129,8 @@ impl<S: Held> ConeLock<S> {
             Acted S.Held self.now.first (packet_of entry.now) reply 1 pass.old pass.new) }
         ensures refused { IfErr result (λ refusal.
             Declined S.Held self.now.first (packet_of entry.now) refusal 1 pass.old pass.new) }
+        ensures moved { (lost : ℕ) × (pass.new.met ≡ pass.old.met + lost) × Moves pass.old.lo
+            pass.old.moves (waits_and_takes pass.old.lo pass.old.hi lost) pass.new.moves }
     {
         take_turn(rt, &self.table.shared, &mut pass.seat, entry)
     }

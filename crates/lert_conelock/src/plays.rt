@@ -1,12 +1,13 @@
 //! What each step tells, and what it is told: types for the proof alone.
 
-ghost use Rattle.std.specs.Prelude.{◌≡◌, ℕ, ◌∷◌, [], ◌≤◌, length, Bool, false, Option, Some, None};
+ghost use Rattle.std.specs.Prelude.{◌≡◌, ℕ, ◌∷◌, [], ◌≤◌, List, length, Bool, false, Option, Some, None};
 ghost use Rattle.std.specs.Option.{option_map};
 ghost use Rattle.atomic_table.specs.Table.{rest};
 ghost use Rattle.lert_base.specs.Packet.{Packet};
-ghost use Rattle.lert_conelock.specs.Shown.{Shown, missed, committed, noted, freed, lower, upper, both_of};
-ghost use Rattle.lert_conelock.specs.Steps.{Took, Looked};
+ghost use Rattle.lert_conelock.specs.Shown.{Shown, committed, noted, freed, lower, upper, both_of};
+ghost use Rattle.lert_conelock.specs.Steps.{Took, Missed, Looked};
 ghost use Rattle.lert_conelock.specs.Prefix.{IsPrefix};
+ghost use Rattle.lert_conelock.specs.Moves.{Move, Free, Moves};
 
 use crate::view::View;
 use atomic_table::{Join, Play, Split};
@@ -70,7 +71,7 @@ pub struct Takes<S, N> {
 impl<S: Held, N: Naming> Play<Option<S>, View<S, S::Refusal>> for Takes<S, N> {
     ghost then = { λ step before found after. (p : Shown S S.Refusal) → before.0 ≡ Some p →
         (found ≡ 0 → (state : S) × Took S.Held N.packet p state (Some state) after)
-        × ((found ≡ 0 → ⊥) → after ≡ (Some (missed p), [])) };
+        × ((found ≡ 0 → ⊥) → Missed p after) };
 }
 
 pub struct Commits<S> {
@@ -97,7 +98,8 @@ pub struct Frees<S, C> {
 
 impl<S: Held, C: Counting> Play<Option<S>, View<S, S::Refusal>> for Frees<S, C> {
     ghost then = { λ step before found after. (p : Shown S S.Refusal) → before.0 ≡ Some p →
-        after ≡ (Some (freed C.more p), rest before.1) };
+        (moves : List Move) × Moves p.lo p.moves (Free p.lo ∷ []) moves
+        × (after ≡ (Some (freed C.more moves p), rest before.1)) };
 }
 
 pub struct Looks<S> {

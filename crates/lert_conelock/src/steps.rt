@@ -1,12 +1,13 @@
 //! The steps of the lock, each one step of its table.
 
-ghost use Rattle.std.specs.Prelude.{◌≡◌, ℕ, ◌<◌, ◌≤◌, ◌^◌, [], ◌∷◌, length, Option, Some, None, IsTrue, IsFalse};
+ghost use Rattle.std.specs.Prelude.{◌≡◌, ℕ, ◌<◌, ◌≤◌, ◌^◌, [], ◌∷◌, List, length, Option, Some, None, IsTrue, IsFalse};
 ghost use Rattle.atomic_table.specs.Table.{rest};
 ghost use Rattle.lert_base.specs.Packet.{Packet};
 ghost use Rattle.lert_base.specs.Entries.{packet_of};
 ghost use Rattle.lert_conelock.specs.Prefix.{IsPrefix};
-ghost use Rattle.lert_conelock.specs.Shown.{Shown, missed, committed, noted, freed, lower, upper, joined};
-ghost use Rattle.lert_conelock.specs.Steps.{MayTake, IsIdle, IsTrying, Took, HasLock, Looked, IsReason};
+ghost use Rattle.lert_conelock.specs.Moves.{Move, Free, Moves};
+ghost use Rattle.lert_conelock.specs.Shown.{Shown, committed, noted, freed, lower, upper, joined};
+ghost use Rattle.lert_conelock.specs.Steps.{MayTake, IsIdle, IsTrying, Took, Missed, HasLock, Looked, IsReason};
 
 use crate::plays::{
     Agrees, Both, Commits, Counting, Cutting, Frees, Halves, Looks, Naming, Notes, Takes, Telling,
@@ -24,7 +25,7 @@ pub fn take<S: Held, N: Naming>(shared: &Shared<S>, seat: &mut Seat<S>, entry: &
     ensures won { (p : Shown S S.Refusal) → seat.old.me.0 ≡ Some p → IsTrue result →
         (state : S) × Took S.Held (packet_of entry.now) p state (Some state) seat.new.me }
     ensures lost { (p : Shown S S.Refusal) → seat.old.me.0 ≡ Some p → IsFalse result →
-        seat.new.me ≡ (Some (missed p), []) }
+        Missed p seat.new.me }
 {
     shared.compare_exchange::<Takes<S, N>>(seat, 0, 0, 1) == 0
 }
@@ -69,7 +70,8 @@ pub fn free<S: Held, C: Counting>(shared: &Shared<S>, seat: &mut Seat<S>)
     requires lock { (state : S) × HasLock S.Held state (Some state) seat.old.me }
     ensures seat { (seat.new.table_id ≡ seat.old.table_id) × (seat.new.id ≡ seat.old.id) }
     ensures freed { (p : Shown S S.Refusal) → seat.old.me.0 ≡ Some p →
-        seat.new.me ≡ (Some (freed C.more p), rest seat.old.me.1) }
+        (moves : List Move) × Moves p.lo p.moves (Free p.lo ∷ []) moves
+        × (seat.new.me ≡ (Some (freed C.more moves p), rest seat.old.me.1)) }
 {
     shared.swap::<Frees<S, C>>(seat, 0, 0);
 }

@@ -3,9 +3,10 @@
 ghost use Rattle.std.specs.Prelude.{◌≡◌, ℕ, ◌<◌, ◌≤◌, ◌^◌, [], ◌∷◌, ◌++◌, List, length, Option, Some, None, IsTrue, IfSome, IfNone, IfOk, IfErr};
 ghost use Rattle.lert_base.specs.Packet.{Packet};
 ghost use Rattle.lert_base.specs.Entries.{packet_of};
-ghost use Rattle.lert_conelock.specs.Shown.{Shown, missed, freed};
-ghost use Rattle.lert_conelock.specs.Steps.{MayTake, Took, HasLock};
-ghost use Rattle.lert_conelock.specs.Turns.{WasTaken, WasRefused};
+ghost use Rattle.lert_conelock.specs.Shown.{Shown, freed};
+ghost use Rattle.lert_conelock.specs.Moves.{Move, Free, Moves};
+ghost use Rattle.lert_conelock.specs.Steps.{MayTake, Took, Missed, HasLock};
+ghost use Rattle.lert_conelock.specs.Turns.{Waited, WasTaken, WasRefused};
 
 use crate::plays::{Counting, Waiting};
 use crate::rule::{Seat, Shared};
@@ -34,7 +35,7 @@ fn take_state<S: Held>(shared: &Shared<S>, seat: &mut Seat<S>, entry: &Entry) ->
     ensures won { (p : Shown S S.Refusal) → seat.old.me.0 ≡ Some p →
         IfSome result (λ state. Took S.Held (packet_of entry.now) p state None seat.new.me) }
     ensures lost { (p : Shown S S.Refusal) → seat.old.me.0 ≡ Some p →
-        IfNone result (seat.new.me ≡ (Some (missed p), [])) }
+        IfNone result (Missed p seat.new.me) }
 {
     if steps::take::<S, Brand>(shared, seat, entry) {
         shared.exchange(seat, 0, None)
@@ -50,7 +51,8 @@ fn bring_home<S: Held, C: Counting>(shared: &Shared<S>, seat: &mut Seat<S>, stat
     requires lock { HasLock S.Held state None seat.old.me }
     ensures seat { (seat.new.table_id ≡ seat.old.table_id) × (seat.new.id ≡ seat.old.id) }
     ensures freed { (p : Shown S S.Refusal) → seat.old.me.0 ≡ Some p →
-        seat.new.me ≡ (Some (freed C.more p), []) }
+        (moves : List Move) × Moves p.lo p.moves (Free p.lo ∷ []) moves
+        × (seat.new.me ≡ (Some (freed C.more moves p), [])) }
 {
     match shared.exchange(seat, 0, Some(state)) {
         Some(_) => unreachable!(),
@@ -79,7 +81,7 @@ pub fn try_turn<S: Held, C: Counting>(
         result ≡ Turn.Refused refusal → (q : Shown S S.Refusal) × (seat.new.me ≡ (Some q, []))
         × WasRefused S.Held (packet_of entry.now) refusal C.more p q }
     ensures busy { (p : Shown S S.Refusal) → seat.old.me.0 ≡ Some p → result ≡ Turn.Busy →
-        seat.new.me ≡ (Some (missed p), []) }
+        Missed p seat.new.me }
 {
     let Some(mut state) = take_state(shared, seat, entry) else {
         return Turn::Busy;
@@ -112,11 +114,11 @@ pub fn take_turn<S: Held, R: Wait>(
         S.fits (S.terms p.first) (packet_of entry.now) }
     ensures seat { seat.new.table_id ≡ seat.old.table_id }
     ensures done { (p : Shown S S.Refusal) → seat.old.me.0 ≡ Some p → IfOk result (λ reply.
-        (q : Shown S S.Refusal) × (m : ℕ) × (p.met ≤ m) × (seat.new.me ≡ (Some q, []))
-        × WasTaken S.Held (packet_of entry.now) reply 1 (record p { met = m }) q) }
+        (w q : Shown S S.Refusal) × Waited p w × (seat.new.me ≡ (Some q, []))
+        × WasTaken S.Held (packet_of entry.now) reply 1 w q) }
     ensures refused { (p : Shown S S.Refusal) → seat.old.me.0 ≡ Some p → IfErr result (λ refusal.
-        (q : Shown S S.Refusal) × (m : ℕ) × (p.met ≤ m) × (seat.new.me ≡ (Some q, []))
-        × WasRefused S.Held (packet_of entry.now) refusal 1 (record p { met = m }) q) }
+        (w q : Shown S S.Refusal) × Waited p w × (seat.new.me ≡ (Some q, []))
+        × WasRefused S.Held (packet_of entry.now) refusal 1 w q) }
 {
     for _ in rt.forever() {
         match try_turn::<S, Waiting>(shared, seat, entry) {

@@ -3,8 +3,9 @@
 ghost use Rattle.std.specs.Prelude.{◌≡◌, ℕ, ◌+◌, ◌<◌, ◌≤◌, List, length, slice_get, Some, All, IfOk, IfErr, OnOk, OnErr};
 ghost use Rattle.lert_base.specs.Packet.{Packet};
 ghost use Rattle.lert_base.specs.Entries.{packet_of};
-ghost use Rattle.lert_conelock.specs.Sight.{LockSight, Keeps, Acted, Declined};
-ghost use Rattle.lert_conelock.specs.Lost.{lost};
+ghost use Rattle.lert_conelock.specs.Sight.{LockSight, Keeps, Loses, Acted, Declined};
+ghost use Rattle.lert_conelock.specs.Lost.{lost, moves_of};
+ghost use Rattle.lert_conelock.specs.Moves.{Moves, waits_and_takes};
 ghost use Rattle.lert_fleet.specs.Cones.{IsFleetOf, IsPassOf, IsWhole, first_passes, below, from, AtCone, ChangesOnly, JoinsEach, ClosesEach};
 
 use crate::pass::FleetPass;
@@ -152,10 +153,12 @@ impl<S: Held> Fleet<S> {
         ensures refused { (refusal : S.Refusal) → result ≡ Turn.Refused refusal →
             AtCone (λ lock. Declined S.Held lock.first (packet_of entry.now) refusal 0)
             self.now cone pass.old pass.new }
-        ensures busy { result ≡ Turn.Busy → AtCone (λ lock old new.
-            new ≡ record old { met = old.met + 1 }) self.now cone pass.old pass.new }
+        ensures busy { result ≡ Turn.Busy → AtCone (λ lock old new. Loses old new)
+            self.now cone pass.old pass.new }
         ensures met { AtCone (λ lock old new. new.met ≡ old.met + lost result)
             self.now cone pass.old pass.new }
+        ensures moved { AtCone (λ lock old new. Moves old.lo old.moves (moves_of old.lo old.hi result)
+            new.moves) self.now cone pass.old pass.new }
     {
         let own = &mut pass.cones[cone as usize];
         self.locks[cone as usize].try_act(own, entry)
@@ -184,6 +187,9 @@ impl<S: Held> Fleet<S> {
         ensures refused { IfErr result (λ refusal.
             AtCone (λ lock. Declined S.Held lock.first (packet_of entry.now) refusal 1)
             self.now cone pass.old pass.new) }
+        ensures moved { AtCone (λ lock old new. (lost : ℕ) × (new.met ≡ old.met + lost)
+            × Moves old.lo old.moves (waits_and_takes old.lo old.hi lost) new.moves)
+            self.now cone pass.old pass.new }
     {
         let own = &mut pass.cones[cone as usize];
         self.locks[cone as usize].act(rt, own, entry)

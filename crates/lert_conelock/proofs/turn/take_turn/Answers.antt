@@ -1,7 +1,7 @@
 use Rattle.std.proofs.Common.{refl, ◌∙◌}
 use Rattle.lert_base.specs.Entries.{packet_of}
 use Rattle.lert_conelock.specs.Turns.{WasTaken, WasRefused}
-use Rattle.lert_conelock.proofs.Waiting.{waits_first, waits_on, waiter, waiter_is, waits_may, still_first, at_last}
+use Rattle.lert_conelock.proofs.Waiting.{waits_first, waits_on, waiter_is, waits_may, still_first, at_last}
 use Rattle.lert_conelock.proofs.turn.take_turn.Goals as goal
 
 pub loop-init : goal.loop-init
@@ -12,7 +12,7 @@ loop-preserved g c = let w = c.loop.invariant.waiting in record {
   can_next = tt;
   is_finite = tt;
   table = c.try_turn.ensures.seat.0 ∙ c.loop.invariant.table;
-  waiting = waits_on _ _ _ w _ (c.in-Busy.ensures.busy (waiter _ _ _ w) (waiter_is _ _ _ w) refl);
+  waiting = waits_on _ _ _ w _ (c.in-Busy.ensures.busy w.waiter (waiter_is _ _ _ w) refl);
 }
 
 pub try_turn-requires : goal.try_turn-requires
@@ -32,9 +32,9 @@ returns-in-Refused-clause-seat g c = c.in-Refused.ensures.seat.0 ∙ c.loop.inva
 pub returns-in-Done-clause-done : goal.returns-in-Done-clause-done
 returns-in-Done-clause-done g c = let w = c.loop.invariant.waiting in let S = g.S.Held in
     at_last _ _ _ w (WasTaken g.S.Held (packet_of c.args.entry.now) c.in-Done.reply 1) _
-    (c.in-Done.ensures.done (waiter _ _ _ w) c.in-Done.reply (waiter_is _ _ _ w) refl)
+    (c.in-Done.ensures.done w.waiter c.in-Done.reply (waiter_is _ _ _ w) refl)
 
 pub returns-in-Refused-clause-refused : goal.returns-in-Refused-clause-refused
 returns-in-Refused-clause-refused g c = let w = c.loop.invariant.waiting in let S = g.S.Held in
     at_last _ _ _ w (WasRefused g.S.Held (packet_of c.args.entry.now) c.in-Refused.refusal 1) _
-    (c.in-Refused.ensures.refused (waiter _ _ _ w) c.in-Refused.refusal (waiter_is _ _ _ w) refl)
+    (c.in-Refused.ensures.refused w.waiter c.in-Refused.refusal (waiter_is _ _ _ w) refl)

@@ -1,4 +1,5 @@
-use Rattle.lert_conelock.proofs.Seeing.{idles, takes, first_of, turned, turned_keeps, turned_met, turned_inside, acted_once, declined_once, lost_once}
+use Rattle.lert_conelock.proofs.Seeing.{idles, takes, first_of, turned, turned_keeps, turned_met, turned_moved, seen_moves, turned_inside, acted_once, declined_once, lost_once}
+use Rattle.lert_conelock.specs.Lost.{moves_of}
 use Rattle.lert_conelock.proofs.Turning.{trier}
 use Rattle.lert_conelock.proofs.lock.ConeLock.try_act.Goals as goal
 
@@ -8,22 +9,29 @@ try_turn-requires-clause-idle g c = takes _ c.pass.inside.seat.me _ c.pass.view_
 
 pub invariant_of-pass : goal.invariant_of-pass
 invariant_of-pass g c = let me = idles _ c.pass.invariant.0 c.pass.invariant.1 in let did = c.try_turn.ensures in
-    turned_inside _ _ c.pass.inside.seat.me c.try_turn.new.seat.me _ c.pass.view_is did.seat.0 me.pass (trier me) _
+    turned_inside _ _ c.pass.inside.seat.me c.try_turn.new.seat.me _ c.pass.view_is did.seat.0 me.pass (trier me) _ _
     (turned _ _ _ c.pass.inside.seat.table_id me.pass _ c.try_turn.result (λ r. did.done me.pass r (trier me))
     (λ f. did.refused me.pass f (trier me)) (did.busy me.pass (trier me)) me.idle)
     c.pass.inside.lo c.pass.invariant.2
 
 pub returns-clause-kept : goal.returns-clause-kept
 returns-clause-kept g c = let me = idles _ c.pass.invariant.0 c.pass.invariant.1 in let did = c.try_turn.ensures in
-    turned_keeps _ _ c.pass.inside.seat.me c.try_turn.new.seat.me _ c.pass.view_is did.seat.0 me.pass (trier me) _
+    turned_keeps _ _ c.pass.inside.seat.me c.try_turn.new.seat.me _ c.pass.view_is did.seat.0 me.pass (trier me) _ _
     (turned _ _ _ c.pass.inside.seat.table_id me.pass _ c.try_turn.result (λ r. did.done me.pass r (trier me))
     (λ f. did.refused me.pass f (trier me)) (did.busy me.pass (trier me)) me.idle)
 
 pub returns-clause-met : goal.returns-clause-met
 returns-clause-met g c = let me = idles _ c.pass.invariant.0 c.pass.invariant.1 in let did = c.try_turn.ensures in
-    turned_met _ _ c.pass.inside.seat.me c.try_turn.new.seat.me _ c.pass.view_is did.seat.0 me.pass (trier me) _
+    turned_met _ _ c.pass.inside.seat.me c.try_turn.new.seat.me _ c.pass.view_is did.seat.0 me.pass (trier me) _ _
     (turned _ _ _ c.pass.inside.seat.table_id me.pass _ c.try_turn.result (λ r. did.done me.pass r (trier me))
     (λ f. did.refused me.pass f (trier me)) (did.busy me.pass (trier me)) me.idle)
+
+pub returns-clause-moved : goal.returns-clause-moved
+returns-clause-moved g c = let me = idles _ c.pass.invariant.0 c.pass.invariant.1 in let did = c.try_turn.ensures in
+    let moved = turned_moved _ _ c.pass.inside.seat.me c.try_turn.new.seat.me _ c.pass.view_is did.seat.0 me.pass (trier me) _ _
+    (turned _ _ _ c.pass.inside.seat.table_id me.pass _ c.try_turn.result (λ r. did.done me.pass r (trier me))
+    (λ f. did.refused me.pass f (trier me)) (did.busy me.pass (trier me)) me.idle) in
+    seen_moves _ c.pass.inside.seat.me _ c.pass.view_is me.pass (trier me) (λ lo hi. moves_of lo hi c.try_turn.result) _ moved
 
 pub returns-clause-done : goal.returns-clause-done
 returns-clause-done g c reply is = let me = idles _ c.pass.invariant.0 c.pass.invariant.1 in let did = c.try_turn.ensures in

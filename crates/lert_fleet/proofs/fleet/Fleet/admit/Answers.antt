@@ -1,7 +1,8 @@
-use Rattle.std.proofs.Common.{◌∙◌, sym}
+use Rattle.std.proofs.Common.{◌≡◌, ℕ, ◌+◌, ◌∙◌, sym}
 use Rattle.std.proofs.lemmas.Result.{IfOk-weaker, IfErr-weaker}
 use Rattle.lert_base.specs.Entries.{packet_of}
 use Rattle.lert_conelock.specs.Sight.{Keeps, Acted, Declined}
+use Rattle.lert_conelock.specs.Moves.{Moves, waits_and_takes}
 use Rattle.lert_fleet.proofs.Turning.{here, own, changes_only, at_cone, still}
 use Rattle.lert_fleet.proofs.fleet.Fleet.admit.Goals as goal
 
@@ -54,3 +55,10 @@ returns-clause-refused g c = let at = here c.self.inside.locks.items c.args.self
     c.requires.belongs c.index_mut-own.result.now c.index_mut-own.ensures.value in
     IfErr-weaker c.act.result _ _ (λ refusal is.
     at_cone at c.act.new.pass (λ lock. Declined g.S.Held lock.first (packet_of c.args.entry.now) refusal 1) is) c.act.ensures.refused
+
+pub returns-clause-moved : goal.returns-clause-moved
+returns-clause-moved g c = let at = here c.self.inside.locks.items c.args.self.now c.self.view_is c.args.cone c.index.result.now c.deref.result.now
+    c.requires.cone c.index.ensures c.deref.ensures c.pass.inside.lo c.pass.inside.hi c.pass.inside.cones.items c.args.pass.now c.pass.view_is
+    c.requires.belongs c.index_mut-own.result.now c.index_mut-own.ensures.value in
+    at_cone at c.act.new.pass (λ lock old new. (lost : ℕ) × (new.met ≡ old.met + lost) × Moves old.lo old.moves (waits_and_takes old.lo old.hi lost) new.moves)
+    c.act.ensures.moved

@@ -1,7 +1,8 @@
 use Rattle.std.proofs.Common.{◌≡◌, ◌+◌, ◌∙◌, sym}
 use Rattle.lert_base.specs.Entries.{packet_of}
-use Rattle.lert_conelock.specs.Sight.{Keeps, Acted, Declined}
-use Rattle.lert_conelock.specs.Lost.{lost}
+use Rattle.lert_conelock.specs.Sight.{Keeps, Loses, Acted, Declined}
+use Rattle.lert_conelock.specs.Lost.{lost, moves_of}
+use Rattle.lert_conelock.specs.Moves.{Moves}
 use Rattle.lert_fleet.proofs.Turning.{here, own, changes_only, at_cone, still}
 use Rattle.lert_fleet.proofs.fleet.Fleet.try_admit.Goals as goal
 
@@ -59,10 +60,16 @@ pub returns-clause-busy : goal.returns-clause-busy
 returns-clause-busy g c is = let at = here c.self.inside.locks.items c.args.self.now c.self.view_is c.args.cone c.index.result.now c.deref.result.now
     c.requires.cone c.index.ensures c.deref.ensures c.pass.inside.lo c.pass.inside.hi c.pass.inside.cones.items c.args.pass.now c.pass.view_is
     c.requires.belongs c.index_mut-own.result.now c.index_mut-own.ensures.value in
-    at_cone at c.try_act.new.pass (λ lock old new. new ≡ record old { met = old.met + 1 }) (c.try_act.ensures.busy is)
+    at_cone at c.try_act.new.pass (λ lock old new. Loses old new) (c.try_act.ensures.busy is)
 
 pub returns-clause-met : goal.returns-clause-met
 returns-clause-met g c = let at = here c.self.inside.locks.items c.args.self.now c.self.view_is c.args.cone c.index.result.now c.deref.result.now
     c.requires.cone c.index.ensures c.deref.ensures c.pass.inside.lo c.pass.inside.hi c.pass.inside.cones.items c.args.pass.now c.pass.view_is
     c.requires.belongs c.index_mut-own.result.now c.index_mut-own.ensures.value in
     at_cone at c.try_act.new.pass (λ lock old new. new.met ≡ old.met + lost c.try_act.result) c.try_act.ensures.met
+
+pub returns-clause-moved : goal.returns-clause-moved
+returns-clause-moved g c = let at = here c.self.inside.locks.items c.args.self.now c.self.view_is c.args.cone c.index.result.now c.deref.result.now
+    c.requires.cone c.index.ensures c.deref.ensures c.pass.inside.lo c.pass.inside.hi c.pass.inside.cones.items c.args.pass.now c.pass.view_is
+    c.requires.belongs c.index_mut-own.result.now c.index_mut-own.ensures.value in
+    at_cone at c.try_act.new.pass (λ lock old new. Moves old.lo old.moves (moves_of old.lo old.hi c.try_act.result) new.moves) c.try_act.ensures.moved
