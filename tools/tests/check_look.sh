@@ -276,13 +276,14 @@ check_watch() {
     has python3 || return
     key=$(echo the | keys pack --hash packed && keys unpack packed)
     gives 'refuses the run over a refused stream' 4 '' \
-        'keys: standard input, line 4: no decimal number below 2^64\nlert: trace 0 bad at 32\n' refused_stream
+        'keys: standard input, line 4: no decimal number below 2^64\nlert: trace 0 bad at 32\nlert: trace 0 is /dev/stdin, whose writer stopped inside a key\n' \
+        refused_stream
     gives 'watches a run while it goes on' 0 \
         "$report$key 3\n${total}0 $key 3 the\n0 $key 3 the\n$report$total" '' watched_run /dev/stdin
     has mkfifo && gives 'watches a run of two cones from a named pipe' 0 '' '' watched_fifo
     has mkfifo /proc/locks && gives 'watches a run until it is killed' 1 '0 7 3\n' "$stopped" watched_killed
     has flock /proc/locks && gives 'watches a run until nobody has it open' 1 '0 7 3\n' \
-        "lert: trace 0 bad at 104\n$stopped" watched_held
+        "lert: trace 0 bad at 104\nlert: trace 0 is cut_late, which ends inside a key, $cut\n$stopped" watched_held
     has /proc/locks && gives 'shows how far a run came that was stopped' 1 \
         'events 12 a second 0 fullest 12 of 9555\n' "$stopped" watch --progress d
     gives 'watches no directory' 1 '' 'watch: nowhere: there are no logs of a run: no cone-000.journal\n' \
@@ -371,7 +372,8 @@ check_picture() {
     gives 'a picture without matplotlib' 2 '' "$told" env PYTHONPATH=hidden "$top/tools/picture" d
     python_with matplotlib || return
     gives 'a picture of sixteen cones' 0 '' '' pictured 4
-    has /proc/locks && gives 'a picture of a stopped run' 0 '' 'lert: trace 0 bad at 240008\n' pictured_stopped
+    has /proc/locks && gives 'a picture of a stopped run' 0 '' \
+        "lert: trace 0 bad at 240008\nlert: trace 0 is packed, which ends inside a key, $cut\n" pictured_stopped
     gives 'a picture of one cone' 0 '' '' pictured 0
     if mknod page_device c 1 3 2>"$work/said"; then
         gives 'draws behind a link and into a device' 0 \

@@ -2,6 +2,9 @@
 
 # --- ./lert
 
+# What ./lert says of a trace that is cut.
+cut='as the trace of a refused input or a cut copy does'
+
 lert() { "$top/lert" "$@"; }
 # Runs in the directory of the run before.
 run_again() { lert run --threshold 3 --cone-bits 0 d "$1"; }
@@ -112,7 +115,7 @@ check_files() {
     gives 'the files of a run' 0 "$files" '' files_left
     gives 'a run on the files of another' 6 '' 'lert: cone 0 not fresh\n' run_again sevens
     gives 'the files after it' 0 "$files" '' files_left
-    gives 'a file as the directory' 2 '' 'lert: place fault\n' run_beside_file sevens
+    gives 'a file as the directory' 2 '' 'lert: place fault\nlert: d: Not a directory\n' run_beside_file sevens
     rm -f d
 }
 
@@ -131,7 +134,8 @@ run_on_full_disk() {
 }
 
 check_directories() {
-    gives 'a folder in the place of a file' 2 '' 'lert: place fault\n' run_over_folder sevens
+    gives 'a folder in the place of a file' 2 '' 'lert: place fault\nlert: d/cone-000.frames is no file\n' \
+        run_over_folder sevens
     has /proc/self && gives 'a directory that takes no file' 2 '' 'lert: place fault\n' run_in /proc/d sevens
     rm -rf d
     { printf 'LERT\1\0\0\0' && head -c 160000 /dev/zero; } >long
@@ -141,18 +145,25 @@ check_directories() {
         return
     fi
     umount small
-    gives 'a full disk' 7 '' 'lert: cone 0 disk fault\n' run_on_full_disk long
+    gives 'a full disk' 7 '' 'lert: cone 0 disk fault\nlert: the disk of small/d is full: 0 bytes are free\n' \
+        run_on_full_disk long
 }
 
 check_bad_traces() {
-    gives 'a trace that is not there' 2 '' 'lert: place fault\n' run nowhere
-    gives 'a folder as a trace' 3 '' 'lert: trace 0 fault\n' run .
-    gives 'an empty file' 4 '' 'lert: trace 0 bad at 0\n' run empty
-    gives 'a file that ends in the header' 4 '' 'lert: trace 0 bad at 7\n' run cut_header
-    gives 'a wrong header byte' 4 '' 'lert: trace 0 bad at 3\n' run other_header
-    gives 'a file that ends inside a key' 4 '' 'lert: trace 0 bad at 16\n' run cut_key
-    gives 'two bad traces' 4 '' 'lert: trace 1 bad at 16\n' run_workers 4 sevens cut_key other_header
-    gives 'a trace that fails beside a bad one' 3 '' 'lert: trace 2 fault\n' run_workers 4 sevens cut_key .
+    local other=", which doesn't begin as a trace does"
+    gives 'a trace that is not there' 2 '' 'lert: place fault\nlert: nowhere: No such file or directory\n' run nowhere
+    gives 'a folder as a trace' 3 '' 'lert: trace 0 fault\nlert: trace 0 is ., a directory\n' run .
+    gives 'an empty file' 4 '' 'lert: trace 0 bad at 0\nlert: trace 0 is empty, which is empty\n' run empty
+    gives 'a file that ends in the header' 4 '' \
+        "lert: trace 0 bad at 7\nlert: trace 0 is cut_header, which ends inside its header, $cut\n" run cut_header
+    gives 'a wrong header byte' 4 '' "lert: trace 0 bad at 3\nlert: trace 0 is other_header$other\n" run other_header
+    gives 'a file that ends inside a key' 4 '' \
+        "lert: trace 0 bad at 16\nlert: trace 0 is cut_key, which ends inside a key, $cut\n" run cut_key
+    gives 'two bad traces' 4 '' \
+        "lert: trace 1 bad at 16\nlert: trace 1 is cut_key, which ends inside a key, $cut\n" \
+        run_workers 4 sevens cut_key other_header
+    gives 'a trace that fails beside a bad one' 3 '' 'lert: trace 2 fault\nlert: trace 2 is ., a directory\n' \
+        run_workers 4 sevens cut_key .
 }
 
 check_reports() {
