@@ -1,4 +1,6 @@
-"""A page of the manual, made of a document in Markdown: headings, paragraphs, lists, tables and blocks of code."""
+"""Pages of the manual, made of a document in Markdown, with headings, paragraphs, lists, tables and blocks of code, or of
+what a tool says of itself.
+"""
 
 from __future__ import annotations
 
@@ -90,10 +92,25 @@ def lines_of(part: list[str]) -> Iterator[str]:
         yield f".PP\n{inline(' '.join(line.strip() for line in part))}"
 
 
+def beginning(name: str, what: str, epoch: int) -> list[str]:
+    day = time.strftime("%Y-%m-%d", time.gmtime(epoch))
+    title = escaped(name.upper())
+    return [f'.TH {title} 1 "{day}"', ".SH NAME", f"{escaped(name)} \\- {escaped(what)}", ".SH DESCRIPTION"]
+
+
 def page_of(text: str, name: str, epoch: int) -> str:
     """The page of a program, of a document that begins with a heading."""
     head, _, rest = text.partition("\n")
-    day = time.strftime("%Y-%m-%d", time.gmtime(epoch))
-    begin = [f'.TH {name.upper()} 1 "{day}"', ".SH NAME", f"{name} \\- reports each key that occurs a given number of times"]
-    begin += [".SH DESCRIPTION"]
+    begin = beginning(name, "reports each key that occurs a given number of times", epoch)
     return "\n".join([*begin, *(line for part in blocks(rest) for line in lines_of(part))]) + "\n"
+
+
+def help_page(told: str, name: str, full: str, epoch: int) -> str:
+    """The page of a tool, of its own help, in which it has a shorter name."""
+    # Where the first paragraph shows the words, the next one says what it does.
+    paragraphs = told.split("\n\n")
+    what = paragraphs[1] if told.startswith("usage:") else paragraphs[0]
+    first = " ".join(re.split(r"(?<=[.:])\s", what.replace("\n", " "), maxsplit=1)[0].split()).rstrip(".:")
+    lines = re.sub(rf"(?m)^(usage: )?{name}(?= )", rf"\g<1>{full}", told).rstrip("\n").split("\n")
+    body = [".nf", *(escaped(line) for line in lines), ".fi"]
+    return "\n".join([*beginning(full, first, epoch), *body]) + "\n"

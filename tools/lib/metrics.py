@@ -6,13 +6,16 @@ import os
 from pathlib import Path
 from typing import Iterator, Sequence
 
+from .plain import escaped
+
 ESCAPES = str.maketrans({"\\": r"\\", '"': r"\"", "\n": r"\n"})
 
 
 def printed(value: object) -> str:
-    """A label's value: in its own escapes, and with no other byte that a terminal obeys."""
-    text = str(value).translate(ESCAPES)
-    return "".join(one if one.isprintable() else "?" for one in text)
+    """A label's value: in its own escapes, and with no other byte that a terminal obeys. Such a one stands as \\xNN, so that
+    two values stay two."""
+    several = (one if one.isprintable() or one == "\n" else escaped(one) for one in str(value))
+    return "".join(several).translate(ESCAPES)
 
 
 class Metric:

@@ -264,25 +264,6 @@ check_live() {
     gives 'a second service' 2 '' 'live: l/state: another service has this directory\n' flock l/state "$top/tools/live" l
 }
 
-# --- a package
-
-# Two packages are the same bytes, and what is in one works.
-packed_twice() {
-    local package=$top/tools/build/package
-    rm -rf x l && "$package" first.deb && "$package" second.deb && cmp first.deb second.deb || return
-    dpkg-deb -x first.deb x && printf '%s\n' ann bob ann ann | x/usr/bin/lert-live --threshold 3 l 2>said | cut -d' ' -f4-
-    x/usr/bin/lert-report l/run-* | head -n 1 && zcat x/usr/share/man/man1/lert.1.gz | head -n 1
-}
-
-check_package() {
-    has dpkg-deb zcat || return
-    if ! "$top/tools/build/package" first.deb 2>said && grep -q 'other sources' said; then
-        echo 'skipped: the program in dist/ is of other sources'
-        return
-    fi
-    gives 'a package' 0 '4 ann\ncone 0 events 4 of 786432 reports 1 closed\n.TH LERT 1 "2026-11-30"\n' '' packed_twice
-}
-
 check_use() {
     has python3 || return
     says live 'usage: live [OPTION].. DIR [-- COMMAND..]'
@@ -291,6 +272,7 @@ check_use() {
     check_fit
     check_report
     check_live
+    check_metrics
     check_package
     gives 'the commands of docs/USE.md' 0 '' '' commands "$top/docs/USE.md"
 }
