@@ -21,6 +21,9 @@
 //! agree   1     none: of two lists seen, the lesser begins the other   join
 //! ```
 //!
+//! What callers do to word 0 is one list too (`specs/Moves.antt`): a take is missed, and counted as lost,
+//! only while another caller has the lock.
+//!
 //! Nothing is said of progress: not that a wait ends, nor whose turn comes first.
 #![tactic(auto)]
 

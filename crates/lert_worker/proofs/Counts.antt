@@ -1,9 +1,12 @@
--- How many keys and tries a ring counts.
+-- How many keys and tries a ring counts, and how many takes a pass lost.
 use Rattle.std.proofs.Common.{◌≡◌, ◌≢◌, ◌⊎◌, ℕ, zero, suc, ◌+◌, ◌-◌, ◌*◌, ◌/◌, ◌<◌, ◌≤◌, Bool, true, false, cond, eqb, ◌||◌}
 use Rattle.std.proofs.Common.{refl, ap, sym, ◌∙◌, inl, inr, arith}
 use Rattle.std.proofs.Common.{div-mul-le_self, mul-le-mul_left, mul-le-mul_right, suc-mul}
 use Rattle.std.proofs.lemmas.Bool.{cases_eq, eq-eqb, ne_eqb}
 use Rattle.lert_buffers.specs.Rings.{fill_of}
+use Rattle.lert_conelock.specs.Moves.{misses, own_moves}
+use Rattle.lert_conelock.specs.Sight.{Sight, Counts}
+use Rattle.lert_conelock.proofs.Prefixes.{prefix_itself, prefix_trans}
 use Rattle.lert_buffers.specs.declared.buffers.Fill.TheVariants.{Low, MustGo, Ready}
 
 -- a number of packets is at most the number of their keys
@@ -125,3 +128,16 @@ ready_short packet n some is =
 pub one_of : (b : Bool) → b ≡ true → 1 ≤ cond b 1 0
 one_of true is = omega arith
 one_of false is = absurd (cc)
+
+-- a pass that made no call counts no take more
+pub counts_none : {H F : Type 0} (own : Sight H F) → Counts own own
+counts_none own = record { lo_is = refl; begins = prefix_itself own.moves; orderly = λ is. is; met = refl }
+
+pub counts_on : {H F : Type 0} (old mid new : Sight H F) → Counts old mid → Counts mid new → Counts old new
+counts_on old mid new before after = record {
+  lo_is = after.lo_is ∙ before.lo_is;
+  begins = prefix_trans before.begins after.begins;
+  orderly = λ is. after.orderly (before.orderly is);
+  met = (let known = ap (λ n. misses (own_moves mid.moves n)) before.lo_is in let now = ap (λ n. misses (own_moves new.moves n)) before.lo_is in
+      omega (arith, before.met, after.met, known, now));
+}

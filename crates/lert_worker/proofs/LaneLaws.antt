@@ -15,7 +15,7 @@ use Rattle.lert_spec.specs.Mix.{cone_of, part_of}
 use Rattle.lert_worker.specs.Brings.{full_packets, late_tries}
 use Rattle.lert_worker.specs.Outbox.{IsSendable}
 use Rattle.lert_worker.specs.Sending.{IsOf, Lane, WasBusy, WasTaken}
-use Rattle.lert_worker.proofs.Counts.{late_fits, step_back, times_least}
+use Rattle.lert_worker.proofs.Counts.{counts_none, counts_on, late_fits, step_back, times_least}
 
 -- the packet of a ring
 abbrev pub ringed : ℕ → ℕ → List ℕ → Packet
@@ -76,6 +76,7 @@ module _ {H F : Type 0} (s : Numbers) (number cone trace : ℕ) where
     joined = refl;
     waits = omega arith;
     met = λ k small. let least = times_least k s.packet some in omega (arith, least, small);
+    counts = counts_none before;
   }
 
   pub lane_same : (key : ℕ) (keys ring : List ℕ) (tried : ℕ) (before now : Sight H F) → cone_of s key ≡ cone
@@ -89,6 +90,7 @@ module _ {H F : Type 0} (s : Numbers) (number cone trace : ℕ) where
     joined = sym (append_assoc (events_of lane.sent) ring (key ∷ [])) ∙ (ap (λ xs. xs ++ key ∷ []) lane.joined ∙ sym (part-push_same s cone key keys same));
     waits = lane.waits;
     met = lane.met;
+    counts = lane.counts;
   }
 
   pub lane_other : (key : ℕ) (keys ring : List ℕ) (tried : ℕ) (before now : Sight H F) → cone_of s key ≢ cone
@@ -102,6 +104,7 @@ module _ {H F : Type 0} (s : Numbers) (number cone trace : ℕ) where
     joined = lane.joined ∙ sym (part-push_other s cone key keys other);
     waits = lane.waits;
     met = lane.met;
+    counts = lane.counts;
   }
 
   -- the ring asked for nothing
@@ -116,6 +119,7 @@ module _ {H F : Type 0} (s : Numbers) (number cone trace : ℕ) where
     joined = lane.joined;
     waits = lane.waits;
     met = λ k small. lane.met k (still k small);
+    counts = lane.counts;
   }
 
   module _ (some : 1 ≤ s.packet) (keys ring : List ℕ) (tried : ℕ) (before now : Sight H F)
@@ -124,13 +128,14 @@ module _ {H F : Type 0} (s : Numbers) (number cone trace : ℕ) where
     pub lane_stays : (after : Sight H F) → WasBusy now after → Lane s number cone trace keys (length ring) before after ring
     lane_stays after busy = record {
       sent = lane.sent;
-      calls_are = ap (λ (x : Sight H F). x.calls) busy ∙ lane.calls_are;
-      refused_are = ap (λ (x : Sight H F). x.refused) busy ∙ lane.refused_are;
+      calls_are = ap (λ (x : Sight H F). x.calls) busy.lost.shows ∙ lane.calls_are;
+      refused_are = ap (λ (x : Sight H F). x.refused) busy.lost.shows ∙ lane.refused_are;
       each = lane.each;
       whole = lane.whole;
       joined = lane.joined;
-      waits = let same = ap (λ (x : Sight H F). x.waits) busy in omega (arith, same, lane.waits);
-      met = met_more (ap (λ (x : Sight H F). x.met) busy);
+      waits = let same = ap (λ (x : Sight H F). x.waits) busy.lost.shows in omega (arith, same, lane.waits);
+      met = met_more (ap (λ (x : Sight H F). x.met) busy.lost.shows);
+      counts = counts_on before now after lane.counts busy.counts;
     }
       where
         met_more : after.met ≡ now.met + 1 → (k : ℕ) → k * s.packet ≤ length ring → before.met + sum_by (late_tries s) lane.sent + k ≤ after.met
@@ -165,4 +170,5 @@ module _ {H F : Type 0} (s : Numbers) (number cone trace : ℕ) where
             let least = times_least k s.packet some in
             let met = met_more after.met taken.met in
             omega (arith, least, small, met);
+        counts = counts_on before now after lane.counts taken.counts;
       }

@@ -2,7 +2,7 @@
 use Rattle.std.proofs.Common.{Result, Ok, Err, OnOk, IfErr, MatchResult, ◌≡◌, ◌+◌, ℕ, ◌<◌, List, [], length, set, ap, sym, ◌∙◌, subst}
 use Rattle.lert_base.specs.declared.held.Held.{Ghosts as HeldOf}
 use Rattle.lert_base.specs.Packet.{Packet}
-use Rattle.lert_conelock.specs.Sight.{Sight, Acted, Declined}
+use Rattle.lert_conelock.specs.Sight.{Sight, Keeps, Loses, Acted, Declined}
 use Rattle.lert_fleet.specs.Cones.{FleetSight, FleetPassSight, AtCone}
 use Rattle.lert_buffers.specs.Rings.{Rings, ring_of, with_ring}
 use Rattle.lert_buffers.specs.declared.buffers.Fill.{Fill}
@@ -12,8 +12,9 @@ use Rattle.lert_worker.specs.Sending.{AtOwn, IsBrought, WasBusy, WasTaken, WasTu
 
 module _ {H T R F : Type 0} (held : HeldOf H T R F) (fleet : FleetSight H) (cone : ℕ) (within : cone < length fleet)
     (packet sent : Packet) (is : packet ≡ sent) (old new : FleetPassSight H F) where
-  pub taken_at : (more : ℕ) (reply : R) → AtCone (λ lock. Acted held lock.first packet reply more) fleet cone old new → AtOwn (WasTaken sent more) cone old new
-  taken_at more reply at = subst (λ p. AtOwn (WasTaken p more) cone old new) is (λ before after was found.
+  pub taken_at : (more : ℕ) (reply : R) → AtCone (λ lock. Acted held lock.first packet reply more) fleet cone old new
+      → AtCone (λ lock. Keeps) fleet cone old new → AtOwn (WasTaken sent more) cone old new
+  taken_at more reply at kept = subst (λ p. AtOwn (WasTaken p more) cone old new) is (λ before after was found.
       let lock = some_at fleet cone within in
       let acted = at lock.0 before after lock.1 was found in
       record {
@@ -21,10 +22,12 @@ module _ {H T R F : Type 0} (held : HeldOf H T R F) (fleet : FleetSight H) (cone
         refused_are = ap (λ (x : Sight H F). x.refused) acted.shows;
         met = acted.met;
         waits_are = ap (λ (x : Sight H F). x.waits) acted.shows;
+        counts = (kept lock.0 before after lock.1 was found).counts;
       })
 
-  pub turned_at : (more : ℕ) (fault : F) → AtCone (λ lock. Declined held lock.first packet fault more) fleet cone old new → AtOwn (WasTurned sent fault more) cone old new
-  turned_at more fault at = subst (λ p. AtOwn (WasTurned p fault more) cone old new) is (λ before after was found.
+  pub turned_at : (more : ℕ) (fault : F) → AtCone (λ lock. Declined held lock.first packet fault more) fleet cone old new
+      → AtCone (λ lock. Keeps) fleet cone old new → AtOwn (WasTurned sent fault more) cone old new
+  turned_at more fault at kept = subst (λ p. AtOwn (WasTurned p fault more) cone old new) is (λ before after was found.
       let lock = some_at fleet cone within in
       let declined = at lock.0 before after lock.1 was found in
       record {
@@ -32,12 +35,16 @@ module _ {H T R F : Type 0} (held : HeldOf H T R F) (fleet : FleetSight H) (cone
         refused_are = ap (λ (x : Sight H F). x.refused) declined.shows;
         met = declined.met;
         waits_are = ap (λ (x : Sight H F). x.waits) declined.shows;
+        counts = (kept lock.0 before after lock.1 was found).counts;
       })
 
 pub busy_at : {H F : Type 0} (fleet : FleetSight H) (cone : ℕ) → cone < length fleet → (old new : FleetPassSight H F)
-    → AtCone (λ lock before after. after ≡ record before { met = before.met + 1 }) fleet cone old new → AtOwn WasBusy cone old new
-busy_at fleet cone within old new at = λ before after was found.
-    let lock = some_at fleet cone within in at lock.0 before after lock.1 was found
+    → AtCone (λ lock. Loses) fleet cone old new → AtCone (λ lock. Keeps) fleet cone old new → AtOwn WasBusy cone old new
+busy_at fleet cone within old new at kept = λ before after was found.
+    let lock = some_at fleet cone within in record {
+      lost = at lock.0 before after lock.1 was found;
+      counts = (kept lock.0 before after lock.1 was found).counts;
+    }
 
 -- keys that came out of a ring, and back into it
 pub given_back : (rings taken after : Rings) (cone : ℕ) (keys : List ℕ)

@@ -19,6 +19,7 @@ use Rattle.lert_worker.specs.Runs.{BroughtIn}
 use Rattle.lert_worker.specs.Sending.{IsOf, SentIn}
 use Rattle.lert_worker.specs.declared.end.WorkerEnd.{WorkerEnd}
 use Rattle.lert_worker.specs.declared.end.WorkerEnd.TheVariants.{Ran}
+use Rattle.lert_worker.proofs.Counts.{counts_none, counts_on}
 use Rattle.lert_worker.proofs.JoinLaws.{ascend_at, brings_all, brings_more, brings_part, of_here}
 use Rattle.lert_worker.proofs.LaneLaws.{slice_get-first}
 
@@ -54,6 +55,7 @@ brought_none s number cone traces reads unread old = record {
   below = λ place trace from at. All-nil (λ (packet : Packet). packet.trace < trace);
   waits = omega arith;
   met = omega arith;
+  counts = counts_none old;
 }
 
 module _ {H : Type 0} (s : Numbers) (number cone : ℕ) (traces : List ℕ) (reads : List (List ℕ)) (up : IsStrictlyIncreasing traces)
@@ -91,7 +93,7 @@ module _ {H : Type 0} (s : Numbers) (number cone : ℕ) (traces : List ℕ) (rea
           (All-head (IsOf s number trace) packet [] own).trace_is;
       all = λ ran. absurd (other ran);
       no_rest = λ open_is. subst (All (IsWhole s.packet)) (sym here) (sent.no_rest open_is);
-      counted = record { waits = omega (arith, waits_more, few); met = met_more };
+      counted = record { waits = omega (arith, waits_more, few); met = met_more; counts = counts_on old before after brought.counts sent.counts };
     }
       where
         -- the packets of the trace, without the refused one
@@ -119,6 +121,7 @@ module _ {H : Type 0} (s : Numbers) (number cone : ℕ) (traces : List ℕ) (rea
             (All-weaker (IsOf s number trace) (λ (packet : Packet). packet.trace < found) (λ p own. omega (arith, own.trace_is, less)) sent.sent each);
         waits = waits_more Ran sent;
         met = met_more Ran sent;
+        counts = counts_on old before after brought.counts sent.counts;
       }
 
 -- all traces were read to their ends
@@ -134,5 +137,5 @@ ran_in s number cone traces reads done stopped old new few brought = record {
   of_stopped = λ packet fault is. absurd (cc);
   all = λ _. brought.all;
   no_rest = λ open_is. absurd open_is;
-  counted = record { waits = omega (arith, brought.waits, few); met = brought.met };
+  counted = record { waits = omega (arith, brought.waits, few); met = brought.met; counts = brought.counts };
 }

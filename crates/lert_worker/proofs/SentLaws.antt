@@ -15,6 +15,7 @@ use Rattle.lert_worker.specs.Ran.{IsTurned}
 use Rattle.lert_worker.specs.Sending.{IsOf, Lane, SentIn, WasTaken, WasTurned}
 use Rattle.lert_worker.specs.declared.end.WorkerEnd.{WorkerEnd}
 use Rattle.lert_worker.specs.declared.end.WorkerEnd.TheVariants.{Ran, Cone}
+use Rattle.lert_worker.proofs.Counts.{counts_on}
 use Rattle.lert_worker.proofs.LaneLaws.{cut_push, cut_whole, full_push, joined_more, met_more, own_packet, ringed, with_none}
 
 module _ {H : Type 0} (s : Numbers) (number cone trace : ℕ) where
@@ -34,6 +35,7 @@ module _ {H : Type 0} (s : Numbers) (number cone trace : ℕ) where
     no_rest = λ open_is. absurd (omega (arith, below, open_is));
     waits = rested.waits;
     met = rested.met;
+    counts = rested.counts;
   }
 
   module _ (some : 1 ≤ s.packet) (keys ring : List ℕ) (tried : ℕ) (before now : Sight H ConeFault)
@@ -56,6 +58,7 @@ module _ {H : Type 0} (s : Numbers) (number cone trace : ℕ) where
       no_rest = λ _. lane.whole;
       waits = omega (arith, lane.waits);
       met = met_kept;
+      counts = lane.counts;
     }
 
     -- its end came with no key in the ring
@@ -76,6 +79,7 @@ module _ {H : Type 0} (s : Numbers) (number cone trace : ℕ) where
           no_rest = λ open_is. absurd open_is;
           waits = omega (arith, lane.waits);
           met = met_kept;
+          counts = lane.counts;
         }
 
     module _ (last : length ring ≤ tried + 1) (may : IsSendable s cone ring) where
@@ -103,6 +107,7 @@ module _ {H : Type 0} (s : Numbers) (number cone trace : ℕ) where
         no_rest = λ open_is. absurd open_is;
         waits = omega (arith, taken.waits_are, lane.waits, full_push s lane.sent (ringed number trace ring));
         met = met_more s number cone trace some keys ring tried before now lane last may after.met taken.met;
+        counts = counts_on before now after lane.counts taken.counts;
       }
 
       -- the cone refused the packet of the ring
@@ -121,4 +126,5 @@ module _ {H : Type 0} (s : Numbers) (number cone trace : ℕ) where
         no_rest = λ _. lane.whole;
         waits = omega (arith, turned.waits_are, lane.waits, few);
         met = omega (arith, met_kept, turned.met);
+        counts = counts_on before now after lane.counts turned.counts;
       }

@@ -3,7 +3,7 @@ use Rattle.std.specs.Prelude.{◌≡◌, ◌≢◌, ℕ, ◌+◌, ◌^◌, ◌<�
 use Rattle.std.specs.List.Sorted.{IsStrictlyIncreasing}
 use Rattle.lert_base.specs.declared.held.Held.{Ghosts as HeldOf}
 use Rattle.lert_base.specs.Packet.{Packet}
-use Rattle.lert_conelock.specs.Sight.{Sight, LockSight}
+use Rattle.lert_conelock.specs.Sight.{Sight, LockSight, Counts}
 use Rattle.lert_fleet.specs.Cones.{FleetSight, FleetPassSight, IsPassOf}
 use Rattle.lert_fleet.specs.Each.{EachThree}
 use Rattle.lert_journal.specs.Payload.{IsJournaled}
@@ -53,10 +53,11 @@ pub record MayRun {S H T R : Type 0} (held : HeldOf H T R ConeFault) (fleet : Fl
       → (packet : Packet) → IsJournaled worker.settings cone packet → held.fits (held.terms lock.first) packet
 
 -- In each cone a worker waited at most once for each packet of a whole ring, once for each of its traces, and once more; and
--- each packet that might have gone earlier lost that many takes
+-- each packet that might have gone earlier lost that many takes. Each lost take was one that another caller had
 pub record WaitsFor {H F : Type 0} (s : Numbers) (readers : ℕ) (old new : Sight H F) (added : List Packet) : Type 0 where
   pub waits : new.waits ≤ old.waits + full_packets s added + readers + 1
   pub met : old.met + sum_by (late_tries s) added ≤ new.met
+  pub counts : Counts old new
 
 -- the refused packet that ended a worker, with its refusal, in the cone that refused it and in no other
 abbrev pub IsTurned : WorkerEnd → ℕ → List (Packet × ConeFault) → Type 0

@@ -1,7 +1,7 @@
 -- A run over several traces, on its way and once it ended.
 use Rattle.std.specs.Prelude.{◌≡◌, ℕ, ◌+◌, ◌^◌, ◌<◌, ◌≤◌, All, List, [], ◌++◌, length, sum_by, Option, Some, slice_get}
 use Rattle.lert_base.specs.Packet.{Packet}
-use Rattle.lert_conelock.specs.Sight.{Sight}
+use Rattle.lert_conelock.specs.Sight.{Sight, Counts}
 use Rattle.lert_fleet.specs.Cones.{FleetPassSight}
 use Rattle.lert_fleet.specs.Each.{EachThree}
 use Rattle.lert_spec.specs.declared.numbers.Numbers.{Numbers}
@@ -22,6 +22,7 @@ pub record BroughtIn {H F : Type 0} (s : Numbers) (number cone : ℕ) (traces : 
   pub below : (place trace : ℕ) → done ≤ place → slice_get traces place ≡ Some trace → All (λ packet. packet.trace < trace) added
   pub waits : new.waits ≤ old.waits + full_packets s added + done
   pub met : old.met + sum_by (late_tries s) added ≤ new.met
+  pub counts : Counts old new
 
 module _ {S H : Type 0} (remaining : S → Option (List ℕ)) (faults mark : S → ℕ) (s : Numbers) (number : ℕ) (traces : List ℕ) where
   -- the first so many traces were read to their ends, and the others weren't asked

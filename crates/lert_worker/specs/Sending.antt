@@ -6,7 +6,7 @@ use Rattle.lert_base.specs.Weave.{AreCut, IsWhole}
 use Rattle.lert_buffers.specs.Rings.{Rings, ring_of, with_ring}
 use Rattle.lert_buffers.specs.declared.buffers.Fill.{Fill}
 use Rattle.lert_buffers.specs.declared.buffers.Fill.TheVariants.{Low, MustGo, Ready}
-use Rattle.lert_conelock.specs.Sight.{Sight}
+use Rattle.lert_conelock.specs.Sight.{Sight, Counts, Loses}
 use Rattle.lert_fleet.specs.Cones.{FleetPassSight}
 use Rattle.lert_spec.specs.declared.numbers.Numbers.{Numbers}
 use Rattle.lert_spec.specs.Mix.{part_of}
@@ -28,6 +28,7 @@ module _ {H F : Type 0} where
     pub refused_are : after.refused ≡ before.refused
     pub met : before.met ≤ after.met
     pub waits_are : after.waits ≡ before.waits + more
+    pub counts : Counts before after
 
   -- the cone refused it
   pub record WasTurned (packet : Packet) (fault : F) (more : ℕ) (before after : Sight H F) : Type 0 where
@@ -35,10 +36,12 @@ module _ {H F : Type 0} where
     pub refused_are : after.refused ≡ before.refused ++ (packet, fault) ∷ []
     pub met : before.met ≤ after.met
     pub waits_are : after.waits ≡ before.waits + more
+    pub counts : Counts before after
 
   -- another caller held its lock
-  abbrev pub WasBusy : Sight H F → Sight H F → Type 0
-  WasBusy before after = after ≡ record before { met = before.met + 1 }
+  pub record WasBusy (before after : Sight H F) : Type 0 where
+    pub lost : Loses before after
+    pub counts : Counts before after
 
   -- what a pass has for a cone before a call and after it
   abbrev pub AtOwn : (Sight H F → Sight H F → Type 0) → ℕ → FleetPassSight H F → FleetPassSight H F → Type 0
@@ -84,6 +87,7 @@ pub record Lane {H F : Type 0} (s : Numbers) (number cone trace : ℕ) (keys : L
   pub joined : events_of sent ++ ring ≡ part_of s cone keys
   pub waits : now.waits ≤ before.waits + full_packets s sent
   pub met : (k : ℕ) → k * s.packet ≤ tried → before.met + sum_by (late_tries s) sent + k ≤ now.met
+  pub counts : Counts before now
 
 -- all cones from one number on, while a trace is read
 pub record Lanes {H F : Type 0} (s : Numbers) (number trace from : ℕ) (keys : List ℕ) (start now : FleetPassSight H F) (rings : Rings) : Type 0 where
@@ -105,6 +109,7 @@ pub record SentIn {H : Type 0} (s : Numbers) (number cone trace : ℕ) (keys : L
   pub no_rest : StillOpen end cone → All (IsWhole s.packet) sent
   pub waits : after.waits ≤ before.waits + full_packets s sent + 1
   pub met : before.met + sum_by (late_tries s) sent ≤ after.met
+  pub counts : Counts before after
 
 -- and to each cone below a number
 pub record AreSent {H : Type 0} (s : Numbers) (number trace below : ℕ) (keys : List ℕ) (end : WorkerEnd)

@@ -99,13 +99,13 @@ returns-clause-done g c =
       | in-Done w ↦ rw (w.result-is, w.self-is) (inl (record {
         rings_are = c.take.ensures.rings;
         at = taken_at g.H.Held c.args.fleet.now c.args.cone within (packet_of c.take.new.entry) (packet_with c.args.self.now (ring_of c.args.self.now.rings c.args.cone))
-            (ap packet_of c.take.ensures.entry) c.args.pass.now c.try_admit.new.pass 0 w.in-Done.field-0 (c.try_admit.ensures.done w.in-Done.field-0 w.in-Done.is);
+            (ap packet_of c.take.ensures.entry) c.args.pass.now c.try_admit.new.pass 0 w.in-Done.field-0 (c.try_admit.ensures.done w.in-Done.field-0 w.in-Done.is) c.try_admit.ensures.kept;
       }))
       | in-Refused w ↦ rw w.result-is tt
       | in-Busy w ↦ rw (w.result-is, w.self-is) (inr (record {
         rings_are = given_back c.args.self.now.rings c.take.new.self w.give_back.new.self c.args.cone c.take.new.entry.keys.keys c.take.ensures.rings
             (ap (λ (e : Entry). e.keys.keys) c.take.ensures.entry) w.give_back.ensures.rings;
-        at = busy_at c.args.fleet.now c.args.cone within c.args.pass.now c.try_admit.new.pass (c.try_admit.ensures.busy w.in-Busy.is);
+        at = busy_at c.args.fleet.now c.args.cone within c.args.pass.now c.try_admit.new.pass (c.try_admit.ensures.busy w.in-Busy.is) c.try_admit.ensures.kept;
       }))
     ]
 
@@ -116,6 +116,6 @@ returns-clause-refused g c =
       | in-Done w ↦ rw w.result-is tt
       | in-Refused w ↦ rw w.result-is
           (turned_at g.H.Held c.args.fleet.now c.args.cone within (packet_of c.take.new.entry) (packet_with c.args.self.now (ring_of c.args.self.now.rings c.args.cone))
-          (ap packet_of c.take.ensures.entry) c.args.pass.now c.try_admit.new.pass 0 w.in-Refused.fault (c.try_admit.ensures.refused w.in-Refused.fault w.in-Refused.is))
+          (ap packet_of c.take.ensures.entry) c.args.pass.now c.try_admit.new.pass 0 w.in-Refused.fault (c.try_admit.ensures.refused w.in-Refused.fault w.in-Refused.is) c.try_admit.ensures.kept)
       | in-Busy w ↦ rw w.result-is tt
     ]

@@ -64,7 +64,7 @@ returns-clause-done g c =
       | in-Ok w ↦ rw w.result-is (record {
         rings_are = c.take.ensures.rings;
         at = taken_at g.H.Held c.args.fleet.now c.args.cone within (packet_of c.take.new.entry) (packet_with c.args.self.now (ring_of c.args.self.now.rings c.args.cone))
-            (ap packet_of c.take.ensures.entry) c.args.pass.now c.admit-admitted.new.pass 1 w.in-Ok.field-0 w.in-Ok.ensures.done;
+            (ap packet_of c.take.ensures.entry) c.args.pass.now c.admit-admitted.new.pass 1 w.in-Ok.field-0 w.in-Ok.ensures.done c.admit-admitted.ensures.kept;
       })
       | in-Err w ↦ rw w.result-is tt
     ]
@@ -76,5 +76,5 @@ returns-clause-refused g c =
       | in-Ok w ↦ rw w.result-is tt
       | in-Err w ↦ rw w.result-is
           (turned_at g.H.Held c.args.fleet.now c.args.cone within (packet_of c.take.new.entry) (packet_with c.args.self.now (ring_of c.args.self.now.rings c.args.cone))
-          (ap packet_of c.take.ensures.entry) c.args.pass.now c.admit-admitted.new.pass 1 w.in-Err.fault w.in-Err.ensures.refused)
+          (ap packet_of c.take.ensures.entry) c.args.pass.now c.admit-admitted.new.pass 1 w.in-Err.fault w.in-Err.ensures.refused c.admit-admitted.ensures.kept)
     ]
