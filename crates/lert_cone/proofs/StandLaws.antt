@@ -19,7 +19,7 @@ use Rattle.lert_spec.specs.Edges.{capacity}
 use Rattle.lert_spec.specs.Limits.{IsValid}
 use Rattle.lert_spec.specs.Look.{look, closing}
 use Rattle.lert_cone.specs.declared.state.ConeState.{ConeState}
-use Rattle.lert_cone.specs.declared.state.ConeState.TheVariants.{Running, Finished, BrokenByBay, BrokenByRead, Replaying}
+use Rattle.lert_cone.specs.declared.state.ConeState.TheVariants.{Running, Finished, BrokenByBay, BrokenByRead}
 use Rattle.lert_reports.specs.declared.log_point.LogPoint.{LogPoint}
 use Rattle.lert_cone.specs.History.{most_payload}
 use Rattle.lert_cone.specs.InStep.{IsInStep, IsLogging, AreNew}
@@ -107,7 +107,6 @@ module _ {B : Type 0} (files : B → Option Files) (leaves : B → Files → Typ
     counted = refl;
     within = omega arith;
     valid = subst (λ (l : Listing). IsValid l.settings) (sym is) valid;
-    ready = λ never. absurd (false≢true (ap is_broken never));
     whole = λ _ _. new_whole bay s cone tally gate log is gate_is log_is rows_are none counted new as_read;
     broken = λ never. absurd (false≢true never);
     none_over = λ _. refl;
@@ -178,7 +177,6 @@ module _ {B : Type 0} (files : B → Option Files) (leaves : B → Files → Typ
       settled = (new seen told).log_settled;
       closed = λ image may. subst (λ g. IsClosed (image 1) g) (sym (ap (λ (l : LogPlace). l.gate) log_is)) ((new seen told).log_there image may).records_stand.closed;
     };
-    replaying = λ never. absurd (false≢true (ap is_broken never));
   }
 
   -- what was so of the files when the cone was made
@@ -198,7 +196,6 @@ module _ {B : Type 0} (files : B → Option Files) (leaves : B → Files → Typ
     counted = counted;
     within = subst (λ (s : Numbers). new.events ≤ capacity s) (sym same.settings) within;
     valid = subst IsValid (sym same.settings) stands.valid;
-    ready = λ never. absurd (false≢true (sym still ∙ ap is_broken never));
     whole = λ _ sound. whole (was_before old new same sound);
     broken = λ never. absurd (false≢true (sym still ∙ never));
     none_over = λ _. none_over;
@@ -207,17 +204,16 @@ module _ {B : Type 0} (files : B → Option Files) (leaves : B → Files → Typ
   }
 
   -- one that broke off in the middle
-  pub stands_broken : (old new : Standing B) (history : List Packet) → IsSameCone old new → is_broken new.state ≡ true → new.state ≢ Replaying → new.events ≡ old.events
+  pub stands_broken : (old new : Standing B) (history : List Packet) → IsSameCone old new → is_broken new.state ≡ true → new.events ≡ old.events
       → (new.state ≡ BrokenByBay → HasRisen (faults new.made) (faults new.bay)) → ((file at : ℕ) → new.state ≡ BrokenByRead file at → WasSound files old → files new.bay ≡ None)
       → (WasSound files old → IfTold (files new.bay) (λ seen. IsKept (leaves new.bay) seen (IsSoundOver new.listing.settings new.listing.cone history new.over))) →
       StandsFor files leaves faults old history
       → StandsFor files leaves faults new history
-  stands_broken old new history same broken ready events_are by_bay by_read kept stands = record {
+  stands_broken old new history same broken events_are by_bay by_read kept stands = record {
     some = stands.some;
     counted = stands.counted ∙ sym events_are;
     within = subst (λ (s : Numbers). new.events ≤ capacity s) (sym same.settings) (omega (arith, events_are, stands.within));
     valid = subst IsValid (sym same.settings) stands.valid;
-    ready = ready;
     whole = λ never. absurd (false≢true (sym never ∙ broken));
     broken = λ _ sound. kept (was_before old new same sound);
     none_over = λ never. absurd (false≢true (sym never ∙ broken));
@@ -281,7 +277,6 @@ module _ {B : Type 0} (files : B → Option Files) (leaves : B → Files → Typ
         shut = λ _. shut;
         logging = λ _. logging;
         log_shut = λ _. log_shut;
-        replaying = λ never. absurd (false≢true (sym (ap is_broken running) ∙ ap is_broken never));
       }
 
   -- the end
@@ -335,19 +330,18 @@ module _ {B : Type 0} (files : B → Option Files) (leaves : B → Files → Typ
     shut = λ never. absurd (false≢true (sym (ap is_finished never) ∙ ap is_finished finished));
     logging = λ never. absurd (false≢true (sym (ap is_finished never) ∙ ap is_finished finished));
     log_shut = λ never. absurd (false≢true (sym (ap is_finished never) ∙ ap is_finished finished));
-    replaying = λ never. absurd (false≢true (sym (ap is_broken finished) ∙ ap is_broken never));
   }
 
   -- one that broke off
   pub broken_cone : (mark : B → ℕ) (old new : Standing B) (tally after : Tallied) (journal journal_after : Log) (room room_after keys_room keys_room_after : ℕ)
       → is_broken new.state ≡ true →
-      new.state ≢ Replaying → new.listing.settings ≡ old.listing.settings → new.events ≡ old.events → new.made ≡ old.made
+      new.listing.settings ≡ old.listing.settings → new.events ≡ old.events → new.made ≡ old.made
       → journal_after.file ≡ journal.file → journal_after.most ≡ journal.most → room_after ≡ room → keys_room_after ≡ keys_room → faults old.bay ≤ faults new.bay
       → Turns Anything (files old.bay) (files new.bay) → mark new.bay ≡ mark old.bay →
       (new.state ≡ BrokenByBay →
       HasRisen (faults new.made) (faults new.bay))
       → IsCone files leaves faults mark old tally journal room keys_room → IsCone files leaves faults mark new after journal_after room_after keys_room_after
-  broken_cone mark old new tally after journal journal_after room room_after keys_room keys_room_after broken ready same events_are made_is file_is most_is room_is keys_room_is falls turns
+  broken_cone mark old new tally after journal journal_after room room_after keys_room keys_room_after broken same events_are made_is file_is most_is room_is keys_room_is falls turns
       marked by_bay cone =
       record {
         file = file_is ∙ cone.file;
@@ -369,5 +363,4 @@ module _ {B : Type 0} (files : B → Option Files) (leaves : B → Files → Typ
         shut = λ never. absurd (false≢true (sym (ap is_broken never) ∙ broken));
         logging = λ never. absurd (false≢true (sym (ap is_broken never) ∙ broken));
         log_shut = λ never. absurd (false≢true (sym (ap is_broken never) ∙ broken));
-        replaying = λ never. absurd (ready never);
       }

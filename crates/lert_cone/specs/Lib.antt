@@ -12,6 +12,7 @@ pub mod Marks
 pub mod Reads
 pub mod Record
 pub mod Replay
+pub mod Replaying
 pub mod Replays
 pub mod Room
 pub mod Short

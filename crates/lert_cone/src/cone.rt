@@ -40,9 +40,10 @@ use std::snapshot::Snapshot;
 
 mod end;
 mod held;
-mod replay;
+mod replaying;
 mod terms;
 
+pub use replaying::ReplayingCone;
 pub use terms::ConeTerms;
 
 /// A cone that acknowledges a packet only when its record is on the disk.
@@ -316,7 +317,6 @@ impl<B: Bay, T: CountTable> Cone<B, T> {
             ConeState::Finished => Err(ConeFault::Closed),
             ConeState::BrokenByBay => Err(ConeFault::Broken),
             ConeState::BrokenByRead { .. } => Err(ConeFault::Broken),
-            ConeState::Replaying => Err(ConeFault::Broken),
         }
     }
 }

@@ -24,7 +24,7 @@ mod tally;
 mod unread;
 
 pub use acked::Acked;
-pub use cone::{Cone, ConeTerms};
+pub use cone::{Cone, ConeTerms, ReplayingCone};
 pub use headers::{greatest_payload, is_fresh};
 pub use lert_base::ConeFault;
 pub use lert_reports::LogPoint;

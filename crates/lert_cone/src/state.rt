@@ -12,6 +12,4 @@ pub enum ConeState {
     /// A frame left its format at byte `at` of its file, or one report more than there is room for was needed, which is
     /// said as place 0 of the log. It writes no more.
     BrokenByRead { file: u8, at: u64 },
-    /// It takes the packets of a journal that is read again, and no others.
-    Replaying,
 }

@@ -1,4 +1,4 @@
-//! A cone that is given the packets of its journal again.
+//! A cone whose journal is read again.
 
 ghost use Rattle.std.specs.Prelude.{◌≡◌, ◌≢◌, ◌⊎◌, ℕ, ◌+◌, ◌-◌, ◌<◌, ◌≤◌, ◌^◌, if◌then◌else◌, max, List, [], ◌∷◌, ◌++◌, length, All, None, Err, IfErr, IfNone, IfOk, IfSome, IsErrOf, OnErr, OnOk};
 ghost use Rattle.lert_base.specs.Packet.{Packet, events_of};
@@ -10,20 +10,22 @@ ghost use Rattle.lert_gatelog.specs.Kept.{IsWhollySettled};
 ghost use Rattle.lert_levels.specs.Flushed.{InNamed};
 ghost use Rattle.lert_reports.specs.Log.{HasLog, most_record};
 ghost use Rattle.lert_reports.specs.LogText.{LogRecord};
+ghost use Rattle.lert_spec.specs.Edges.{capacity};
 ghost use Rattle.lert_cone.specs.Framed.{HoldsSome};
 ghost use Rattle.lert_cone.specs.KeepsLog.{IsHeadOf, KeepsLogOf, head_of};
 ghost use Rattle.lert_cone.specs.Marks.{marked_from};
 ghost use Rattle.lert_cone.specs.Reads.{replay_cost};
 ghost use Rattle.lert_cone.specs.Replay.{IsLastOf};
-ghost use Rattle.lert_cone.specs.Replays.{BringsNoFlush, HasEnded, HasTaken, IsUnwritten, LeavesBehind, GoesOn, Replays, WhyRefused, broken_after};
+ghost use Rattle.lert_cone.specs.Replaying.{IsSameReplay, readied};
+ghost use Rattle.lert_cone.specs.Replays.{BringsNoFlush, HasEnded, HasTaken, IsUnwritten, LeavesBehind, GoesOn, Replays, WhyRefused};
 ghost use Rattle.lert_cone.specs.Room.{IsPointOf, IsRestored};
 ghost use Rattle.lert_cone.specs.Sound.{IsSound, StaysSound};
-ghost use Rattle.lert_cone.specs.Stands.{IsSameCone, StandsFor, WasSound};
+ghost use Rattle.lert_cone.specs.Stands.{StandsFor, WasSound};
 ghost use Rattle.lert_cone.specs.Tally.{Shows};
 ghost use Rattle.lert_cone.specs.Unread.{unread};
 ghost use Rattle.lert_cone.specs.Wrote.{IsShutIfTold, LeavesAlone};
 
-use crate::cone::{Cone, broken_by};
+use crate::cone::Cone;
 use crate::headers::greatest_payload;
 use crate::keys::{keys_of, replay_keys};
 use crate::marks::Mark;
@@ -34,17 +36,72 @@ use crate::room::ConeRoom;
 use crate::state::ConeState;
 use crate::tally::Tally;
 use crate::unread::Unread;
-use lert_base::CountTable;
+use lert_base::{CountTable, Entry};
 use lert_bay::{Bay, JOURNAL};
 use lert_gatelog::GateLog;
 use lert_reports::{LogPoint, greatest_record};
+use std::marker::Model;
 use std::snapshot::Snapshot;
 
-impl<B: Bay, T: CountTable> Cone<B, T> {
+/// A cone over the files of a stopped run that is given the packets of its journal again, and takes no others. At the journal's end
+/// `ready` makes a `Cone` of it, which goes on; once it refused a record it takes none, and is good for its bay alone.
+#[derive(Drop)]
+pub struct ReplayingCone<B: Bay, T: CountTable> {
+    bay: B,
+    made: Snapshot<B>,
+    tally: Tally<B, T>,
+    journal: GateLog,
+    log: ReportLog,
+    last: LogPoint,
+    entry: Entry,
+    buffer: Vec<u8>,
+    events: u64,
+    stopped: Option<ReplayFault>,
+}
+
+impl<B: Bay, T: CountTable> Model for ReplayingCone<B, T> {
+    ghost use Rattle.std.specs.Prelude.{length};
+    ghost use Rattle.lert_cone.specs.Replaying.{Replaying, IsReplaying};
+
+    ghost Value = { Replaying B };
+
+    ghost view = { λ c. record {
+      bay = c.bay;
+      made = c.made.value;
+      listing = c.tally.listing;
+      rows = c.tally.rows;
+      reports = c.tally.due.reports;
+      events = c.events;
+      stopped = c.stopped;
+      gate = c.journal.gate;
+      log = c.log;
+      last = c.last;
+    } };
+
+    ghost invariant = { λ c. IsReplaying B.files B.leaves B.faults B.mark (record {
+      bay = c.bay;
+      made = c.made.value;
+      listing = c.tally.listing;
+      rows = c.tally.rows;
+      reports = c.tally.due.reports;
+      events = c.events;
+      stopped = c.stopped;
+      gate = c.journal.gate;
+      log = c.log;
+      last = c.last;
+    }) c.tally c.journal (length c.buffer.items) c.entry.keys.room };
+}
+
+impl<B: Bay, T: CountTable> ReplayingCone<B, T> {
     /// A cone over the files of a stopped run, from whose log the room has the levels and the reports. It is to be given the
     /// records of its journal one by one, from the one on that `last` names, by `replay`, and then `ready`. The keys before that
     /// record it has without reading them: level 0 begins in it. Makes no call of the bay and takes no memory.
-    pub fn adopt(room: ConeRoom<T>, cone: u32, bay: B, last: LogPoint) -> Cone<B, T>
+    pub fn adopt(
+        room: ConeRoom<T>,
+        cone: u32,
+        bay: B,
+        last: LogPoint,
+    ) -> ReplayingCone<B, T>
         requires named { cone < 2 ^ room.settings.cone_bits }
         requires point { IsPointOf room.settings last }
         requires room { IsRestored room.settings cone last.n0 room.zero room.levels room.store room.entry.keys (length room.buffer.items) }
@@ -61,8 +118,7 @@ impl<B: Bay, T: CountTable> Cone<B, T> {
           rows = room.levels.rows;
           reports = room.store.reports;
           events = last.first - 1;
-          state = ConeState.Replaying;
-          over = None;
+          stopped = None;
           gate = last.offset;
           log = record { gate = last.log_end; most = most_record room.settings; named = length room.store.reports; marks = marked_from room.settings (last.first - 1) };
           last = last;
@@ -98,7 +154,7 @@ impl<B: Bay, T: CountTable> Cone<B, T> {
         );
         let unread = Unread::of(&bay, &settings, cone, events);
         let tally = Tally::adopted(&settings, cone, zero, levels, store, unread, last.closed);
-        Cone {
+        ReplayingCone {
             made: Snapshot::of(&bay),
             bay,
             tally,
@@ -108,19 +164,18 @@ impl<B: Bay, T: CountTable> Cone<B, T> {
             entry,
             buffer,
             events,
-            state: ConeState::Replaying,
-            over: None,
+            stopped: None,
         }
     }
 
     /// Takes the packet whose record stands at this gate of the journal, and answers the next gate. None comes exactly at a
     /// closed gate with as many keys before it as the log's last record has. The keys up to that record's place are only counted
     /// again, and the others are taken as those of a packet that is admitted, with the calls of the bay that they cost there;
-    /// nothing is written to the journal. After a refusal the cone is broken, and is good for its bay alone: files that were sound
+    /// nothing is written to the journal. After a refusal it takes no more, and is good for its bay alone: files that were sound
     /// for a list are so still, and they are as they were where no flush position lies among the record's keys, or where the record
     /// leaves the format. The log keeps its records in any case, also of files that are sound for no list.
     pub fn replay(&mut self, gate: u64) -> Result<Option<u64>, ReplayFault>
-        requires replaying { self.old.state ≡ ConeState.Replaying }
+        requires taking { self.old.stopped ≡ None }
         requires reach { gate ≤ 2 ^ 62 }
         ensures taken { IfOk result (λ found. IfSome found (λ next. HasTaken B.files self.old self.new gate next)) }
         ensures forward { IfOk result (λ found. IfSome found (λ next. (gate < next) × (next ≤ gate + 65536))) }
@@ -131,7 +186,7 @@ impl<B: Bay, T: CountTable> Cone<B, T> {
           listing = record self.old.listing { events = self.new.listing.events };
           rows = self.new.rows;
           reports = self.new.reports;
-          state = broken_after fault;
+          stopped = Some fault;
           gate = self.new.gate;
           log = self.new.log;
         }) }
@@ -163,7 +218,7 @@ impl<B: Bay, T: CountTable> Cone<B, T> {
         // Why it refuses where neither the format is left nor a list's journal goes on.
         ensures unsound { (file at : ℕ) → IsErrOf result (ReplayFault.Unsound file at) →
             IfTold (B.files self.new.bay) (λ seen. Shows self.new.listing.settings self.new.rows self.new.reports (seen FRAMES) file at) }
-        ensures same_cone { IsSameCone self.old self.new }
+        ensures same_cone { IsSameReplay self.old self.new }
         ensures journal { LeavesAlone B.Bay JOURNAL self.old.bay self.new.bay }
         ensures kept { CallsBay B.Bay self.old.bay self.new.bay (IsErrOf result ReplayFault.Failed) }
 
@@ -191,8 +246,9 @@ impl<B: Bay, T: CountTable> Cone<B, T> {
                     keys_of(&self.entry),
                     &mut self.buffer,
                 ) {
-                    self.state = broken_by(fault);
-                    return Err(ReplayFault::from(fault));
+                    let fault = ReplayFault::from(fault);
+                    self.stopped = Some(fault);
+                    return Err(fault);
                 }
                 self.events = self.tally.len();
                 Ok(Some(self.journal.gate()))
@@ -200,29 +256,68 @@ impl<B: Bay, T: CountTable> Cone<B, T> {
             Ok(false) => Ok(None),
             Err(fault) => {
                 let fault = ReplayFault::from(fault);
-                self.state = broken_after(fault);
+                self.stopped = Some(fault);
                 Err(fault)
             }
         }
     }
 
-    /// Ends the replay at the journal's closed gate, at which `replay` answered None. The cone is Finished where the log's last
-    /// record is a closing one, and runs on else.
-    pub fn ready(&mut self, end: u64)
-        requires replaying { self.old.state ≡ ConeState.Replaying }
-        requires passed { self.old.last.n0 ≤ length self.old.listing.events }
-        requires gate { self.old.gate ≡ end }
-        requires shut { IsShutIfTold (B.files self.old.bay) (B.leaves self.old.bay) JOURNAL end }
-        ensures value { self.new ≡ record self.old { state = (if self.old.last.closed then ConeState.Finished else ConeState.Running) } }
+    /// How many keys the packets have that it took, and those that it doesn't read.
+    pub fn events(&self) -> u64
+        ensures count { result ≡ self.now.events }
+        ensures within { result ≤ capacity self.now.listing.settings }
+    {
+        self.events
+    }
+
+    /// The bay, also behind a refusal.
+    pub fn into_bay(self) -> B
+        ensures { result ≡ self.bay }
+    {
+        let ReplayingCone { bay, .. } = self;
+        bay
+    }
+
+    /// The cone that it is at the journal's closed gate, at which `replay` answered None: it is Finished where the log's last record is
+    /// a closing one, and runs on else.
+    pub fn ready(self, end: u64) -> Cone<B, T>
+        requires taking { self.stopped ≡ None }
+        requires passed { self.last.n0 ≤ length self.listing.events }
+        requires gate { self.gate ≡ end }
+        requires shut { IsShutIfTold (B.files self.bay) (B.leaves self.bay) JOURNAL end }
+        ensures value { result ≡ readied self }
 
         // It stands for a list whose keys it has as many of, where it is behind its packets, if the files were sound for one.
-        ensures stands_for { (h : List Packet) → All (λ packet. 0 < length packet.keys) h → length (events_of h) ≡ self.old.events →
-            (WasSound B.files self.old → IfTold (B.files self.old.bay) (λ _. Replays B.files B.leaves self.old h h)) →
-            StandsFor B.files B.leaves B.faults self.new h }
+        ensures stands_for { (h : List Packet) → All (λ packet. 0 < length packet.keys) h → length (events_of h) ≡ self.events →
+            (WasSound B.files result → IfTold (B.files self.bay) (λ _. Replays B.files B.leaves self h h)) →
+            StandsFor B.files B.leaves B.faults result h }
     {
         let most = greatest_payload(self.tally.settings());
-        self.journal = GateLog::at_gate(JOURNAL, end, most);
-        self.state = state_behind(self.last.closed);
+        let state = state_behind(self.last.closed);
+        let ReplayingCone {
+            bay,
+            made,
+            tally,
+            log,
+            last,
+            entry,
+            buffer,
+            events,
+            ..
+        } = self;
+        Cone {
+            bay,
+            made,
+            tally,
+            journal: GateLog::at_gate(JOURNAL, end, most),
+            log,
+            last,
+            entry,
+            buffer,
+            events,
+            state,
+            over: None,
+        }
     }
 }
 
@@ -234,16 +329,5 @@ fn state_behind(closed: bool) -> ConeState
         ConeState::Finished
     } else {
         ConeState::Running
-    }
-}
-
-// The state that a refusal leaves.
-fn broken_after(fault: ReplayFault) -> ConeState
-    ensures { result ≡ broken_after fault }
-{
-    match fault {
-        ReplayFault::Failed => ConeState::BrokenByBay,
-        ReplayFault::Malformed { at } => ConeState::BrokenByRead { file: JOURNAL, at },
-        ReplayFault::Unsound { file, at } => ConeState::BrokenByRead { file, at },
     }
 }

@@ -1,4 +1,4 @@
-use Rattle.std.proofs.Common.{◌≡◌, ◌∙◌, ℕ, ◌+◌, ◌*◌, ◌<◌, ◌++◌, ◌∷◌, [], All, List, length, max, Some, Err, Ok, IsFalse}
+use Rattle.std.proofs.Common.{◌≡◌, ◌∙◌, ℕ, ◌+◌, ◌*◌, ◌<◌, ◌++◌, ◌∷◌, [], All, List, length, max, None, Some, Err, Ok, IsFalse}
 use Rattle.std.proofs.Common.{◌≤◌, le_refl, refl, sym, ap, subst, arith}
 use Rattle.lert_base.specs.Entries.{packet_of}
 use Rattle.lert_base.specs.Packet.{events_of}
@@ -10,30 +10,28 @@ use Rattle.lert_reports.specs.Log.{most_record}
 use Rattle.lert_spec.specs.Mix.{cone_of}
 use Rattle.lert_cone.specs.declared.refusal.ReplayFault.{ReplayFault}
 use Rattle.lert_cone.specs.declared.refusal.ReplayFault.TheVariants.{Failed, Malformed, Unsound}
-use Rattle.lert_cone.specs.declared.state.ConeState.TheVariants.{Replaying}
 use Rattle.lert_cone.specs.Framed.{HoldsSome}
 use Rattle.lert_cone.specs.History.{most_payload}
 use Rattle.lert_cone.specs.InStep.{IsLogging}
 use Rattle.lert_cone.specs.Listing.{Listing}
 use Rattle.lert_cone.specs.Replay.{IsPast, ReplayLeavesAt}
-use Rattle.lert_cone.specs.Replays.{WhyRefused, broken_after}
-use Rattle.lert_cone.specs.Stands.{Standing, over_of}
-use Rattle.lert_cone.proofs.FaultLaws.{broken_alike}
+use Rattle.lert_cone.specs.Replays.{WhyRefused}
+use Rattle.lert_cone.specs.Replaying.{Replaying}
 use Rattle.lert_cone.proofs.GateLaws.{past_more}
 use Rattle.lert_cone.proofs.MarkLaws.{next_holds}
 use Rattle.lert_cone.proofs.ReplayLaws.{never_on_way}
 use Rattle.lert_cone.proofs.ReadCosts.{broken_read, ended_read, refused_read, taken_read}
 use Rattle.lert_cone.proofs.Calls.{alone_reading}
 use Rattle.lert_cone.proofs.ReplayCalls.{alone_behind, calls_behind, ended_at, ended_replays, held_at, keys_stay, keys_unwritten, length_more, listing_more, moved_on, read_stays}
-use Rattle.lert_cone.proofs.ReplayCalls.{logged_behind, read_logged, read_unwritten, refilled, seen_as, with_keys}
+use Rattle.lert_cone.proofs.ReplayCalls.{logged_behind, read_logged, read_unwritten, refilled, with_keys}
 use Rattle.lert_cone.proofs.ReplayStands.{keys_never_malformed, leaves_listing, never_unsound, failed_keys, failed_record, unsound_keys, only_by_bay, only_failed, read_shut, refused_keys}
-use Rattle.lert_cone.proofs.ReplayStands.{refused_record}
+use Rattle.lert_cone.proofs.ReplayStands.{refused_record, seen_as}
 use Rattle.lert_cone.proofs.ReplayStep.{told_once}
 use Rattle.lert_cone.proofs.Refusals.{no_fault, one_fault}
-use Rattle.lert_cone.proofs.cone.Cone.replay.Given as given
-use Rattle.lert_cone.proofs.cone.Cone.replay.Goals as goal
-use Rattle.lert_cone.proofs.cone.Cone.replay.Answers.Kept.{bays, lawful, broken_keys_kept, broken_record_kept, ended_kept, taken_kept}
-use Rattle.lert_cone.proofs.cone.Cone.replay.Answers.Refused.{record_refused}
+use Rattle.lert_cone.proofs.cone.replaying.ReplayingCone.replay.Given as given
+use Rattle.lert_cone.proofs.cone.replaying.ReplayingCone.replay.Goals as goal
+use Rattle.lert_cone.proofs.cone.replaying.ReplayingCone.replay.Answers.Kept.{bays, lawful, broken_keys_kept, broken_record_kept, ended_kept, taken_kept}
+use Rattle.lert_cone.proofs.cone.replaying.ReplayingCone.replay.Answers.Refused.{record_refused}
 mod Kept
 mod Refused
 
@@ -62,18 +60,18 @@ read_packet-requires-clause-reach g c = subst (λ n. n ≤ 4611686018427387904) 
 
 pub read_packet-requires-clause-place : goal.read_packet-requires-clause-place
 read_packet-requires-clause-place g c =
-    let replaying : c.self.inside.state ≡ Replaying = subst (λ (v : Standing g.row.B.Denot). v.state ≡ Replaying) (sym c.self.view_is) c.requires.replaying in
-    (c.self.invariant.replaying replaying).recounted.n0_fits
+    let taking : c.self.inside.stopped ≡ None = subst (λ (v : Replaying g.row.B.Denot). v.stopped ≡ None) (sym c.self.view_is) c.requires.taking in
+    (c.self.invariant.taking taking).recounted.n0_fits
 
 pub read_packet-requires-clause-fits : goal.read_packet-requires-clause-fits
 read_packet-requires-clause-fits g c =
-    let replaying : c.self.inside.state ≡ Replaying = subst (λ (v : Standing g.row.B.Denot). v.state ≡ Replaying) (sym c.self.view_is) c.requires.replaying in
-    (c.self.invariant.replaying replaying).recounted.fits
+    let taking : c.self.inside.stopped ≡ None = subst (λ (v : Replaying g.row.B.Denot). v.stopped ≡ None) (sym c.self.view_is) c.requires.taking in
+    (c.self.invariant.taking taking).recounted.fits
 
 pub replay_keys-requires : goal.replay_keys-requires
 replay_keys-requires g c =
-    let replaying : c.self.inside.state ≡ Replaying = subst (λ (v : Standing g.row.B.Denot). v.state ≡ Replaying) (sym c.self.view_is) c.requires.replaying in
-    let was = c.self.invariant.replaying replaying in
+    let taking : c.self.inside.stopped ≡ None = subst (λ (v : Replaying g.row.B.Denot). v.stopped ≡ None) (sym c.self.view_is) c.requires.taking in
+    let was = c.self.invariant.taking taking in
     let len_is : c.self.inside.buffer.len ≡ length c.self.inside.buffer.items = omega (arith, c.self.inside.buffer.ok) in
     let room : length c.deref_mut-in-Ok-true.result.now ≡ length c.self.inside.buffer.items =
     ap (length {A = ℕ}) c.deref_mut-in-Ok-true.ensures.value ∙ (refilled c.self.inside.buffer.len c.self.inside.buffer.items c.read_packet.new.buffer len_is) in
@@ -107,30 +105,26 @@ returns-in-Err-replay_keys g c =
       taken = tt;
       forward = tt;
       ended = tt;
-      refused = let cone = seen_as c.self.inside.bay c.self.inside.made.value c.self.inside.tally c.self.inside.events c.self.inside.state
-          (over_of c.self.inside.over) c.self.inside.journal.gate c.self.inside.log c.self.inside.last in
-          λ seen told. subst (λ (fault : ReplayFault). WhyRefused cone (seen 0) c.args.gate fault) (sym c.from.ensures)
+      refused = let cone = seen_as c.self.inside.bay c.self.inside.made.value c.self.inside.tally c.self.inside.events c.self.inside.stopped c.self.inside.journal.gate c.self.inside.log c.self.inside.last in
+          λ seen told. subst (λ (fault : ReplayFault). WhyRefused cone (seen 0) c.args.gate fault) (sym c.from-fault.ensures)
           (refused_keys cone (seen 0) c.args.gate c.in-Err-replay_keys.fault (record {
             packet = (packet_of c.read_packet.new.entry);
             stands = (held_at c.at_gate-self-inside.ensures (c.in-Ok-true.ensures.found seen told c.in-Ok-true.field-0-test));
             follows = c.in-Ok-true.ensures.follows c.in-Ok-true.field-0-test;
           }));
-      broke = let state_is : c.broken_by-self-inside.result ≡ broken_after c.from.result =
-          c.broken_by-self-inside.ensures ∙ broken_alike c.in-Err-replay_keys.fault ∙ ap broken_after (sym c.from.ensures) in
-          λ i. record {
-            bay = c.replay_keys.new.bay;
-            made = c.self.inside.made.value;
-            listing = c.replay_keys.ensures.listing i;
-            rows = c.replay_keys.new.tally.rows;
-            reports = c.replay_keys.new.tally.due.reports;
-            events = c.self.inside.events;
-            state = state_is i;
-            over = over_of c.self.inside.over;
-            gate = c.read_packet.new.journal.gate;
-            log = c.replay_keys.new.log;
-            last = c.self.inside.last;
-          };
-      replays = λ seen told h done way gate_same. subst (λ (fault : ReplayFault). fault ≡ Failed) (sym c.from.ensures)
+      broke = λ i. record {
+        bay = c.replay_keys.new.bay;
+        made = c.self.inside.made.value;
+        listing = c.replay_keys.ensures.listing i;
+        rows = c.replay_keys.new.tally.rows;
+        reports = c.replay_keys.new.tally.due.reports;
+        events = c.self.inside.events;
+        stopped = Some c.from-fault.result;
+        gate = c.read_packet.new.journal.gate;
+        log = c.replay_keys.new.log;
+        last = c.self.inside.last;
+      };
+      replays = λ seen told h done way gate_same. subst (λ (fault : ReplayFault). fault ≡ Failed) (sym c.from-fault.ensures)
           (only_by_bay c.in-Err-replay_keys.fault (λ file at same.
           with_keys (bays g) (lawful g) c.self.inside.bay c.read_packet.new.bay _ _ _ _ _ c.read_packet.ensures.keeps c.self.inside.tally
           c.self.inside.log c.self.inside.last
@@ -147,7 +141,7 @@ returns-in-Err-replay_keys g c =
           keys_stay (bays g) (lawful g) c.self.inside.bay c.read_packet.new.bay _ _ _ _ _ c.read_packet.ensures.keeps c.self.inside.tally
           c.self.inside.log c.self.inside.last
           seen told h done c.args.gate (way.on_way seen told) (subst (λ g. IsPast h done c.self.inside.tally.listing.events g)
-          (sym gate_same) way.past) (c.self.invariant.replaying way.state_is).recounted
+          (sym gate_same) way.past) (c.self.invariant.taking way.taking).recounted
           (packet_of c.read_packet.new.entry) (held_at c.at_gate-self-inside.ensures (c.in-Ok-true.ensures.found seen told
           c.in-Ok-true.field-0-test))
           c.keys_of.result.now c.keys_of.ensures.value _ refl (ap (λ n. n + 1) c.len-first.ensures) _ _ _ c.replay_keys.ensures;
@@ -158,20 +152,20 @@ returns-in-Err-replay_keys g c =
           (none (packet_of c.read_packet.new.entry) (held_at c.at_gate-self-inside.ensures (c.in-Ok-true.ensures.found seen told
           c.in-Ok-true.field-0-test)) (c.in-Ok-true.ensures.follows c.in-Ok-true.field-0-test)) c.replay_keys.ensures.unflushed;
       malformed = λ at same.
-          let answer : c.from.result ≡ Malformed at = one_fault same in
-          absurd (keys_never_malformed c.in-Err-replay_keys.fault at (sym c.from.ensures ∙ answer));
-      log = let replaying : c.self.inside.state ≡ Replaying = subst (λ (v : Standing g.row.B.Denot). v.state ≡ Replaying) (sym c.self.view_is) c.requires.replaying in
+          let answer : c.from-fault.result ≡ Malformed at = one_fault same in
+          absurd (keys_never_malformed c.in-Err-replay_keys.fault at (sym c.from-fault.ensures ∙ answer));
+      log = let taking : c.self.inside.stopped ≡ None = subst (λ (v : Replaying g.row.B.Denot). v.stopped ≡ None) (sym c.self.view_is) c.requires.taking in
           logged_behind (bays g) (lawful g) c.self.inside.bay c.read_packet.new.bay _ _ _ _ _ c.read_packet.ensures.keeps c.self.inside.tally.listing.settings _ _
-          c.replay_keys.new.bay c.replay_keys.result (Err c.from.result) (c.self.invariant.replaying replaying).log_shut c.replay_keys.ensures.keeps.journal (λ P holds. tt)
+          c.replay_keys.new.bay c.replay_keys.result (Err c.from-fault.result) (c.self.invariant.taking taking).log_shut c.replay_keys.ensures.keeps.journal (λ P holds. tt)
           c.replay_keys.ensures.log;
       framed = λ seen told some. tt;
       whole = λ seen told some at same.
-          let answer : c.from.result ≡ Unsound 2 at = one_fault same in
-          let fault_is = unsound_keys c.in-Err-replay_keys.fault 2 at (sym c.from.ensures ∙ answer) in
+          let answer : c.from-fault.result ≡ Unsound 2 at = one_fault same in
+          let fault_is = unsound_keys c.in-Err-replay_keys.fault 2 at (sym c.from-fault.ensures ∙ answer) in
           c.replay_keys.ensures.whole seen (c.read_packet.ensures.keeps.reads.seen ∙ told) some at (c.in-Err-replay_keys.is ∙ ap Err fault_is);
       unsound = λ file at same.
-          let answer : c.from.result ≡ Unsound file at = one_fault same in
-          let fault_is = unsound_keys c.in-Err-replay_keys.fault file at (sym c.from.ensures ∙ answer) in
+          let answer : c.from-fault.result ≡ Unsound file at = one_fault same in
+          let fault_is = unsound_keys c.in-Err-replay_keys.fault file at (sym c.from-fault.ensures ∙ answer) in
           λ seen told. c.replay_keys.ensures.keeps.shows seen told file at (c.in-Err-replay_keys.is ∙ ap Err fault_is);
       same_cone = record {
         settings = ap (λ (l : Listing). l.settings) c.replay_keys.ensures.listing;
@@ -182,8 +176,8 @@ returns-in-Err-replay_keys g c =
       journal = alone_behind (bays g) (lawful g) c.self.inside.bay c.read_packet.new.bay _ _ _ _ _ c.read_packet.ensures.keeps 0 c.replay_keys.new.bay c.replay_keys.ensures.keeps.journal;
       kept = calls_behind (bays g) (lawful g) c.self.inside.bay c.read_packet.new.bay _ _ _ _ _ c.read_packet.ensures.keeps
           c.replay_keys.new.bay _ _ (λ same.
-          let answer : c.from.result ≡ Failed = one_fault same in
-          c.in-Err-replay_keys.is ∙ ap Err (failed_keys c.in-Err-replay_keys.fault (sym c.from.ensures ∙ answer))) c.replay_keys.ensures.keeps.kept;
+          let answer : c.from-fault.result ≡ Failed = one_fault same in
+          c.in-Err-replay_keys.is ∙ ap Err (failed_keys c.in-Err-replay_keys.fault (sym c.from-fault.ensures ∙ answer))) c.replay_keys.ensures.keeps.kept;
       handed = broken_read c.self.inside.tally.listing.settings (packet_of c.read_packet.new.entry) _ _ (g.B.Bay.handed_out c.replay_keys.new.bay)
           c.replay_keys.ensures.keeps.kept.journal
           c.in-Ok-true.field-0 _ _ c.in-Ok-true.ensures.handed c.in-Ok-true.field-0-test (ap (λ (j : Log). j.gate) (c.in-Ok-true.ensures.moved
@@ -198,9 +192,8 @@ invariant_of-self-in-Ok-true = taken_kept
 pub returns-in_default : goal.returns-in_default
 returns-in_default g c =
     rw (← c.self.view_is) (record {
-      taken = let replaying : c.self.inside.state ≡ Replaying = subst (λ (v : Standing g.row.B.Denot). v.state ≡ Replaying) (sym c.self.view_is)
-          c.requires.replaying in
-          let was = c.self.invariant.replaying replaying in
+      taken = let taking : c.self.inside.stopped ≡ None = subst (λ (v : Replaying g.row.B.Denot). v.stopped ≡ None) (sym c.self.view_is) c.requires.taking in
+          let was = c.self.invariant.taking taking in
           let listing_is = listing_more c.self.inside.tally.listing c.replay_keys.new.tally.listing c.read_packet.new.entry.keys.keys
           c.keys_of.result.now
           c.replay_keys.ensures.listing c.in_default.ensures.taken c.keys_of.ensures.value in
@@ -222,8 +215,7 @@ returns-in_default g c =
               rows = c.replay_keys.new.tally.rows;
               reports = c.replay_keys.new.tally.due.reports;
               events = events_is i;
-              state = c.self.inside.state;
-              over = over_of c.self.inside.over;
+              stopped = c.self.inside.stopped;
               gate = (sym c.gate.ensures.value) i;
               log = c.replay_keys.new.log;
               last = c.self.inside.last;
@@ -251,7 +243,7 @@ returns-in_default g c =
           (λ told_read next is on_read. (
             (packet_of c.read_packet.new.entry),
             record {
-              state_is = way.state_is;
+              taking = way.taking;
               past = subst (λ (l : Listing). IsPast h (done ++ (packet_of c.read_packet.new.entry) ∷ []) l.events c.read_packet.new.journal.gate)
                   (sym listing_is)
                   (subst (λ g. IsPast h (done ++ (packet_of c.read_packet.new.entry) ∷ []) (c.self.inside.tally.listing.events ++
@@ -267,7 +259,7 @@ returns-in_default g c =
           keys_stay (bays g) (lawful g) c.self.inside.bay c.read_packet.new.bay _ _ _ _ _ c.read_packet.ensures.keeps c.self.inside.tally
           c.self.inside.log c.self.inside.last
           seen told h done c.args.gate (way.on_way seen told) (subst (λ g. IsPast h done c.self.inside.tally.listing.events g)
-          (sym gate_same) way.past) (c.self.invariant.replaying way.state_is).recounted
+          (sym gate_same) way.past) (c.self.invariant.taking way.taking).recounted
           (packet_of c.read_packet.new.entry) (held_at c.at_gate-self-inside.ensures (c.in-Ok-true.ensures.found seen told
           c.in-Ok-true.field-0-test))
           c.keys_of.result.now c.keys_of.ensures.value _ refl (ap (λ n. n + 1) c.len-first.ensures) _ _ _ c.replay_keys.ensures;
@@ -278,9 +270,9 @@ returns-in_default g c =
           (none (packet_of c.read_packet.new.entry) (held_at c.at_gate-self-inside.ensures (c.in-Ok-true.ensures.found seen told
           c.in-Ok-true.field-0-test)) (c.in-Ok-true.ensures.follows c.in-Ok-true.field-0-test)) c.replay_keys.ensures.unflushed;
       malformed = λ at same. absurd (no_fault same);
-      log = let replaying : c.self.inside.state ≡ Replaying = subst (λ (v : Standing g.row.B.Denot). v.state ≡ Replaying) (sym c.self.view_is) c.requires.replaying in
+      log = let taking : c.self.inside.stopped ≡ None = subst (λ (v : Replaying g.row.B.Denot). v.stopped ≡ None) (sym c.self.view_is) c.requires.taking in
           logged_behind (bays g) (lawful g) c.self.inside.bay c.read_packet.new.bay _ _ _ _ _ c.read_packet.ensures.keeps c.self.inside.tally.listing.settings _ _
-          c.replay_keys.new.bay _ (Ok (Some c.gate.result)) (c.self.invariant.replaying replaying).log_shut c.replay_keys.ensures.keeps.journal (λ P holds. holds)
+          c.replay_keys.new.bay _ (Ok (Some c.gate.result)) (c.self.invariant.taking taking).log_shut c.replay_keys.ensures.keeps.journal (λ P holds. holds)
           c.in_default.ensures.log;
       framed = λ seen told some. c.in_default.ensures.framed seen (c.read_packet.ensures.keeps.reads.seen ∙ told) some;
       whole = λ seen told some at same. no_fault same;
@@ -310,16 +302,15 @@ returns-in-Ok-false g c =
     rw (← c.self.view_is) (record {
       taken = tt;
       forward = tt;
-      ended = let replaying : c.self.inside.state ≡ Replaying = subst (λ (v : Standing g.row.B.Denot). v.state ≡ Replaying) (sym c.self.view_is)
-          c.requires.replaying in
+      ended = let taking : c.self.inside.stopped ≡ None = subst (λ (v : Replaying g.row.B.Denot). v.stopped ≡ None) (sym c.self.view_is) c.requires.taking in
           let no_packet : IsFalse c.in-Ok-false.field-0 = c.in-Ok-false.field-0-test in
           let gate_at : c.read_packet.new.journal.gate ≡ c.args.gate =
           ap (λ (j : Log). j.gate) ((c.in-Ok-false.ensures.waits no_packet).0 ∙ c.at_gate-self-inside.ensures) in
           ended_at (bays g) (lawful g) c.self.inside.bay c.read_packet.new.bay _ _ _ _ _ c.read_packet.ensures.keeps c.self.inside.made.value
           c.self.inside.tally
-          c.self.inside.events c.self.inside.state (over_of c.self.inside.over) c.self.inside.journal.gate c.read_packet.new.journal.gate
+          c.self.inside.events c.self.inside.stopped c.self.inside.journal.gate c.read_packet.new.journal.gate
           c.args.gate c.self.inside.log c.self.inside.last
-          gate_at (c.in-Ok-false.ensures.enough no_packet) (c.self.invariant.replaying replaying).journal_settled
+          gate_at (c.in-Ok-false.ensures.enough no_packet) (c.self.invariant.taking taking).journal_settled
           (λ seen told. subst (λ (j : Log). IsClosed (seen 0) j.gate) c.at_gate-self-inside.ensures
           (c.in-Ok-false.ensures.closed seen told no_packet));
       refused = tt;
@@ -332,19 +323,19 @@ returns-in-Ok-false g c =
           c.self.inside.log c.self.inside.last
           seen told h done c.args.gate (way.on_way seen told) (subst (λ g. IsPast h done c.self.inside.tally.listing.events g)
           (sym gate_same) way.past)
-          c.self.inside.made.value c.self.inside.events c.self.inside.state (over_of c.self.inside.over)
-          c.read_packet.new.journal.gate way.state_is gate_at
+          c.self.inside.made.value c.self.inside.events c.self.inside.stopped
+          c.read_packet.new.journal.gate way.taking gate_at
           (subst (λ (j : Log). IsClosed (seen 0) j.gate) c.at_gate-self-inside.ensures (c.in-Ok-false.ensures.closed seen told no_packet));
       stays_sound = λ seen told h done way gate_same.
           read_stays (bays g) (lawful g) c.self.inside.bay c.read_packet.new.bay _ _ _ _ _ c.read_packet.ensures.keeps c.self.inside.tally
           c.self.inside.log c.self.inside.last
           seen told h done c.args.gate (way.on_way seen told) (subst (λ g. IsPast h done c.self.inside.tally.listing.events g)
-          (sym gate_same) way.past) (c.self.invariant.replaying way.state_is).recounted;
+          (sym gate_same) way.past) (c.self.invariant.taking way.taking).recounted;
       unflushed = λ seen told none. read_unwritten (bays g) (lawful g) c.self.inside.bay c.read_packet.new.bay _ _ _ _ _ c.read_packet.ensures.keeps;
       malformed = λ at same. absurd (no_fault same);
-      log = let replaying : c.self.inside.state ≡ Replaying = subst (λ (v : Standing g.row.B.Denot). v.state ≡ Replaying) (sym c.self.view_is) c.requires.replaying in
+      log = let taking : c.self.inside.stopped ≡ None = subst (λ (v : Replaying g.row.B.Denot). v.stopped ≡ None) (sym c.self.view_is) c.requires.taking in
           read_logged (bays g) (lawful g) c.self.inside.bay c.read_packet.new.bay _ _ _ _ _ c.read_packet.ensures.keeps c.self.inside.tally.listing.settings _ _
-          (c.self.invariant.replaying replaying).log_shut;
+          (c.self.invariant.taking taking).log_shut;
       framed = λ seen told some after told_after.
           subst (λ (files : Files). HoldsSome c.self.inside.tally.listing.settings (max c.self.inside.last.n0 (length
           c.self.inside.tally.listing.events)) c.self.inside.tally.rows (files 2))

@@ -16,7 +16,7 @@ use Rattle.lert_cone.specs.Unread.{unread}
 use Rattle.lert_cone.proofs.AdoptLaws.{adopted, before, past}
 use Rattle.lert_cone.proofs.AdoptStands.{adopted_cone, adopted_head, adopted_replays}
 use Rattle.lert_cone.proofs.UnreadLaws.{length_unread, unread_keys, unread_own}
-use Rattle.lert_cone.proofs.cone.Cone.adopt.Goals as goal
+use Rattle.lert_cone.proofs.cone.replaying.ReplayingCone.adopt.Goals as goal
 
 -- the keys that aren't read are fewer than those of the log's last record, since level 0 has none of them there
 few : (s : Numbers) (n0 first : ℕ) → first ≤ edge s 0 n0 + 1 → (first - 1 ≤ edge s 0 n0) × (first - 1 ≤ n0)
