@@ -17,7 +17,7 @@ use Rattle.lert_cone.specs.History.{most_payload}
 use Rattle.lert_cone.specs.KeepsLog.{IsHeadOf, LogHead}
 use Rattle.lert_cone.specs.Listing.{Listing}
 use Rattle.lert_cone.specs.Logged.{frames_of}
-use Rattle.lert_cone.specs.Marks.{marked_from}
+use Rattle.lert_cone.specs.JournalPlaces.{places_from}
 use Rattle.lert_cone.specs.Record.{LogPlace}
 use Rattle.lert_cone.specs.Replay.{IsLastOf, IsOnWay, IsPast}
 use Rattle.lert_cone.specs.Replaying.{IsReplaying}
@@ -48,7 +48,7 @@ module _ {B : Type 0} (files : B → Option Files) (leaves : B → Files → Typ
       (room keys_room : ℕ) → IsValid s
       → tally.listing ≡ record { settings = s; cone = cone; events = keys; closed = last.closed } → length keys ≡ n → n ≤ capacity s → IsRecounted tally last.n0
       → journal.file ≡ 0 → journal.most ≡ most_payload s → journal.gate ≤ 2 ^ 46 → last.log_end ≤ 2 ^ 62
-      → log ≡ record { gate = last.log_end; most = most_record s; named = length tally.due.reports; marks = marked_from s n } → room ≡ room_of s → keys_room ≡ 4 * s.packet →
+      → log ≡ record { gate = last.log_end; most = most_record s; named = length tally.due.reports; places = places_from s n } → room ≡ room_of s → keys_room ≡ 4 * s.packet →
       made ≡ bay
       → IfTold (files bay) (λ seen. IsWhollySettled (leaves bay) seen 0) → IsShutIfTold (files bay) (leaves bay) 1 last.log_end
       → IsReplaying files leaves faults mark (seen_as bay made tally n None journal.gate log last) tally journal room keys_room
@@ -77,8 +77,8 @@ module _ {B : Type 0} (files : B → Option Files) (leaves : B → Files → Typ
             named = omega (arith, ap (λ (l : LogPlace). l.named) log_is);
             near = omega (arith, ap (λ (l : LogPlace). l.gate) log_is, reach);
             roomy = omega (arith, ap (λ (l : LogPlace). l.most) log_is, room_is);
-            same = ap (λ (l : LogPlace). l.marks.settings) log_is ∙ same;
-            passed = ap (λ (l : LogPlace). l.marks.passed) log_is ∙ sym long;
+            same = ap (λ (l : LogPlace). l.places.settings) log_is ∙ same;
+            passed = ap (λ (l : LogPlace). l.places.passed) log_is ∙ sym long;
           };
           log_shut = subst (λ gate. IsShutIfTold (files bay) (leaves bay) 1 gate) (sym (ap (λ (l : LogPlace). l.gate) log_is)) shut;
         };
@@ -91,14 +91,14 @@ module _ {B : Type 0} (files : B → Option Files) (leaves : B → Files → Typ
         gate = last.log_end;
         most = most_record s;
         named = length reports;
-        marks = marked_from s n;
+        places = places_from s n;
       }
       → files bay ≡ Some seen → IsPast history done keys last.offset
       → IsOnWay (leaves bay) seen history (record { settings = s; cone = cone; events = keys; closed = last.closed }) rows reports (record {
         gate = last.log_end;
         most = most_record s;
         named = length reports;
-        marks = marked_from s n;
+        places = places_from s n;
       }) last.n0
       → Replays files leaves (seen_as bay made tally n None gate log last) history done
   adopted_replays bay made s cone gate keys n tally log last rows reports history done seen is rows_are reports_are gate_is log_is told past on_way = record {

@@ -11,7 +11,7 @@ use Rattle.lert_gatelog.specs.Kept.{IsWhollySettled}
 use Rattle.lert_journal.specs.Journal.{HoldsPacket}
 use Rattle.lert_reports.specs.declared.log_point.LogPoint.{LogPoint}
 use Rattle.lert_spec.specs.declared.numbers.Numbers.{Numbers}
-use Rattle.lert_cone.specs.declared.marks.Mark.{Mark}
+use Rattle.lert_cone.specs.declared.journal_places.JournalPlace.{JournalPlace}
 use Rattle.lert_cone.specs.declared.refusal.ReplayFault.{ReplayFault}
 use Rattle.lert_cone.specs.declared.tally.TakeFault.{TakeFault}
 use Rattle.lert_cone.specs.Framed.{last_flush}
@@ -21,7 +21,6 @@ use Rattle.lert_cone.specs.Listing.{Listing}
 use Rattle.lert_cone.specs.Reads.{OnlyReadsJournal}
 use Rattle.lert_cone.specs.Record.{LogPlace}
 use Rattle.lert_cone.specs.Replay.{IsOnWay, IsPast, IsNext}
-use Rattle.lert_cone.specs.Replaying.{Replaying}
 use Rattle.lert_cone.specs.Replays.{HasEnded, IsUnwritten, Replays}
 use Rattle.lert_cone.specs.Sound.{IsSound, StaysSound}
 use Rattle.lert_cone.specs.Takes.{Workplace, ReplaysKeys}
@@ -30,7 +29,7 @@ use Rattle.lert_cone.specs.Wrote.{IsShutIfTold, LeavesAlone}
 use Rattle.lert_cone.proofs.Calls.{now_since, alone_on, alone_reading}
 use Rattle.lert_cone.proofs.GateLaws.{ends_there, keys_past, keys_next}
 use Rattle.lert_cone.proofs.KeepsLogSteps.{log_as, log_on, log_unwritten}
-use Rattle.lert_cone.proofs.MarkLaws.{next_holds}
+use Rattle.lert_cone.proofs.JournalPlaceLaws.{next_holds}
 use Rattle.lert_cone.proofs.ReplayLaws.{journal_on_way, on_way_read, sound_recounted}
 use Rattle.lert_cone.proofs.ReplayStands.{next_there, read_settled, seen_as, shut_there}
 use Rattle.lert_cone.proofs.ReplayStep.{told_once}
@@ -206,11 +205,11 @@ module _ {B : Type 0} (bays : Bays B) (lawful : IsLawful bays) where
 
         pub keys_stay : (packet : Packet) → HoldsPacket t.listing.settings t.listing.cone (most_payload t.listing.settings) (seen 0) gate packet → (keys : List ℕ) →
             keys ≡ packet.keys →
-            (mark : Mark) → mark.gate ≡ gate → mark.first ≡ length t.listing.events + 1 → (buffer : ℕ) (new : Workplace B) (result : Result (Unit {0}) TakeFault) →
-            ReplaysKeys bays last.n0 mark keys (record { bay = bay_read; counts = t; log = log; room = buffer }) new result →
+            (place : JournalPlace) → place.gate ≡ gate → place.first ≡ length t.listing.events + 1 → (buffer : ℕ) (new : Workplace B) (result : Result (Unit {0}) TakeFault) →
+            ReplaysKeys bays last.n0 place keys (record { bay = bay_read; counts = t; log = log; room = buffer }) new result →
             StaysSound bays t.listing.settings t.listing.cone history bay new.bay
-        keys_stay packet holds keys keys_are mark gate_is first_is buffer new result did =
+        keys_stay packet holds keys keys_are place gate_is first_is buffer new result did =
             with_keys packet holds keys keys_are (λ told_read next is on_read.
             stays_on t.listing.settings t.listing.cone history bay bay_read new.bay read.reads.kept.time.later did.keeps.journal.time read_stays
             (stays_by t.listing.settings t.listing.cone history bay_read new.bay did.keeps.journal.time.later (did.each_moment seen told_read history (events_of next.rest) is
-            (next_holds history done t.listing.events gate packet keys mark past next keys_are gate_is first_is) on_read)))
+            (next_holds history done t.listing.events gate packet keys place past next keys_are gate_is first_is) on_read)))

@@ -24,7 +24,7 @@ use Rattle.lert_reports.specs.declared.log_point.LogPoint.{LogPoint}
 use Rattle.lert_cone.specs.History.{most_payload}
 use Rattle.lert_cone.specs.InStep.{IsInStep, IsLogging, AreNew}
 use Rattle.lert_cone.specs.Listing.{Listing, reports_of}
-use Rattle.lert_cone.specs.Marks.{unmarked}
+use Rattle.lert_cone.specs.JournalPlaces.{places_at_start}
 use Rattle.lert_cone.specs.Record.{LogPlace}
 use Rattle.lert_cone.specs.Room.{room_of}
 use Rattle.lert_cone.specs.Sound.{IsSound, IsSoundOver, IsKept}
@@ -32,7 +32,7 @@ use Rattle.lert_cone.specs.Stands.{Standing, StandsFor, IsCone, IsSameCone, IsWh
 use Rattle.lert_cone.specs.Tally.{Tallied, IsCounted}
 use Rattle.lert_cone.specs.Wrote.{Anything, IsShutIfTold}
 use Rattle.lert_cone.proofs.LogLaws.{log_none}
-use Rattle.lert_cone.proofs.MarkLaws.{marked_none, names_none}
+use Rattle.lert_cone.proofs.JournalPlaceLaws.{places_none, names_none}
 use Rattle.lert_cone.proofs.AppendLaws.{whole_of}
 use Rattle.lert_cone.proofs.FaultLaws.{turns_as, turns_on}
 
@@ -48,10 +48,10 @@ reports_finished listing keys ended is = ap (λ b. cond b (closing listing.setti
 module _ {B : Type 0} (files : B → Option Files) (leaves : B → Files → Type 0) (faults : B → ℕ) where
   -- a new one
   new_step : (after : Files → Type 0) (seen : Files) (s : Numbers) (cone : ℕ) (rows : List (List BinAt)) → rows ≡ replicate s.levels [] → AreNew s cone after seen →
-      IsInStep after seen [] (record { settings = s; cone = cone; events = []; closed = false }) rows [] (record { gate = 8; most = most_record s; named = 0; marks = unmarked s })
+      IsInStep after seen [] (record { settings = s; cone = cone; events = []; closed = false }) rows [] (record { gate = 8; most = most_record s; named = 0; places = places_at_start s })
   new_step after seen s cone rows none new =
       subst (λ (rs : List (List BinAt)). IsInStep after seen [] (record { settings = s; cone = cone; events = []; closed = false }) rs []
-      (record { gate = 8; most = most_record s; named = 0; marks = unmarked s }))
+      (record { gate = 8; most = most_record s; named = 0; places = places_at_start s }))
       (sym none)
       (record {
         logged = [];
@@ -64,20 +64,20 @@ module _ {B : Type 0} (files : B → Option Files) (leaves : B → Files → Typ
         log_settled = new.log_settled;
         reports_are = refl;
         begins = names_none s [];
-        marked = marked_none [] (unmarked s) refl;
+        placed = places_none [] (places_at_start s) refl;
         reach = omega arith;
       })
 
   new_whole : (bay : B) (s : Numbers) (cone : ℕ) (tally : Tallied) (gate : ℕ) (log : LogPlace) → tally.listing ≡ record { settings = s; cone = cone; events = []; closed = false } →
       gate ≡ 32
-      → log ≡ record { gate = 8; most = most_record s; named = 0; marks = unmarked s } → tally.rows ≡ replicate s.levels [] → tally.due.reports ≡ [] → IsCounted tally
+      → log ≡ record { gate = 8; most = most_record s; named = 0; places = places_at_start s } → tally.rows ≡ replicate s.levels [] → tally.due.reports ≡ [] → IsCounted tally
       → IfTold (files bay) (λ seen. AreNew s cone (leaves bay) seen) → IfTold (files bay) (leaves bay)
       → IfTold (files bay) (λ seen. IsWhole (leaves bay) seen tally.listing tally.rows tally.due.reports gate log [])
   new_whole bay s cone tally gate log is gate_is log_is rows_are none counted new as_read seen told =
       whole_of (leaves bay) seen [] tally gate log counted
       (subst (λ (l : LogPlace). IsInStep (leaves bay) seen [] tally.listing tally.rows tally.due.reports l) (sym log_is)
-      (subst (λ (reports : List Report). IsInStep (leaves bay) seen [] tally.listing tally.rows reports (record { gate = 8; most = most_record s; named = 0; marks = unmarked s })) (sym none)
-      (subst (λ (l : Listing). IsInStep (leaves bay) seen [] l tally.rows [] (record { gate = 8; most = most_record s; named = 0; marks = unmarked s })) (sym is)
+      (subst (λ (reports : List Report). IsInStep (leaves bay) seen [] tally.listing tally.rows reports (record { gate = 8; most = most_record s; named = 0; places = places_at_start s })) (sym none)
+      (subst (λ (l : Listing). IsInStep (leaves bay) seen [] l tally.rows [] (record { gate = 8; most = most_record s; named = 0; places = places_at_start s })) (sym is)
       (new_step (leaves bay) seen s cone tally.rows rows_are (new seen told)))))
       (as_read seen told) (ap (λ (l : Listing). l.events) is) gate_is
 
@@ -87,7 +87,7 @@ module _ {B : Type 0} (files : B → Option Files) (leaves : B → Files → Typ
     events = [];
     closed = false;
   } → gate ≡ 32
-      → log ≡ record { gate = 8; most = most_record s; named = 0; marks = unmarked s } → tally.rows ≡ replicate s.levels [] → tally.due.reports ≡ [] → IsCounted tally
+      → log ≡ record { gate = 8; most = most_record s; named = 0; places = places_at_start s } → tally.rows ≡ replicate s.levels [] → tally.due.reports ≡ [] → IsCounted tally
       → IfTold (files bay) (λ seen. AreNew s cone (leaves bay) seen) → IfTold (files bay) (leaves bay)
       → StandsFor files leaves faults (record {
         bay = bay;
@@ -121,7 +121,7 @@ module _ {B : Type 0} (files : B → Option Files) (leaves : B → Files → Typ
     events = [];
     closed = false;
   } → gate ≡ 32
-      → log ≡ record { gate = 8; most = most_record s; named = 0; marks = unmarked s } → tally.rows ≡ replicate s.levels [] → tally.due.reports ≡ [] → IsCounted tally
+      → log ≡ record { gate = 8; most = most_record s; named = 0; places = places_at_start s } → tally.rows ≡ replicate s.levels [] → tally.due.reports ≡ [] → IsCounted tally
       → IfTold (files bay) (λ seen. AreNew s cone (leaves bay) seen) → IfTold (files bay) (leaves bay)
       → IfTold (files made) (λ first. (history : List Packet) × IsSound tally.listing.settings tally.listing.cone history first)
   new_was_sound bay made s cone tally gate log made_is is gate_is log_is rows_are none counted new as_read first told =
@@ -129,7 +129,7 @@ module _ {B : Type 0} (files : B → Option Files) (leaves : B → Files → Typ
 
   pub new_cone : (mark : B → ℕ) (bay made : B) (s : Numbers) (cone : ℕ) (tally : Tallied) (journal : Log) (log : LogPlace) (last : LogPoint) (room keys_room : ℕ) → IsValid s →
       tally.listing ≡ record { settings = s; cone = cone; events = []; closed = false }
-      → IsCounted tally → journal ≡ record { file = 0; gate = 32; most = most_payload s } → log ≡ record { gate = 8; most = most_record s; named = 0; marks = unmarked s } → room ≡ room_of s →
+      → IsCounted tally → journal ≡ record { file = 0; gate = 32; most = most_payload s } → log ≡ record { gate = 8; most = most_record s; named = 0; places = places_at_start s } → room ≡ room_of s →
       keys_room ≡ 4 * s.packet → made ≡ bay
       → IfTold (files bay) (λ seen. AreNew s cone (leaves bay) seen)
       → IsCone files leaves faults mark (record {
@@ -170,8 +170,8 @@ module _ {B : Type 0} (files : B → Option Files) (leaves : B → Files → Typ
       named = omega (arith, ap (λ (l : LogPlace). l.named) log_is);
       near = omega (arith, ap (λ (l : LogPlace). l.gate) log_is);
       roomy = omega (arith, ap (λ (l : LogPlace). l.most) log_is, room_is);
-      same = ap (λ (l : LogPlace). l.marks.settings) log_is ∙ ap (λ (l : Listing). l.settings) (sym is);
-      passed = ap (λ (l : LogPlace). l.marks.passed) log_is ∙ ap (λ (l : Listing). length l.events) (sym is);
+      same = ap (λ (l : LogPlace). l.places.settings) log_is ∙ ap (λ (l : Listing). l.settings) (sym is);
+      passed = ap (λ (l : LogPlace). l.places.passed) log_is ∙ ap (λ (l : Listing). length l.events) (sym is);
     };
     log_shut = λ _ seen told. record {
       settled = (new seen told).log_settled;

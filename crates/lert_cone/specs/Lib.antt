@@ -8,7 +8,7 @@ pub mod KeepsLog
 pub mod Listing
 pub mod Locked
 pub mod Logged
-pub mod Marks
+pub mod JournalPlaces
 pub mod Reads
 pub mod Record
 pub mod Replay

@@ -1,5 +1,5 @@
 -- What a cone is seen as, and which lists of packets it stands for.
-use Rattle.std.specs.Prelude.{◌≡◌, ◌≢◌, ℕ, ◌+◌, ◌*◌, ◌^◌, ◌<◌, ◌≤◌, Bool, true, false, List, [], ◌∷◌, ◌++◌, length, All, Option, None, option_map}
+use Rattle.std.specs.Prelude.{◌≡◌, ℕ, ◌+◌, ◌*◌, ◌^◌, ◌<◌, ◌≤◌, Bool, true, false, List, [], ◌∷◌, ◌++◌, length, All, Option, None, option_map}
 use Rattle.std.specs.declared.snapshot.Snapshot.{Snapshot}
 use Rattle.lert_base.specs.declared.entry.Entry.{Entry}
 use Rattle.lert_base.specs.Entries.{packet_of}
@@ -7,7 +7,6 @@ use Rattle.lert_base.specs.Packet.{Packet, events_of}
 use Rattle.lert_bay.specs.Files.{Files, IfTold, Turns}
 use Rattle.lert_bay.specs.declared.bay.TheConstants.{JOURNAL, LOG}
 use Rattle.lert_gatelog.specs.Gated.{Log}
-use Rattle.lert_gatelog.specs.Kept.{IsWhollySettled}
 use Rattle.lert_io.specs.Fault.{HasRisen}
 use Rattle.lert_levels.specs.declared.rows.bin_at.BinAt.{BinAt}
 use Rattle.lert_spec.specs.declared.numbers.Numbers.{Numbers}

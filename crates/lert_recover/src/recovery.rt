@@ -7,7 +7,7 @@ ghost use Rattle.lert_bay.specs.declared.bay.TheConstants.{JOURNAL, LOG, FRAMES}
 ghost use Rattle.lert_bay.specs.Files.{Files, IfTold};
 ghost use Rattle.lert_bay.specs.Kept.{CallsBay};
 ghost use Rattle.lert_cone.specs.Framed.{HoldsSome};
-ghost use Rattle.lert_cone.specs.Marks.{IsMarkOf, last_mark};
+ghost use Rattle.lert_cone.specs.JournalPlaces.{IsPlaceIn, last_place};
 ghost use Rattle.lert_cone.specs.Replaying.{readied};
 ghost use Rattle.lert_cone.specs.Room.{IsRoom};
 ghost use Rattle.lert_cone.specs.Sound.{IsSound, IsJournal, StaysSound};
@@ -83,7 +83,7 @@ pub fn reopen<B: Bay, T: CountTable>(
     // the keys that aren't read. Where that is a record of the whole journal, they are all keys of the journal.
     ensures journal { IfTold (B.files bay) (λ seen. IfOk result (λ now. IsReadOn room.settings cone seen now.listing.events now.gate)) }
     ensures journal_whole { IfTold (B.files bay) (λ seen. (h : List Packet) → IsJournal room.settings cone h (seen JOURNAL) →
-        (records : List LogRecord) (log_end : ℕ) → HasLog room.settings cone (seen LOG) records log_end → IsMarkOf h (last_mark records) →
+        (records : List LogRecord) (log_end : ℕ) → HasLog room.settings cone (seen LOG) records log_end → IsPlaceIn h (last_place records) →
         IfOk result (λ now. now.listing.events ≡ events_of h)) }
 
     // Of sound files it reads no more of the journal than some bytes for each key of level 0, whatever it answers and however long

@@ -13,7 +13,7 @@ ghost use Rattle.lert_reports.specs.LogText.{LogRecord};
 ghost use Rattle.lert_spec.specs.Edges.{capacity};
 ghost use Rattle.lert_cone.specs.Framed.{HoldsSome};
 ghost use Rattle.lert_cone.specs.KeepsLog.{IsHeadOf, KeepsLogOf, head_of};
-ghost use Rattle.lert_cone.specs.Marks.{marked_from};
+ghost use Rattle.lert_cone.specs.JournalPlaces.{places_from};
 ghost use Rattle.lert_cone.specs.Reads.{replay_cost};
 ghost use Rattle.lert_cone.specs.Replay.{IsLastOf};
 ghost use Rattle.lert_cone.specs.Replaying.{IsSameReplay, readied};
@@ -27,8 +27,8 @@ ghost use Rattle.lert_cone.specs.Wrote.{IsShutIfTold, LeavesAlone};
 
 use crate::cone::Cone;
 use crate::headers::greatest_payload;
+use crate::journal_places::JournalPlace;
 use crate::keys::{keys_of, replay_keys};
-use crate::marks::Mark;
 use crate::packets::read_packet;
 use crate::refusal::ReplayFault;
 use crate::report_log::ReportLog;
@@ -96,12 +96,7 @@ impl<B: Bay, T: CountTable> ReplayingCone<B, T> {
     /// A cone over the files of a stopped run, from whose log the room has the levels and the reports. It is to be given the
     /// records of its journal one by one, from the one on that `last` names, by `replay`, and then `ready`. The keys before that
     /// record it has without reading them: level 0 begins in it. Makes no call of the bay and takes no memory.
-    pub fn adopt(
-        room: ConeRoom<T>,
-        cone: u32,
-        bay: B,
-        last: LogPoint,
-    ) -> ReplayingCone<B, T>
+    pub fn adopt(room: ConeRoom<T>, cone: u32, bay: B, last: LogPoint) -> ReplayingCone<B, T>
         requires named { cone < 2 ^ room.settings.cone_bits }
         requires point { IsPointOf room.settings last }
         requires room { IsRestored room.settings cone last.n0 room.zero room.levels room.store room.entry.keys (length room.buffer.items) }
@@ -120,7 +115,7 @@ impl<B: Bay, T: CountTable> ReplayingCone<B, T> {
           events = last.first - 1;
           stopped = None;
           gate = last.offset;
-          log = record { gate = last.log_end; most = most_record room.settings; named = length room.store.reports; marks = marked_from room.settings (last.first - 1) };
+          log = record { gate = last.log_end; most = most_record room.settings; named = length room.store.reports; places = places_from room.settings (last.first - 1) };
           last = last;
         } }
 
@@ -242,7 +237,7 @@ impl<B: Bay, T: CountTable> ReplayingCone<B, T> {
                     &mut self.log,
                     &mut self.bay,
                     self.last.n0,
-                    Mark { gate, first },
+                    JournalPlace { gate, first },
                     keys_of(&self.entry),
                     &mut self.buffer,
                 ) {

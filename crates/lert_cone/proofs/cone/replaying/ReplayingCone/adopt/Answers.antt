@@ -10,7 +10,7 @@ use Rattle.lert_spec.specs.Edges.{capacity, edge, offset, span}
 use Rattle.lert_spec.proofs.LookLaws.{AreKeys}
 use Rattle.lert_spec.proofs.TailLaws.{AreOfCone}
 use Rattle.lert_cone.specs.Listing.{Listing}
-use Rattle.lert_cone.specs.Marks.{marked_from}
+use Rattle.lert_cone.specs.JournalPlaces.{places_from}
 use Rattle.lert_cone.specs.Record.{LogPlace}
 use Rattle.lert_cone.specs.Unread.{unread}
 use Rattle.lert_cone.proofs.AdoptLaws.{adopted, before, past}
@@ -58,14 +58,14 @@ invariant_of-result g c =
       gate = c.args.last.log_end;
       most = most_record c.args.room.settings;
       named = length c.adopted-tally.result.due.reports;
-      marks = marked_from c.args.room.settings n;
+      places = places_from c.args.room.settings n;
     } =
     c.at-log.ensures ∙ (λ i. record {
       gate = c.args.last.log_end;
       most = c.greatest_record.ensures.value i;
       named = (c.len.ensures.count ∙ ap (length {A = Report})
           (sym c.adopted-tally.ensures.reports)) i;
-      marks = marked_from c.args.room.settings n;
+      places = places_from c.args.room.settings n;
     }) in
     adopted_cone g.B.Bay.files g.B.Bay.leaves g.B.Faulty.faults g.B.Faulty.mark c.args.bay c.of.result.value c.args.room.settings c.args.cone c.of-unread.result n
     c.adopted-tally.result c.at_gate-journal.result c.at-log.result c.args.last _ _
@@ -89,8 +89,8 @@ pub returns-clause-replays : goal.returns-clause-replays
 returns-clause-replays g c = λ seen told records log last history sound.
     let s = c.args.room.settings in
     let n = c.args.last.first - 1 in
-    let log_is : c.at-log.result ≡ record { gate = c.args.last.log_end; most = most_record s; named = length c.args.room.store.reports; marks = marked_from s n } =
-    c.at-log.ensures ∙ (λ i. record { gate = c.args.last.log_end; most = c.greatest_record.ensures.value i; named = c.len.ensures.count i; marks = marked_from s n }) in
+    let log_is : c.at-log.result ≡ record { gate = c.args.last.log_end; most = most_record s; named = length c.args.room.store.reports; places = places_from s n } =
+    c.at-log.ensures ∙ (λ i. record { gate = c.args.last.log_end; most = c.greatest_record.ensures.value i; named = c.len.ensures.count i; places = places_from s n }) in
     let keys = unread s c.args.cone n (g.B.Bay.files c.args.bay) in
     let before_it = before (g.B.Bay.leaves c.args.bay) seen s c.args.cone history c.args.room.levels.rows c.args.room.store.reports records c.args.last.log_end c.args.last.n0
     c.args.last.offset c.args.last.first c.args.last.closed

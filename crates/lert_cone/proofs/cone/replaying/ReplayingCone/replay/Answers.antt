@@ -14,18 +14,17 @@ use Rattle.lert_cone.specs.Framed.{HoldsSome}
 use Rattle.lert_cone.specs.History.{most_payload}
 use Rattle.lert_cone.specs.InStep.{IsLogging}
 use Rattle.lert_cone.specs.Listing.{Listing}
-use Rattle.lert_cone.specs.Replay.{IsPast, ReplayLeavesAt}
+use Rattle.lert_cone.specs.Replay.{IsPast}
 use Rattle.lert_cone.specs.Replays.{WhyRefused}
 use Rattle.lert_cone.specs.Replaying.{Replaying}
 use Rattle.lert_cone.proofs.GateLaws.{past_more}
-use Rattle.lert_cone.proofs.MarkLaws.{next_holds}
-use Rattle.lert_cone.proofs.ReplayLaws.{never_on_way}
-use Rattle.lert_cone.proofs.ReadCosts.{broken_read, ended_read, refused_read, taken_read}
+use Rattle.lert_cone.proofs.JournalPlaceLaws.{next_holds}
+use Rattle.lert_cone.proofs.ReadCosts.{broken_read, ended_read, taken_read}
 use Rattle.lert_cone.proofs.Calls.{alone_reading}
 use Rattle.lert_cone.proofs.ReplayCalls.{alone_behind, calls_behind, ended_at, ended_replays, held_at, keys_stay, keys_unwritten, length_more, listing_more, moved_on, read_stays}
 use Rattle.lert_cone.proofs.ReplayCalls.{logged_behind, read_logged, read_unwritten, refilled, with_keys}
-use Rattle.lert_cone.proofs.ReplayStands.{keys_never_malformed, leaves_listing, never_unsound, failed_keys, failed_record, unsound_keys, only_by_bay, only_failed, read_shut, refused_keys}
-use Rattle.lert_cone.proofs.ReplayStands.{refused_record, seen_as}
+use Rattle.lert_cone.proofs.ReplayStands.{keys_never_malformed, failed_keys, unsound_keys, only_by_bay, read_shut, refused_keys}
+use Rattle.lert_cone.proofs.ReplayStands.{seen_as}
 use Rattle.lert_cone.proofs.ReplayStep.{told_once}
 use Rattle.lert_cone.proofs.Refusals.{no_fault, one_fault}
 use Rattle.lert_cone.proofs.cone.replaying.ReplayingCone.replay.Given as given
@@ -105,7 +104,8 @@ returns-in-Err-replay_keys g c =
       taken = tt;
       forward = tt;
       ended = tt;
-      refused = let cone = seen_as c.self.inside.bay c.self.inside.made.value c.self.inside.tally c.self.inside.events c.self.inside.stopped c.self.inside.journal.gate c.self.inside.log c.self.inside.last in
+      refused = let cone = seen_as c.self.inside.bay c.self.inside.made.value c.self.inside.tally c.self.inside.events c.self.inside.stopped
+          c.self.inside.journal.gate c.self.inside.log c.self.inside.last in
           λ seen told. subst (λ (fault : ReplayFault). WhyRefused cone (seen 0) c.args.gate fault) (sym c.from-fault.ensures)
           (refused_keys cone (seen 0) c.args.gate c.in-Err-replay_keys.fault (record {
             packet = (packet_of c.read_packet.new.entry);

@@ -26,7 +26,8 @@ record_refused g c =
       taken = tt;
       forward = tt;
       ended = tt;
-      refused = let cone = seen_as c.self.inside.bay c.self.inside.made.value c.self.inside.tally c.self.inside.events c.self.inside.stopped c.self.inside.journal.gate c.self.inside.log c.self.inside.last in
+      refused = let cone = seen_as c.self.inside.bay c.self.inside.made.value c.self.inside.tally c.self.inside.events c.self.inside.stopped
+          c.self.inside.journal.gate c.self.inside.log c.self.inside.last in
           λ seen told. subst (λ (fault : ReplayFault). WhyRefused cone (seen 0) c.args.gate fault) (sym c.from-fault-in-Err.ensures)
           (refused_record cone (seen 0) c.args.gate c.in-Err.fault (λ at same.
           subst (λ (j : Log). ReplayLeavesAt c.self.inside.tally.listing.settings c.self.inside.tally.listing.cone c.self.inside.last.n0
