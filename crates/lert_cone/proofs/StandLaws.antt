@@ -1,5 +1,5 @@
 -- Which lists a cone stands for: when it is made, through an append and the keys behind it, and when it is finished.
-use Rattle.std.proofs.Common.{◌≡◌, ◌≢◌, ℕ, ◌+◌, ◌*◌, ◌<◌, ◌≤◌, true, false, List, [], ◌++◌, length, Option, None, All, cond, refl, sym, ap, ◌∙◌}
+use Rattle.std.proofs.Common.{◌≡◌, ℕ, ◌+◌, ◌*◌, ◌<◌, ◌≤◌, true, false, List, [], ◌++◌, length, Option, None, All, cond, refl, sym, ap, ◌∙◌}
 use Rattle.std.proofs.Common.{subst, arith, length-append}
 use Rattle.std.specs.Prelude.{replicate}
 use Rattle.std.proofs.lemmas.Bool.{false≢true}
