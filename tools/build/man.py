@@ -1,5 +1,5 @@
-"""Pages of the manual, made of a document in Markdown, with headings, paragraphs, lists, tables and blocks of code, or of
-what a tool says of itself.
+"""Pages of the manual: of a document in Markdown, with headings, paragraphs, lists, tables and blocks of code, or of what
+a tool says of itself.
 """
 
 from __future__ import annotations

@@ -1,7 +1,7 @@
 """What keys are made of in a capture: the addresses of its packets, or their five-tuples.
 
-The IP header is sought behind the head of the link, tags of VLANs, labels of MPLS and PPPoE. A packet without a readable
-IP header is left out. Of one inside another, as in a tunnel, the outer one counts.
+The IP header is sought behind the head of the link, tags of VLANs, labels of MPLS and PPPoE. A packet without a
+readable IP header is left out. Of one inside another, as in a tunnel, the outer one counts.
 """
 
 from __future__ import annotations

@@ -4,20 +4,6 @@
 # A watch that doesn't end behind its run is ended.
 watch() { timeout 120 "$top/tools/watch" "$@"; }
 
-# Puts Debian's own python3 first, where another one lacks the package; the check is skipped where that one does too.
-python_with() {
-    python3 -c "import $1" 2>"$work/err" && return
-    PATH=/usr/bin:$PATH
-    python3 -c "import $1" 2>"$work/err" && return
-    echo "skipped: python3 has no $1 here"
-    return 1
-}
-
-# hint_of PACKAGE: what is said where this python hasn't got it.
-hint_of() {
-    python3 -c "import sys; print(sys.executable, 'has no $1: with Debian\'s python3-$1 /usr/bin/python3 has it')"
-}
-
 # --- records
 
 # Two thousand visits by few, as lines, a CSV and JSON lines, and what a plain count of them makes due: the position of

@@ -3,8 +3,8 @@
 
 # Two packages are the same bytes, and what is in one works.
 packed_twice() {
-    rm -rf x l && "$top/tools/build/package" second.deb && cmp first.deb second.deb || return
-    dpkg-deb -x first.deb x && printf '%s\n' ann bob ann ann | x/usr/bin/lert-live --threshold 3 l 2>said | cut -d' ' -f4-
+    rm -rf x l && "$top/tools/build/package" second.deb && cmp first.deb second.deb && dpkg-deb -x first.deb x || return
+    printf '%s\n' ann bob ann ann | x/usr/bin/lert-live --threshold 3 l 2>said | cut -d' ' -f4-
     x/usr/bin/lert-report l/run-* | head -n 1 && zcat x/usr/share/man/man1/lert.1.gz | head -n 1
 }
 
@@ -17,7 +17,8 @@ inside_by() { inside sh -c "$1"; }
 
 # The files of the root but what dpkg and apt write down.
 files_inside() {
-    (cd bare && find . \( -path ./var/lib/dpkg -o -path ./var/cache -o -path ./var/log -o -path ./tmp \) -prune -o -print) | sort
+    (cd bare && find . \( -path ./var/lib/dpkg -o -path ./var/cache -o -path ./var/log -o -path ./tmp \) -prune -o -print) |
+        sort
 }
 
 # What bash offers behind these words.

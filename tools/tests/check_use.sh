@@ -273,6 +273,7 @@ check_use() {
     check_report
     check_live
     check_metrics
+    check_pages
     check_package
     gives 'the commands of docs/USE.md' 0 '' '' commands "$top/docs/USE.md"
 }
