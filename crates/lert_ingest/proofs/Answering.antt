@@ -19,7 +19,7 @@ use Rattle.lert_worker.specs.declared.end.WorkerEnd.{WorkerEnd}
 use Rattle.lert_worker.specs.declared.end.WorkerEnd.TheVariants as end
 use Rattle.lert_ingest.specs.Bays.{AreFaultless, AreLater, AreTold, bays_of}
 use Rattle.lert_ingest.specs.Crews.{AreLeftBy, AreReadBy, IsReadOf}
-use Rattle.lert_ingest.specs.Faults.{earlier, earliest, end_fault, fault_at, rank}
+use Rattle.lert_ingest.specs.Faults.{earlier, earliest, end_fault, fault_at}
 use Rattle.lert_ingest.specs.Status.{stop_status}
 use Rattle.lert_ingest.specs.Stops.{IsExact, StopShows}
 use Rattle.lert_ingest.specs.Traces.{AllFit, AreBytesOf, AreTracesFaultless, IsOver, most_keys, part_length}
@@ -48,8 +48,8 @@ module _ {S B : Type 0} (remaining : S → Option (List ℕ)) (s_faults s_mark :
     module _ (one : Status) (found : earlier (earliest (λ by. end_fault (ends by)) workers) (earliest (fault_at backs) (length backs)) ≡ Some one) (fits : AllFit s (map whole texts))
       where
         -- no worker stopped at a cone, where the cones take all whole keys
-        no_cone : 1 ≤ rank one → (by : ℕ) → by < workers → (cone : ℕ) (f : ConeFault) → ends by ≡ end.Cone cone f → ⊥
-        no_cone above by below cone f is =
+        no_cone : (by : ℕ) → by < workers → (cone : ℕ) (f : ConeFault) → ends by ≡ end.Cone cone f → ⊥
+        no_cone by below cone f is =
             let within = left_by.named by cone f below is in
             let c = cone_at remaining s_faults s_mark files leaves b_faults b_mark s workers some opened laters shares reads was readings places stopped ends run firsts backs added turned
             left_by cone within in
@@ -57,7 +57,7 @@ module _ {S B : Type 0} (remaining : S → Option (List ℕ)) (s_faults s_mark :
             (bays_later remaining s_faults s_mark files leaves b_faults b_mark s workers some opened laters shares reads was readings places stopped ends run firsts backs added turned
             left_by) told cone c.closed.bay (bay_at backs cone c.closed c.closed_is) in
             let running = running_told remaining s_faults s_mark files leaves b_faults b_mark s workers some opened laters shares reads was readings places stopped ends run firsts backs
-            added turned left_by one found above cone c
+            added turned left_by one found cone c
             (faultless cone c.first.bay c.closed.bay (bay_at firsts cone c.first c.first_is) (bay_at backs cone c.closed c.closed_is)) now.0 now.1 in
             let same = keys_same remaining opened texts (traces remaining s_faults s_mark files leaves b_faults b_mark s workers some opened laters shares reads was readings places stopped
             ends run firsts backs added turned left_by) bytes_are (are_keys remaining s_faults s_mark workers some opened laters shares reads was readings places stopped ends run) in
@@ -110,12 +110,12 @@ module _ {S B : Type 0} (remaining : S → Option (List ℕ)) (s_faults s_mark :
           ]
 
           -- its worker stops there
-          stops : (e : WorkerEnd) → ends (trace % workers) ≡ e → 1 ≤ rank one → end_fault e ≡ Some (status.BadTrace trace at)
-          stops end.Ran ran above = absurd (no_end
+          stops : (e : WorkerEnd) → ends (trace % workers) ≡ e → end_fault e ≡ Some (status.BadTrace trace at)
+          stops end.Ran ran = absurd (no_end
               ((subst (Stopped remaining (shares (trace % workers)) (was (trace % workers)) (readings (trace % workers)) (places (trace % workers)) (stopped (trace % workers)))
               ran (run.stop (trace % workers) by_below)) there.0 of.0 of.2))
-          stops (end.Cone cone f) ended above = absurd (no_cone above (trace % workers) by_below cone f ended)
-          stops (end.Trace other f) ended above = by_fault f (trace_stop remaining s_faults s_mark files leaves b_faults b_mark s workers some opened laters shares reads was readings places
+          stops (end.Cone cone f) ended = absurd (no_cone (trace % workers) by_below cone f ended)
+          stops (end.Trace other f) ended = by_fault f (trace_stop remaining s_faults s_mark files leaves b_faults b_mark s workers some opened laters shares reads was readings places
               stopped ends run firsts backs added turned left_by (trace % workers) by_below other f ended)
             where
               stop_is : Stopped remaining (shares (trace % workers)) (was (trace % workers)) (readings (trace % workers)) (places (trace % workers)) (stopped (trace % workers))
@@ -152,9 +152,8 @@ module _ {S B : Type 0} (remaining : S → Option (List ℕ)) (s_faults s_mark :
           pub lowest : (other place : ℕ) (text : List ℕ) → one ≡ status.BadTrace other place → slice_get texts other ≡ Some text → left text ≡ Some place
               → one ≡ status.BadTrace trace at
           lowest other place text one_is text_is leaves_at =
-              let above : 1 ≤ rank one = subst (λ (x : Status). 1 ≤ rank x) (sym one_is) (omega arith) in
               let not_after = of_ends remaining s_faults s_mark files leaves b_faults b_mark s workers some opened laters shares reads was readings places stopped ends run firsts backs added
-              turned left_by one found (trace % workers) by_below (status.BadTrace trace at) (stops (ends (trace % workers)) refl above) in
+              turned left_by one found (trace % workers) by_below (status.BadTrace trace at) (stops (ends (trace % workers)) refl) in
               let numbered = subst (λ (x : Status). IsNotAfter x (status.BadTrace trace at)) one_is not_after in
               let not_later = numbered.numbered refl in
               let same = no_other other place text text_is leaves_at (λ later. omega (arith, later, not_later)) in

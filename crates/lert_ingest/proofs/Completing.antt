@@ -26,7 +26,7 @@ use Rattle.lert_worker.specs.declared.end.WorkerEnd.TheVariants as end
 use Rattle.lert_ingest.specs.Back.{IsBack, IsFullAt}
 use Rattle.lert_ingest.specs.Bays.{AreFaultless, AreTold, bays_of}
 use Rattle.lert_ingest.specs.Crews.{AreLeftBy, AreReadBy, IsReadOf}
-use Rattle.lert_ingest.specs.Faults.{earlier, earliest, end_fault, fault_at, fault_of, full_fault, rank, state_fault}
+use Rattle.lert_ingest.specs.Faults.{earlier, earliest, end_fault, fault_at, fault_of, full_fault, state_fault}
 use Rattle.lert_ingest.specs.Stops.{AreWeaving, IsExact}
 use Rattle.lert_ingest.specs.Traces.{AllFit, AreBytesOf, AreKeysOf, AreReadToEnd, AreTracesFaultless, AreTracesLater, IsReadToEnd, most_keys, part_length}
 use Rattle.lert_ingest.specs.declared.status.Status.{Status}
@@ -36,7 +36,7 @@ use Rattle.lert_ingest.proofs.Crew.{was_turned}
 use Rattle.lert_ingest.proofs.Exactly.{bytes_at, bytes_of, fault_risen, few_at, keys_same, may_be}
 use Rattle.lert_ingest.proofs.FaultOrder.{IsFirst, IsFirstOf, IsNotAfter, all_none, each_of, of_all, of_two, of_two_none}
 use Rattle.lert_ingest.proofs.Holding.{is_weaving, none_full, weaving_fits}
-use Rattle.lert_ingest.proofs.Judging.{IsCone, IsStop, bays_later, begun, cone_at, of_ends, running_told, shared, stop_place, stop_shows, trace_stop, traces, worker_of}
+use Rattle.lert_ingest.proofs.Judging.{IsCone, IsStop, bays_later, begun, cone_at, of_ends, shared, stop_place, stop_shows, trace_stop, traces, worker_of}
 use Rattle.lert_ingest.proofs.Told.{all_whole, are_keys, named, there_is}
 
 module _ {S B : Type 0} (remaining : S → Option (List ℕ)) (s_faults s_mark : S → ℕ) (files : B → Option Files) (leaves : B → Files → Type 0) (b_faults b_mark : B → ℕ)

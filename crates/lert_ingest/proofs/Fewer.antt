@@ -9,7 +9,7 @@ use Rattle.lert_spec.specs.declared.numbers.Numbers.{Numbers}
 use Rattle.lert_ingest.specs.Bays.{ArePartWoven, HoldsOpen, HoldsPart, bays_of}
 use Rattle.lert_ingest.specs.Ingest.{HasIngested}
 use Rattle.lert_ingest.specs.Shares.{AreReadBySame}
-use Rattle.lert_ingest.specs.Stops.{AreIngested, AreOpenPartly, ArePartly, StopShows}
+use Rattle.lert_ingest.specs.Stops.{AreIngested, AreOpenPartly, StopShows}
 use Rattle.lert_ingest.specs.declared.status.Status.{Status}
 use Rattle.lert_ingest.specs.declared.status.Status.TheVariants as status
 
@@ -64,6 +64,7 @@ module _ (s : Numbers) (fewer workers : ℕ) where
         settings_are = one.settings_are;
         number_is = one.number_is;
         state_is = one.state_is;
+        closed_is = one.closed_is;
       };
       fits = are.fits;
     }
@@ -71,9 +72,6 @@ module _ (s : Numbers) (fewer workers : ℕ) where
     module _ (bays later : List B) where
       held_partly : (traces : List (List ℕ)) → length traces ≡ length opened → ArePartWoven files s fewer later traces → ArePartWoven files s workers later traces
       held_partly traces number are cone bay there seen told = part_held cone traces (of_keys traces number) seen (are cone bay there seen told)
-
-      partly_by : ArePartly remaining faults files bay_faults s fewer opened now bays later → ArePartly remaining faults files bay_faults s workers opened now bays later
-      partly_by are = record { traces = are.traces; keys = are.keys; woven = held_partly are.traces are.keys.number are.woven }
 
       open_by : (still : ℕ → ℕ → Type 0) → AreOpenPartly remaining faults files bay_faults s fewer opened now bays later still →
           AreOpenPartly remaining faults files bay_faults s workers opened now bays later still
@@ -94,11 +92,11 @@ module _ (s : Numbers) (fewer workers : ℕ) where
       stops_by (status.BadTrace trace at) shows = (shows.0, open_by _ shows.1)
       stops_by (status.TooLong trace) shows = (shows.0, open_by _ shows.1)
       stops_by (status.NotFresh cone) shows = shows
-      stops_by (status.BayFault cone) shows = (shows.0, partly_by shows.1)
+      stops_by (status.BayFault cone) shows = (shows.0, open_by _ shows.1)
       stops_by (status.CapacityFull cone n len) shows =
           let enough = shows.1 in
           (shows.0, record { traces = enough.traces; keys = enough.keys; enough = enough.enough }, (shows.2.0, open_by _ shows.2.1))
-      stops_by (status.Malformed cone file at) shows = (shows.0, partly_by shows.1)
+      stops_by (status.Malformed cone file at) shows = (shows.0, open_by _ shows.1)
       stops_by (status.OtherSettings cone) shows = shows
       stops_by status.OutFault shows = shows
       stops_by status.OutOfMemory shows = shows

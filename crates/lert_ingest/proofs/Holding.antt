@@ -38,6 +38,9 @@ module _ {B : Type 0} (files : B → Option Files) (leaves : B → Files → Typ
     (added : ℕ → List Packet) (turned : ℕ → List (Packet × ConeFault))
     (left : (by : ℕ) → by < workers → LeftIn s by number (shares by) (reads by) (stopped by) (ends by) (added by) (turned by))
     (first closed : Standing B) (back : IsBack files leaves faults mark s workers number added turned first closed) where
+  not_closed : closed.state ≡ Running → closed.listing.closed ≡ false
+  not_closed running = back.closed_is (ap is_broken running) ∙ back.unfinished
+
   module _ (begun : (by place trace : ℕ) (whole : List ℕ) → by < workers → slice_get (shares by) place ≡ Some trace → slice_get traces trace ≡ Some whole →
       (read : List ℕ) × (slice_get (reads by) place ≡ Some read) × BeginsWith whole read) where
     pub woven_part : IsPartWoven s number workers traces back.history
@@ -73,13 +76,12 @@ module _ {B : Type 0} (files : B → Option Files) (leaves : B → Files → Typ
         ((trace : ℕ) → open_trace number trace → All (IsWhole s.packet) (of_trace back.history trace)) → IfTold (files closed.bay) (HoldsOpen s workers traces open_trace number)
     holds_open running open_trace no_rest = λ seen told.
         let whole = back.stands.whole (ap is_broken running) back.sound seen told in
-        let not_closed : closed.listing.closed ≡ false = back.closed_is (ap is_broken running) ∙ back.unfinished in
         record {
           history = back.history;
           woven = woven_part;
           sound = subst (λ n. IsSoundAs s n false back.history seen) back.number_is
               (subst (λ (t : Numbers). IsSoundAs t closed.listing.cone false back.history seen) back.settings_is
-              (subst (λ b. IsSoundAs closed.listing.settings closed.listing.cone b back.history seen) not_closed whole.files.kept.as_read));
+              (subst (λ b. IsSoundAs closed.listing.settings closed.listing.cone b back.history seen) (not_closed running) whole.files.kept.as_read));
           no_rest = no_rest;
         }
 
@@ -139,6 +141,7 @@ module _ {B : Type 0} (files : B → Option Files) (leaves : B → Files → Typ
     settings_are = back.settings_is;
     number_is = back.number_is;
     state_is = running;
+    closed_is = not_closed running;
   }
 
 -- a cone that weaves all keys takes them

@@ -32,7 +32,7 @@ use Rattle.lert_ingest.specs.Crews.{AreLeftBy, AreReadBy, IsReadOf, fresh_reader
 use Rattle.lert_ingest.specs.Faults.{earlier, earliest, end_fault, fault_at, fault_of, full_fault, rank, state_fault}
 use Rattle.lert_ingest.specs.Shares.{IsShare, LeftIn}
 use Rattle.lert_ingest.specs.Status.{stop_status}
-use Rattle.lert_ingest.specs.Stops.{AreEnough, AreOpenPartly, ArePartly, IsFull, StopShows}
+use Rattle.lert_ingest.specs.Stops.{AreEnough, AreOpenPartly, IsFull, StopShows}
 use Rattle.lert_ingest.specs.Traces.{HasTraceFailed, IsOpened, most_keys}
 use Rattle.lert_ingest.specs.declared.status.Status.{Status}
 use Rattle.lert_ingest.specs.declared.status.Status.TheVariants as status
@@ -106,13 +106,6 @@ module _ {S B : Type 0} (remaining : S → Option (List ℕ)) (s_faults s_mark :
       subst (λ (b : B). IfTold (files b) (HoldsPart s workers traces cone)) c.1
       (holds_part files leaves b_faults b_mark s workers some cone traces shares reads stopped ends shared (added cone) (turned cone) c.0.left c.0.first c.0.closed c.0.back (begun))
 
-  pub are_partly : ArePartly remaining s_faults files b_faults s workers opened laters (bays_of firsts) (bays_of backs)
-  are_partly = record {
-    traces = traces;
-    keys = are_keys remaining s_faults s_mark workers some opened laters shares reads was readings places stopped ends run;
-    woven = parts_woven;
-  }
-
   -- the worker of a trace
   pub worker_of : (by place trace : ℕ) → by < workers → slice_get (shares by) place ≡ Some trace → trace % workers ≡ by
   worker_of by place trace below there =
@@ -164,10 +157,10 @@ module _ {S B : Type 0} (remaining : S → Option (List ℕ)) (s_faults s_mark :
     rank_below cone c st is other some = (of_cone cone c other (ap (state_fault cone) is ∙ some)).ranked
 
     -- a cone of which no fault was counted may take more, where it tells its files
-    pub running_told : 1 ≤ rank one → (cone : ℕ) (c : IsCone cone) → IsFaultless (b_faults c.first.bay) (b_faults c.closed.bay) → (seen : Files) → files c.closed.bay ≡ Some
+    pub running_told : (cone : ℕ) (c : IsCone cone) → IsFaultless (b_faults c.first.bay) (b_faults c.closed.bay) → (seen : Files) → files c.closed.bay ≡ Some
         seen →
         c.closed.state ≡ state.Running
-    running_told above cone c faultless seen told = by_state c.closed.state refl
+    running_told cone c faultless seen told = by_state c.closed.state refl
       where
         by_state : (st : ConeState) → c.closed.state ≡ st → c.closed.state ≡ state.Running
         by_state state.Running is = is
@@ -186,10 +179,10 @@ module _ {S B : Type 0} (remaining : S → Option (List ℕ)) (s_faults s_mark :
         by_state state.BrokenByBay is = absurd (let low = rank_below cone c state.BrokenByBay is (status.BayFault cone) refl in omega (arith, above, low))
         by_state (state.BrokenByRead file at) is = absurd (let low = rank_below cone c (state.BrokenByRead file at) is (status.Malformed cone file at) refl in omega (arith, above, low))
 
-    open_partly : 1 ≤ rank one → (open_trace : ℕ → ℕ → Type 0)
+    open_partly : (open_trace : ℕ → ℕ → Type 0)
         → ((cone trace : ℕ) → IsCone cone → open_trace cone trace → HasNoRest s trace (added cone (trace % workers))) →
         AreOpenPartly remaining s_faults files b_faults s workers opened laters (bays_of firsts) (bays_of backs) open_trace
-    open_partly above open_trace no_rest = record {
+    open_partly open_trace no_rest = record {
       traces = traces;
       keys = are_keys remaining s_faults s_mark workers some opened laters shares reads was readings places stopped ends run;
       woven = parts_woven;
@@ -200,7 +193,7 @@ module _ {S B : Type 0} (remaining : S → Option (List ℕ)) (s_faults s_mark :
           let here : IsFaultless (b_faults c.first.bay) (b_faults c.closed.bay) =
           subst (λ (b : B). IsFaultless (b_faults b) (b_faults c.closed.bay)) first_is (subst (λ (b : B). IsFaultless (b_faults before) (b_faults b)) (sym found.1) faultless) in
           let seen_here = ap files found.1 ∙ told in
-          let running = running_told above cone c here seen seen_here in
+          let running = running_told cone c here seen seen_here in
           holds_open files leaves b_faults b_mark s workers some cone traces shares reads stopped ends shared (added cone) (turned cone) c.left c.first c.closed c.back begun running
           open_trace
           (λ trace opens. no_rest_of files leaves b_faults b_mark s workers some cone traces shares reads stopped ends shared (added cone) (turned cone) c.left c.first c.closed c.back
@@ -217,15 +210,15 @@ module _ {S B : Type 0} (remaining : S → Option (List ℕ)) (s_faults s_mark :
           let by_is : (stopped by) % workers ≡ by = worker_of by (places by) (stopped by) below (stop_place by below e is ran) in
           subst (λ t. HasNoRest s t (added cone (t % workers))) (sym same) (subst (λ n. HasNoRest s (stopped by) (added cone n)) (sym by_is) here)
 
-      by_fault : (trace : ℕ) (f : TraceFault) → ends by ≡ end.Trace trace f → 1 ≤ rank one →
+      by_fault : (trace : ℕ) (f : TraceFault) → ends by ≡ end.Trace trace f →
           StopShows remaining s_faults files b_faults s workers opened laters (bays_of firsts) (bays_of backs) (stop_status trace f)
-      by_fault trace f is above = shows f (trace_stop by below trace f is)
+      by_fault trace f is = shows f (trace_stop by below trace f is)
         where
           same : trace ≡ stopped by
           same = (subst (Stopped remaining (shares by) (was by) (readings by) (places by) (stopped by)) is (run.stop by below)).0
 
           opens : AreOpenPartly remaining s_faults files b_faults s workers opened laters (bays_of firsts) (bays_of backs) (λ _ other. other ≡ trace)
-          opens = open_partly above (λ _ other. other ≡ trace) (λ cone other c at. none_at (end.Trace trace f) is (λ e. absurd (let clash = e in cc)) cone other c tt (at ∙ same))
+          opens = open_partly (λ _ other. other ≡ trace) (λ cone other c at. none_at (end.Trace trace f) is (λ e. absurd (let clash = e in cc)) cone other c tt (at ∙ same))
 
           shows : (f : TraceFault) → IsStop trace f → StopShows remaining s_faults files b_faults s workers opened laters (bays_of firsts) (bays_of backs) (stop_status trace f)
           shows trace_fault.ReadFailed stop = (record { before = stop.before; now = stop.now; was = stop.opened_is; is = stop.later_is; rose = stop.means }, opens)
@@ -251,7 +244,7 @@ module _ {S B : Type 0} (remaining : S → Option (List ℕ)) (s_faults s_mark :
           has = subst (λ (xs : List (Packet × ConeFault)). Contains xs (e.0, f)) (sym e.1) (item_here (e.0, f) [])
 
           opens : AreOpenPartly remaining s_faults files b_faults s workers opened laters (bays_of firsts) (bays_of backs) (λ other t. (cone ≤ other) × (t ≡ stopped by))
-          opens = open_partly (omega (arith, above)) (λ other t. (cone ≤ other) × (t ≡ stopped by))
+          opens = open_partly (λ other t. (cone ≤ other) × (t ≡ stopped by))
               (λ other trace c at. none_at (end.Cone cone f) is (λ e. absurd (let clash = e in cc)) other trace c at.0 at.1)
 
           shows : (c.closed.state ≢ state.Running) ⊎ IsFullAt s c.back.history e.0 f →
@@ -295,15 +288,7 @@ module _ {S B : Type 0} (remaining : S → Option (List ℕ)) (s_faults s_mark :
       by_end : (e : WorkerEnd) → ends by ≡ e → end_fault e ≡ Some one → StopShows remaining s_faults files b_faults s workers opened laters (bays_of firsts) (bays_of backs) one
       by_end end.Ran is none = absurd (none-some one none)
       by_end (end.Trace trace f) is same =
-          let which = same_Some (stop_status trace f) one same in
-          subst (StopShows remaining s_faults files b_faults s workers opened laters (bays_of firsts) (bays_of backs)) which
-          (by_fault trace f is (subst (λ (x : Status). 1 ≤ rank x) which (trace_rank trace f)))
-        where
-          trace_rank : (trace : ℕ) (f : TraceFault) → 1 ≤ rank (stop_status trace f)
-          trace_rank trace trace_fault.ReadFailed = omega arith
-          trace_rank trace (trace_fault.BadHeader at) = omega arith
-          trace_rank trace (trace_fault.CutKey at) = omega arith
-          trace_rank trace trace_fault.TooLong = omega arith
+          subst (StopShows remaining s_faults files b_faults s workers opened laters (bays_of firsts) (bays_of backs)) (same_Some (stop_status trace f) one same) (by_fault trace f is)
       by_end (end.Cone cone f) is same = cone_end f is same
         where
           cone_end : (f : ConeFault) → ends by ≡ end.Cone cone f → full_fault cone f ≡ Some one → StopShows remaining s_faults files b_faults s workers opened laters
@@ -317,7 +302,10 @@ module _ {S B : Type 0} (remaining : S → Option (List ℕ)) (s_faults s_mark :
           cone_end fault.BayFailed is none = absurd (none-some one none)
           cone_end (fault.Unsound file at) is none = absurd (none-some one none)
 
-    -- a cone that is broken
+    -- a cone broke: which traces were still open isn't said
+    open_broken : AreOpenPartly remaining s_faults files b_faults s workers opened laters (bays_of firsts) (bays_of backs) (λ _ _. ⊥)
+    open_broken = open_partly (λ _ _. ⊥) (λ cone trace c none. absurd none)
+
     by_state : (cone : ℕ) (c : IsCone cone) (st : ConeState) → c.closed.state ≡ st → state_fault cone st ≡ Some one →
         StopShows remaining s_faults files b_faults s workers opened laters (bays_of firsts) (bays_of backs) one
     by_state cone c state.Running is none = absurd (none-some one none)
@@ -331,7 +319,7 @@ module _ {S B : Type 0} (remaining : S → Option (List ℕ)) (s_faults s_mark :
             is = bay_at backs cone c.closed c.closed_is;
             rose = subst (λ (m : B). HasRisen (b_faults m) (b_faults c.closed.bay)) c.back.made_is (c.back.stands.by_bay is);
           },
-          are_partly,
+          open_broken,
         )
     by_state cone c (state.BrokenByRead file at) is some =
         subst (StopShows remaining s_faults files b_faults s workers opened laters (bays_of firsts) (bays_of backs)) (same_Some (status.Malformed cone file at) one some) (
@@ -341,7 +329,7 @@ module _ {S B : Type 0} (remaining : S → Option (List ℕ)) (s_faults s_mark :
                 let bay_is = same_Some c.closed.bay bay (sym (bay_at backs cone c.closed c.closed_is) ∙ there) in
                 none-some seen (sym (c.back.stands.by_read file at is c.back.sound) ∙ (ap files bay_is ∙ told));
           }),
-          are_partly,
+          open_broken,
         )
 
     -- all that the answer shows

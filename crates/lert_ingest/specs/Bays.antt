@@ -87,11 +87,15 @@ AreFaultlessTo faults last bays later = EachBay (λ cone before now. cone ≤ la
 abbrev pub AreToldFresh : {B : Type 0} → (B → Option Files) → List B → Type 0
 AreToldFresh {B = B} files bays = (cone : ℕ) (bay : B) → slice_get bays cone ≡ Some bay → (seen : Files) × (files bay ≡ Some seen) × AreEmpty seen
 
--- the files of a cone are sound for a weave of its part of the keys of all traces, and closed
-pub record HoldsWeave (s : Numbers) (workers : ℕ) (traces : List (List ℕ)) (cone : ℕ) (seen : Files) : Type 0 where
+-- the files of a cone are so for a weave of its part of the keys of all traces
+pub record HoldsAll (s : Numbers) (workers : ℕ) (traces : List (List ℕ)) (cone : ℕ) (are_so : List Packet → Files → Type 0) (seen : Files) : Type 0 where
   pub history : List Packet
   pub woven : IsWoven s cone workers traces history
-  pub sound : IsSoundClosed s cone history seen
+  pub sound : are_so history seen
+
+-- they are sound for one, and closed
+abbrev pub HoldsWeave : Numbers → ℕ → List (List ℕ) → ℕ → Files → Type 0
+HoldsWeave s workers traces cone = HoldsAll s workers traces cone (IsSoundClosed s cone)
 
 -- the files of a cone are sound for a weave of beginnings of its part of the keys of all traces
 pub record HoldsPart (s : Numbers) (workers : ℕ) (traces : List (List ℕ)) (cone : ℕ) (seen : Files) : Type 0 where

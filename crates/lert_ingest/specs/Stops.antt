@@ -1,5 +1,5 @@
 -- What workers leave that read traces into cones: all of them, or why not.
-use Rattle.std.specs.Prelude.{◌≡◌, ◌⊎◌, ℕ, ◌+◌, ◌*◌, ◌^◌, ◌<◌, ◌≤◌, All, List, length, map, Option, Some, None, slice_get}
+use Rattle.std.specs.Prelude.{◌≡◌, ◌⊎◌, ℕ, ◌+◌, ◌*◌, ◌^◌, ◌<◌, ◌≤◌, false, All, List, length, map, Option, Some, None, slice_get}
 use Rattle.lert_base.specs.Packet.{Packet, events_of}
 use Rattle.lert_base.specs.Weave.{IsWoven}
 use Rattle.lert_bay.specs.Files.{Files}
@@ -26,6 +26,7 @@ pub record IsWeaving {B : Type 0} (files : B → Option Files) (leaves : B → F
   pub settings_are : cone.listing.settings ≡ s
   pub number_is : cone.listing.cone ≡ number
   pub state_is : cone.state ≡ Running
+  pub closed_is : cone.listing.closed ≡ false
 
 -- each cone of a list, by its place
 abbrev pub AreWeaving : {B : Type 0} → (B → Option Files) → (B → Files → Type 0) → (B → ℕ) → Numbers → ℕ → List (List ℕ) → List (Standing B) → Type 0
@@ -53,13 +54,8 @@ pub record IsFull {B : Type 0} (files : B → Option Files) (s : Numbers) (bays 
 
 module _ {S B : Type 0} (remaining : S → Option (List ℕ)) (faults : S → ℕ) (files : B → Option Files) (bay_faults : B → ℕ)
     (s : Numbers) (workers : ℕ) (opened now : List S) (bays later : List B) where
-  -- each journal is a weave of beginnings of the cone's keys of all traces
-  pub record ArePartly : Type 0 where
-    pub traces : List (List ℕ)
-    pub keys : AreKeysOf remaining opened traces
-    pub woven : ArePartWoven files s workers later traces
-
-  -- besides, none is closed of which no fault was counted, and of a trace that was still open each packet is whole there
+  -- each journal is a weave of beginnings of the cone's keys of all traces, none is closed of which no fault was counted, and of a
+  -- trace that was still open each packet is whole there
   pub record AreOpenPartly (open_trace : ℕ → ℕ → Type 0) : Type 0 where
     pub traces : List (List ℕ)
     pub keys : AreKeysOf remaining opened traces
@@ -85,11 +81,12 @@ module _ {S B : Type 0} (remaining : S → Option (List ℕ)) (faults : S → �
   StopShows (BadTrace trace at) = IsOpened remaining opened trace (λ bytes. left bytes ≡ Some at) × AreOpenPartly (λ _ other. other ≡ trace)
   StopShows (TooLong trace) = IsOpened remaining opened trace (λ bytes. most_keys < length (whole bytes)) × AreOpenPartly (λ _ other. other ≡ trace)
   StopShows (NotFresh cone) = ⊥
-  StopShows (BayFault cone) = HasFailed bay_faults bays later cone × ArePartly
+  -- where a cone broke it isn't said which traces were still open
+  StopShows (BayFault cone) = HasFailed bay_faults bays later cone × AreOpenPartly (λ _ _. ⊥)
   -- the trace whose packet was refused has no rest in the cone, nor in those above it
   StopShows (CapacityFull cone n len) = IsFull files s later cone n len × AreEnough cone n len
       × ((trace : ℕ) × AreOpenPartly (λ other t. (cone ≤ other) × (t ≡ trace)))
-  StopShows (Malformed cone file at) = IsUntold files bays cone × ArePartly
+  StopShows (Malformed cone file at) = IsUntold files bays cone × AreOpenPartly (λ _ _. ⊥)
   StopShows (OtherSettings cone) = ⊥
   StopShows OutFault = ⊥
   -- memory is wanted before the first key is read alone

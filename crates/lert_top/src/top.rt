@@ -37,8 +37,8 @@ use std::thread::Threads;
 /// writes their headers, has the line's workers read the traces to their ends into the cones, each packet of which goes to the
 /// cone's journal, closes the cones, prints, and puts all back, in this order, and stops at the first fault; what was opened is
 /// put back in each case. Nothing is written to the sink before all traces were read to their ends. What it holds in memory is
-/// the cones, for each worker that has a trace a ring of four packets for each of them and a packet, the readers of the traces, and
-/// a page of text.
+/// the cones with their locks, for each worker that has a trace 4P keys for each cone and 4P more, where P is the line's packet,
+/// the traces with their readers, and a page of text.
 ///
 /// `recover` opens what runs left, as `recover_to` does; `gen` writes a trace of generated keys, as `gen_to` does; `drill` does
 /// what a run does over generated keys and bays in memory, and prints a summary.

@@ -5,7 +5,7 @@ use Rattle.std.proofs.lemmas.Bool.{cases_eq}
 use Rattle.std.proofs.lemmas.List.{length-map}
 use Rattle.std.proofs.lemmas.Option.{slice_get-get_or, slice_get_within, same_Some}
 use Rattle.lert_bay.specs.Files.{Files, IfTold, Turns}
-use Rattle.lert_cone.specs.Sound.{AreEmpty}
+use Rattle.lert_cone.specs.Sound.{AreEmpty, FramesStay}
 use Rattle.lert_cone.specs.Stands.{Standing}
 use Rattle.lert_cone.specs.declared.refusal.CreateFault.{CreateFault}
 use Rattle.lert_cone.specs.declared.refusal.CreateFault.TheVariants as create_fault
@@ -18,8 +18,8 @@ use Rattle.lert_ingest.specs.Status.{create_status}
 use Rattle.lert_ingest.specs.declared.status.Status.{Status}
 use Rattle.lert_ingest.specs.declared.status.Status.TheVariants.{Done, Usage, PlaceFault, TraceFault, BadTrace, TooLong, NotFresh, BayFault, CapacityFull, Malformed, OtherSettings, OutFault}
 use Rattle.lert_ingest.specs.declared.status.Status.TheVariants.{OutOfMemory}
-use Rattle.lert_ingest.proofs.BayLaws.{are_more, bays_of-push, failed_since, later_seam, slice_get-first, slice_get-seam}
-use Rattle.lert_ingest.proofs.EachLaws.{but_more, each_seam, kept_refused, kept_unused, new_unused, unused_all, unused_more}
+use Rattle.lert_ingest.proofs.BayLaws.{are_more, bays_of-push, failed_since, later_seam, slice_get-first, slice_get-seam, slice_get-some}
+use Rattle.lert_ingest.proofs.EachLaws.{but_more, each_seam, kept_more, kept_refused, kept_unused, new_unused, unused_all, unused_more}
 
 -- a fact of each item and its place, with one item more behind the list
 pub each-push : {X : Type 0} (P : ℕ → X → Type 0) (xs : List X) (y : X) → ((k : ℕ) (x : X) → slice_get xs k ≡ Some x → P k x) → P (length xs) y →
@@ -92,7 +92,10 @@ module _ {B : Type 0} (files : B → Option Files) (faults mark : B → ℕ) whe
           (each_seam (λ k a b. (broke k → ⊥) → IsUnused files s k a b) (λ k b not. inl refl) (bays_of cones) bay back rest
           (subst (λ k. (broke k → ⊥) → IsUnused files s k bay back) (sym at_bay) here))
 
-      pub unmade_by : (back : B) (fault : CreateFault) → AreFresh files bays → {step : Files → Files → Type 0} → Turns step (files bay) (files back) →
+      back_there : (back : B) → slice_get (bays_of cones ++ back ∷ rest) (length cones) ≡ Some back
+      back_there back = ap (slice_get (bays_of cones ++ back ∷ rest)) (sym at_bay) ∙ slice_get-seam (bays_of cones) back rest
+
+      pub unmade_by : (back : B) (fault : CreateFault) → AreFresh files bays → Turns FramesStay (files bay) (files back) →
           IfTold (files bay) (λ seen. fault ≡ create_fault.NotFresh → AreEmpty seen → ⊥) → (fault ≡ create_fault.Failed → HasRisen (faults bay) (faults back)) →
           IsUnmade files faults s bays (bays_of cones ++ back ∷ rest) (create_status (length cones) fault)
       unmade_by back create_fault.Failed fresh turns stale failed = (
@@ -100,11 +103,16 @@ module _ {B : Type 0} (files : B → Option Files) (faults mark : B → ℕ) whe
           before = bay;
           now = back;
           was = bay_there;
-          is = ap (slice_get (bays_of cones ++ back ∷ rest)) (sym at_bay) ∙ slice_get-seam (bays_of cones) back rest;
+          is = back_there back;
           rose = failed refl;
         },
-        (λ other below. fresh other),
-        back_unused (λ other. other ≡ length cones) back (λ not. absurd (not refl)),
+        inr (record {
+          fresh = fresh;
+          frames = λ before now was is.
+              subst (λ x. Turns FramesStay (files x) (files now)) (same_Some bay before (sym bay_there ∙ was))
+              (subst (λ y. Turns FramesStay (files bay) (files y)) (same_Some back now (sym (back_there back) ∙ is)) turns);
+          others = back_unused (λ other. other ≡ length cones) back (λ not. absurd (not refl));
+        }),
       )
       unmade_by back create_fault.NotFresh fresh turns stale failed =
           let untold : IfTold (files bay) (λ _. ⊥) = λ seen told. stale seen told refl (fresh (length cones) bay bay_there seen told) in (
@@ -142,8 +150,16 @@ module _ {B : Type 0} (files : B → Option Files) (faults mark : B → ℕ) whe
       )
   unmade_since s first then now one two kept fresh fresh_then (BayFault cone) unmade = (
     failed_since files faults mark first then now cone one two unmade.0,
-    (λ other below. fresh other),
-    but_more files s (λ other. other ≡ cone) first then now two.number (kept_unused files s first then kept) unmade.2,
+    elim unmade.1 [
+      | inl unasked ↦ inl (record { below = λ other below. fresh other; kept = kept_more files first then now two.number kept unasked.kept })
+      | inr unheaded ↦ inr (record {
+        fresh = fresh;
+        frames = λ before after was is.
+            let mid = slice_get-some then cone (omega (arith, slice_get_within now cone after is, two.number)) in
+            subst (λ f. Turns FramesStay f (files after)) (kept cone before mid.0 was mid.1) (unheaded.frames mid.0 after mid.1 is);
+        others = but_more files s (λ other. other ≡ cone) first then now two.number (kept_unused files s first then kept) unheaded.others;
+      })
+    ],
   )
   unmade_since s first then now one two kept fresh fresh_then (CapacityFull cone n len) unmade = absurd unmade
   unmade_since s first then now one two kept fresh fresh_then (Malformed cone file at) unmade = absurd unmade

@@ -1,27 +1,28 @@
 -- What the end of all cones says of their journals and of what is printed.
-use Rattle.std.proofs.Common.{◌≡◌, ◌⊎◌, ℕ, ◌+◌, ◌^◌, ◌<◌, ◌≤◌, zero, suc, true, List, [], ◌∷◌, length, map, Option, Some, None, slice_get, refl, ap, sym}
+use Rattle.std.proofs.Common.{◌≡◌, ◌⊎◌, ℕ, ◌+◌, ◌^◌, ◌<◌, ◌≤◌, zero, suc, false, List, [], ◌∷◌, length, map, Option, Some, None, slice_get, refl, ap, sym}
 use Rattle.std.proofs.Common.{◌∙◌, subst, inl, inr, arith}
 use Rattle.std.proofs.lemmas.Bool.{cases_eq, cases_lt}
 use Rattle.std.proofs.lemmas.List.{length-map}
 use Rattle.std.proofs.lemmas.Nat.{pow_pos}
 use Rattle.std.proofs.lemmas.Option.{slice_get_within, same_Some}
 use Rattle.lert_bay.specs.Files.{Files, IfTold}
+use Rattle.lert_cone.specs.Sound.{IsSound, IsSoundAs}
 use Rattle.lert_cone.specs.Stands.{Standing, is_broken}
 use Rattle.lert_base.specs.declared.cone_fault.ConeFault.{ConeFault}
 use Rattle.lert_base.specs.declared.cone_fault.ConeFault.TheVariants as fault
 use Rattle.lert_spec.specs.declared.numbers.Numbers.{Numbers}
 use Rattle.lert_spec.specs.Limits.{IsValid}
 use Rattle.lert_spec.specs.Lines.{Printed, lines}
-use Rattle.lert_ingest.specs.Bays.{AreLater, ArePartWoven, AreWoven, HoldsPart, IsLater, bays_of}
+use Rattle.lert_ingest.specs.Bays.{AreLater, AreWoven, HoldsAll, HoldsWeave, IfHeld, IsLater, bays_of}
 use Rattle.lert_ingest.specs.Status.{cone_status}
 use Rattle.lert_ingest.specs.Stops.{AreWeaving}
 use Rattle.lert_ingest.specs.Traces.{AllFit}
 use Rattle.lert_ingest.specs.declared.status.Status.{Status}
 use Rattle.lert_ingest.proofs.BayLaws.{bay_at, bay_is, slice_get-some}
-use Rattle.lert_top.specs.cones.Finish.{AreClosed, AreFinished, AreFinishedTo, EndShows, HasBroken, HasStopped, IsEnded}
+use Rattle.lert_top.specs.cones.Finish.{AreClosed, AreEndedTo, AreFinished, AreFinishedTo, EndShows, HasBroken, HasStopped, IsEnded, IsFinished}
 use Rattle.lert_top.specs.cones.Print.{ArePrintable, printed_as}
 use Rattle.lert_top.specs.cones.Printed.{IsPrinted}
-use Rattle.lert_top.proofs.cones.FinishLaws.{ended_part, ended_same, events_fit, finished_printed, finished_reports, still_valid}
+use Rattle.lert_top.proofs.cones.FinishLaws.{ended_as, ended_same, ended_woven, events_fit, finished_printed, finished_reports, still_valid}
 use Rattle.lert_top.proofs.cones.PrintedLaws.{printed_all}
 use Rattle.lert_top.proofs.cones.WovenLaws.{woven_length}
 
@@ -77,35 +78,40 @@ module _ {B : Type 0} (files : B → Option Files) (leaves : B → Files → Typ
     running_over : (cone : ℕ) (before : Standing B) → slice_get old cone ≡ Some before → before.over ≡ None
     running_over cone before was = (weaving cone before was).stands.none_over (ap is_broken (weaving cone before was).state_is)
 
-    module _ (number_is : length new ≡ length old)
-        (ended : (cone : ℕ) (before now : Standing B) → slice_get old cone ≡ Some before → slice_get new cone ≡ Some now → IsEnded files leaves faults mark before now)
-        (none_over : (cone : ℕ) (before now : Standing B) → slice_get old cone ≡ Some before → slice_get new cone ≡ Some now → is_broken now.state ≡ true → now.over ≡ None) where
-      -- each journal is partly woven
-      ends_part : ArePartWoven files s workers (bays_of new) traces
-      ends_part cone bay there =
-          let b = slice_get-some new cone (omega (arith, slice_get_within (bays_of new) cone bay there, length-map new (λ (c : Standing B). c.bay))) in
-          let a = slice_get-some old cone (omega (arith, slice_get_within new cone b.0 b.1, number_is)) in
-          let part = ended_part files leaves faults mark s workers traces cone a.0 b.0 (weaving cone a.0 a.1) (ended cone a.0 b.0 a.1 b.1) (none_over cone a.0 b.0 a.1 b.1) in
-          subst (λ x. IfTold (files x) (HoldsPart s workers traces cone)) (sym (bay_is new cone b.0 bay b.1 there)) part
+    -- what is so of the files of a cone is so of those of its bay
+    of_bay : (cone : ℕ) (P : Files → Type 0) → length new ≡ length old →
+        ((before now : Standing B) → slice_get old cone ≡ Some before → slice_get new cone ≡ Some now → IfTold (files now.bay) P) → IfHeld files (bays_of new) cone P
+    of_bay cone P number_is held bay there =
+        let now = slice_get-some new cone (omega (arith, slice_get_within (bays_of new) cone bay there, length-map new (λ (c : Standing B). c.bay))) in
+        let before = slice_get-some old cone (omega (arith, slice_get_within new cone now.0 now.1, number_is)) in
+        subst (λ x. IfTold (files x) P) (sym (bay_is new cone now.0 bay now.1 there)) (held before.0 now.0 before.1 now.1)
 
-    none_over_at : (number from : ℕ) → AreFinishedTo files leaves faults mark number from old new → (cone : ℕ) (before now : Standing B) → (cone < number) ⊎ (from ≤ cone) →
-        slice_get old cone ≡ Some before → slice_get new cone ≡ Some now → is_broken now.state ≡ true → now.over ≡ None
-    none_over_at number from are cone before now (inl less) was is broken =
-        absurd (let clash = sym (ap is_broken (are.below cone before now less was is).state_is) ∙ broken in cc)
-    none_over_at number from are cone before now (inr above) was is broken =
-        ap (λ (c : Standing B). c.over) (sym (same_Some before now (sym was ∙ (sym (are.above cone above) ∙ is)))) ∙ running_over cone before was
+    -- a cone that was finished is closed
+    held_closed : (cone : ℕ) (before now : Standing B) → slice_get old cone ≡ Some before → IsFinished files leaves faults mark before now →
+        IfTold (files now.bay) (HoldsWeave s workers traces cone)
+    held_closed cone before now was finished seen told =
+        let held = finished_reports files leaves faults mark s workers traces cone before now (weaving cone before was) finished.ended finished.listing_is finished.state_is seen told in
+        record { history = held.history; woven = held.woven; sound = held.sound }
 
-    pub stopped_part : (status : Status) → HasStopped files leaves faults mark old new status → ArePartWoven files s workers (bays_of new) traces
-    stopped_part status stopped = ends_part stopped.others.number_is (stopped_ended status stopped) (λ cone before now was is broken.
-        elim (cases_lt cone stopped.cone) [
-          | inl less ↦ none_over_at stopped.cone (stopped.cone + 1) stopped.others cone before now (inl less) was is broken
-          | inr above ↦ elim (cases_eq cone stopped.cone) [
-            | inl same ↦
-                let now_is = same_Some stopped.now now (sym stopped.is ∙ (ap (slice_get new) (sym same) ∙ is)) in
-                ap (λ (c : Standing B). c.over) (sym now_is) ∙ (stopped.broke.over_is ∙ running_over stopped.cone stopped.before stopped.was)
-            | inr differs ↦ none_over_at stopped.cone (stopped.cone + 1) stopped.others cone before now (inr (omega (arith, above, differs))) was is broken
-          ]
-        ])
+    -- one to which the end didn't come isn't
+    held_open : (cone : ℕ) (before : Standing B) → slice_get old cone ≡ Some before → IfTold (files before.bay) (HoldsAll s workers traces cone (IsSoundAs s cone false))
+    held_open cone before was =
+        let at = weaving cone before was in
+        subst (λ b. IfTold (files before.bay) (HoldsAll s workers traces cone (IsSoundAs s cone b))) at.closed_is
+        (ended_as files leaves faults mark s workers traces cone before before at (ended_same files leaves faults mark before) (ap is_broken at.state_is))
+
+    stopped_at : (status : Status) (stopped : HasStopped files leaves faults mark old new status) → AreEndedTo files s workers traces (bays_of new) stopped.cone
+    stopped_at status stopped = record {
+      below = λ other less. of_bay other (HoldsWeave s workers traces other) stopped.others.number_is
+          (λ before now was is. held_closed other before now was (stopped.others.below other before now less was is));
+      here = of_bay stopped.cone (HoldsAll s workers traces stopped.cone (IsSound s stopped.cone)) stopped.others.number_is (λ before now was is.
+          subst (λ (x : Standing B). IfTold (files x.bay) (HoldsAll s workers traces stopped.cone (IsSound s stopped.cone))) (same_Some stopped.now now (sym stopped.is ∙ is))
+          (ended_woven files leaves faults mark s workers traces stopped.cone stopped.before stopped.now (weaving stopped.cone stopped.before stopped.was) stopped.broke.ended
+          (stopped.broke.over_is ∙ running_over stopped.cone stopped.before stopped.was)));
+      above = λ other more. of_bay other (HoldsAll s workers traces other (IsSoundAs s other false)) stopped.others.number_is (λ before now was is.
+          subst (λ (x : Standing B). IfTold (files x.bay) (HoldsAll s workers traces other (IsSoundAs s other false)))
+          (same_Some before now (sym was ∙ (sym (stopped.others.above other (omega (arith, more))) ∙ is))) (held_open other before was));
+    }
 
     -- why the cones weren't all finished
     pub stopped_shows : {K : Type 0} (taken : K → Option (List ℕ)) (sink_faults : K → ℕ) (sink : K) (status : Status) → HasStopped files leaves faults mark old new status →
@@ -113,8 +119,8 @@ module _ {B : Type 0} (files : B → Option Files) (leaves : B → Files → Typ
     stopped_shows taken sink_faults sink status stopped =
         subst (EndShows taken sink_faults files faults s workers traces sink sink (bays_of old) (bays_of new)) (sym stopped.status_is) (by_fault stopped.fault stopped.broke)
       where
-        part : ArePartWoven files s workers (bays_of new) traces
-        part = stopped_part status stopped
+        ends : AreEndedTo files s workers traces (bays_of new) stopped.cone
+        ends = stopped_at status stopped
 
         by_fault : (f : ConeFault) → HasBroken files leaves faults mark f stopped.before stopped.now →
             EndShows taken sink_faults files faults s workers traces sink sink (bays_of old) (bays_of new) (cone_status stopped.cone f)
@@ -130,7 +136,7 @@ module _ {B : Type 0} (files : B → Option Files) (leaves : B → Files → Typ
             rose = broke.by_bay refl;
           },
           refl,
-          part,
+          ends,
         )
         by_fault (fault.Unsound file at) broke =
             let was = weaving stopped.cone stopped.before stopped.was in
@@ -140,7 +146,7 @@ module _ {B : Type 0} (files : B → Option Files) (leaves : B → Files → Typ
                 untold = λ bay there seen told. let clash = sym none ∙ (ap files (sym (bay_is old stopped.cone stopped.before bay stopped.was there)) ∙ told) in cc;
               },
               refl,
-              part,
+              ends,
             )
 
     module _ (number : length old ≡ 2 ^ s.cone_bits) (are : AreFinished files leaves faults mark old new) where
@@ -165,13 +171,8 @@ module _ {B : Type 0} (files : B → Option Files) (leaves : B → Files → Typ
           )
 
       all_woven : AreWoven files s workers (bays_of new) traces
-      all_woven cone bay there seen told =
-          let now = slice_get-some new cone (omega (arith, slice_get_within (bays_of new) cone bay there, length-map new (λ (c : Standing B). c.bay))) in
-          let before = pair_at cone now.0 now.1 in
-          let finished = are.below cone before.0 now.0 (slice_get_within old cone before.0 before.1) before.1 now.1 in
-          let held = finished_reports files leaves faults mark s workers traces cone before.0 now.0 (weaving cone before.0 before.1) finished.ended finished.listing_is finished.state_is
-          seen (ap files (sym (bay_is new cone now.0 bay now.1 there)) ∙ told) in
-          record { history = held.history; woven = held.woven; sound = held.sound }
+      all_woven cone = of_bay cone (HoldsWeave s workers traces cone) are.number_is
+          (λ before now was is. held_closed cone before now was (are.below cone before now (slice_get_within old cone before was) was is))
 
       pub one_printed : (cone : ℕ) (one : Printed) → slice_get (map printed_as new) cone ≡ Some one → IsPrinted files s workers (bays_of new) traces cone one
       one_printed cone one is =

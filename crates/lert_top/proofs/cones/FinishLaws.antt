@@ -1,11 +1,10 @@
 -- Cones that took all keys, and are finished one by one.
-use Rattle.std.proofs.Common.{◌≡◌, ℕ, ◌+◌, ◌≤◌, Bool, true, false, List, [], length, set, Option, Some, None, slice_get, refl, ap, sym}
-use Rattle.std.proofs.Common.{◌∙◌, subst, inl, inr, arith, append-nil}
+use Rattle.std.proofs.Common.{◌≡◌, ℕ, ◌+◌, ◌≤◌, Bool, true, false, List, length, set, Option, Some, None, slice_get, refl, ap, sym}
+use Rattle.std.proofs.Common.{◌∙◌, subst, inl, inr, arith}
 use Rattle.std.proofs.lemmas.Bool.{cases_eq}
 use Rattle.std.proofs.lemmas.List.{length-set}
 use Rattle.std.proofs.lemmas.Option.{slice_get_within, same_Some}
 use Rattle.lert_base.specs.Packet.{Packet, events_of}
-use Rattle.lert_base.specs.Weave.{IsPartWoven, IsWoven}
 use Rattle.lert_bay.specs.Files.{Files, IfTold}
 use Rattle.lert_cone.specs.Listing.{Listing, reports_of}
 use Rattle.lert_cone.specs.Sound.{IsSound, IsSoundAs, IsSoundOver}
@@ -17,7 +16,7 @@ use Rattle.lert_spec.specs.Limits.{IsValid}
 use Rattle.lert_spec.specs.Look.{closing}
 use Rattle.lert_spec.specs.Timely.{IsTimely}
 use Rattle.lert_spec.proofs.TimeBound.{IsTimely-closing}
-use Rattle.lert_ingest.specs.Bays.{HoldsPart}
+use Rattle.lert_ingest.specs.Bays.{HoldsAll}
 use Rattle.lert_ingest.specs.Stops.{IsWeaving}
 use Rattle.lert_ingest.specs.Traces.{part_length}
 use Rattle.lert_ingest.proofs.BayLaws.{later_same, slice_get-set_other, slice_get-set_same}
@@ -25,14 +24,6 @@ use Rattle.lert_top.specs.cones.Finish.{AreFinishedTo, IsEnded, IsFinished}
 use Rattle.lert_top.specs.cones.Print.{printed_as}
 use Rattle.lert_top.specs.cones.Printed.{HoldsReported, IsPrinted}
 use Rattle.lert_top.proofs.cones.WovenLaws.{woven_length}
-
--- a weave is one of beginnings
-pub woven_part : (s : Numbers) (cone workers : ℕ) (traces : List (List ℕ)) (history : List Packet) → IsWoven s cone workers traces history → IsPartWoven s cone workers traces history
-woven_part s cone workers traces history woven = record {
-  each = woven.each;
-  joined = λ trace keys is. ([], append-nil _ ∙ woven.joined trace keys is);
-  cut = woven.cut;
-}
 
 module _ {B : Type 0} (files : B → Option Files) (leaves : B → Files → Type 0) (faults mark : B → ℕ) where
   pub sound_still : (old new : Standing B) → IsSameCone old new → WasSound files old → WasSound files new
@@ -110,20 +101,29 @@ module _ {B : Type 0} (files : B → Option Files) (leaves : B → Files → Typ
     of_cone : (history : List Packet) (seen : Files) → IsSound new.listing.settings new.listing.cone history seen → IsSound s number history seen
     of_cone history seen sound = subst (λ n. IsSound s n history seen) cone_is (subst (λ (t : Numbers). IsSound t new.listing.cone history seen) settings_is sound)
 
-    -- its journal is partly woven, whether it is broken or not
-    pub ended_part : (is_broken new.state ≡ true → new.over ≡ None) → IfTold (files new.bay) (HoldsPart s workers traces number)
-    ended_part none_over = λ seen told. by_state seen told (is_broken new.state) refl
+    -- its journal is woven, whether it is broken or not
+    pub ended_woven : new.over ≡ None → IfTold (files new.bay) (HoldsAll s workers traces number (IsSound s number))
+    ended_woven none = λ seen told. by_state seen told (is_broken new.state) refl
       where
-        part : IsPartWoven s number workers traces weaving.history
-        part = woven_part s number workers traces weaving.history weaving.woven
+        by_sound : (seen : Files) → IsSoundOver new.listing.settings new.listing.cone weaving.history new.over seen → HoldsAll s workers traces number (IsSound s number) seen
+        by_sound seen (inl sound) = record { history = weaving.history; woven = weaving.woven; sound = of_cone weaving.history seen sound }
+        by_sound seen (inr more) = absurd (let gone = sym none ∙ more.1 in cc)
 
-        by_sound : (seen : Files) → new.over ≡ None → IsSoundOver new.listing.settings new.listing.cone weaving.history new.over seen → HoldsPart s workers traces number seen
-        by_sound seen none (inl sound) = record { history = weaving.history; woven = part; sound = of_cone weaving.history seen sound }
-        by_sound seen none (inr more) = absurd (let gone = sym none ∙ more.1 in cc)
+        by_state : (seen : Files) → files new.bay ≡ Some seen → (b : Bool) → is_broken new.state ≡ b → HoldsAll s workers traces number (IsSound s number) seen
+        by_state seen told false is = record {
+          history = weaving.history;
+          woven = weaving.woven;
+          sound = of_cone weaving.history seen (stood.whole is was seen told).files.kept.as_read.sound;
+        }
+        by_state seen told true is = by_sound seen (stood.broken is was seen told).as_read
 
-        by_state : (seen : Files) → files new.bay ≡ Some seen → (b : Bool) → is_broken new.state ≡ b → HoldsPart s workers traces number seen
-        by_state seen told false is = record { history = weaving.history; woven = part; sound = of_cone weaving.history seen (stood.whole is was seen told).files.kept.as_read.sound }
-        by_state seen told true is = by_sound seen (none_over is) (stood.broken is was seen told).as_read
+    -- and while it isn't broken, its files are closed just where its listing is
+    sound_as : is_broken new.state ≡ false → IfTold (files new.bay) (IsSoundAs s number new.listing.closed weaving.history)
+    sound_as whole = λ seen told. subst (λ n. IsSoundAs s n new.listing.closed weaving.history seen) cone_is
+        (subst (λ (t : Numbers). IsSoundAs t new.listing.cone new.listing.closed weaving.history seen) settings_is (stood.whole whole was seen told).files.kept.as_read)
+
+    pub ended_as : is_broken new.state ≡ false → IfTold (files new.bay) (HoldsAll s workers traces number (IsSoundAs s number new.listing.closed))
+    ended_as whole = λ seen told. record { history = weaving.history; woven = weaving.woven; sound = sound_as whole seen told }
 
     module _ (listing_is : new.listing ≡ record old.listing { closed = true }) (state_is : new.state ≡ Finished) where
       closed_is : new.listing.closed ≡ true
@@ -136,9 +136,7 @@ module _ {B : Type 0} (files : B → Option Files) (leaves : B → Files → Typ
           record {
             history = weaving.history;
             woven = weaving.woven;
-            sound = subst (λ (b : Bool). IsSoundAs s number b weaving.history seen) closed_is
-                (subst (λ n. IsSoundAs s n new.listing.closed weaving.history seen) cone_is
-                (subst (λ (t : Numbers). IsSoundAs t new.listing.cone new.listing.closed weaving.history seen) settings_is whole.files.kept.as_read));
+            sound = subst (λ (b : Bool). IsSoundAs s number b weaving.history seen) closed_is (sound_as (ap is_broken state_is) seen told);
             reports_are = reports whole.in_step.reports_are whole.keys;
             in_time = subst (IsTimely s.threshold s.bins (events_of weaving.history)) (sym (reports whole.in_step.reports_are whole.keys))
                 (IsTimely-closing s (events_of weaving.history) still_valid events_fit);

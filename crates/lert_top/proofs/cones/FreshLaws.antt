@@ -11,7 +11,7 @@ use Rattle.lert_ingest.specs.declared.status.Status.TheVariants.{BayFault, NotFr
 use Rattle.lert_ingest.specs.Bays.{AreFresh, AreFreshBelow, AreKept, AreLater, HasFailed, IfHeld, IsLater, IsStale}
 use Rattle.lert_top.specs.cones.Unmade.{IsUnmade}
 use Rattle.lert_ingest.proofs.BayLaws.{are_more, later_set, slice_get-set_other, slice_get-set_same}
-use Rattle.lert_ingest.proofs.EachLaws.{kept_more, kept_set, kept_unused, unused_but}
+use Rattle.lert_ingest.proofs.EachLaws.{kept_more, kept_set, kept_unused}
 
 -- a look at a bay, behind looks at those below it
 pub record IsLooked {B : Type 0} (files : B → Option Files) (faults mark : B → ℕ) (bays now : List B) (cone : ℕ) (old new : B) : Type 0 where
@@ -79,11 +79,7 @@ module _ {B : Type 0} (files : B → Option Files) (faults mark : B → ℕ) (ba
 
   pub failed_unmade : AreKept files bays now → AreFreshBelow files bays cone → HasRisen (faults old) (faults new) → (s : Numbers) →
       IsUnmade files faults s bays (set now cone new) (BayFault cone)
-  failed_unmade kept lower rose s = (
-    looked_failed rose,
-    lower,
-    unused_but files s (λ other. other ≡ cone) bays (set now cone new) (kept_unused files s bays (set now cone new) (looked_kept kept)),
-  )
+  failed_unmade kept lower rose s = (looked_failed rose, inl (record { below = lower; kept = looked_kept kept }))
 
 -- all bays that a look met are all bays
 pub looked_all : {B : Type 0} (files : B → Option Files) (bays : List B) (cone : ℕ) → length bays ≤ cone →

@@ -8,15 +8,15 @@ use Rattle.lert_spec.specs.declared.numbers.Numbers.{Numbers}
 use Rattle.lert_ingest.specs.declared.status.Status.{Status}
 use Rattle.lert_ingest.specs.declared.status.Status.TheVariants.{Done, Usage, PlaceFault, TraceFault, BadTrace, TooLong, NotFresh, BayFault, CapacityFull, Malformed, OtherSettings, OutFault}
 use Rattle.lert_ingest.specs.declared.status.Status.TheVariants.{OutOfMemory}
-use Rattle.lert_ingest.specs.Bays.{AreFaultless, AreFresh, AreFreshBelow, AreLater, AreOpenWoven, AreTold, AreToldFresh, AreUnused, IsStale}
-use Rattle.lert_ingest.specs.Stops.{AreOpenPartly, ArePartly, IsExact, StopShows}
-use Rattle.lert_ingest.specs.Traces.{AreKeysOf, AreReadToEnd}
-use Rattle.lert_ingest.proofs.EachLaws.{but_more, unused_but}
+use Rattle.lert_ingest.specs.Bays.{AreFaultless, AreFresh, AreLater, AreOpenWoven, AreTold, AreToldFresh, AreUnused, IsStale}
+use Rattle.lert_ingest.specs.Stops.{AreOpenPartly, IsExact, StopShows}
+use Rattle.lert_ingest.specs.Traces.{AllFit, AreKeysOf, AreReadToEnd}
+use Rattle.lert_ingest.proofs.EachLaws.{unused_more}
 use Rattle.lert_ingest.proofs.BayLaws.{failed_since, slice_get-some, told_later, untold_since}
-use Rattle.lert_top.specs.cones.Finish.{AreClosed, EndShows}
+use Rattle.lert_top.specs.cones.Finish.{AreClosed, AreEndedTo, EndShows}
 use Rattle.lert_top.proofs.cones.StatusLaws.{failed_or_not, faultless_since, faultless_until, fresh_told, no_rise, stale_or_not, untold_or_not}
-use Rattle.lert_top.specs.runs.Run.{ReadAll, StatusShows}
-use Rattle.lert_top.specs.cones.Unmade.{IsUnmade}
+use Rattle.lert_top.specs.runs.Run.{HasBrokenOff, ReadAll, StatusShows}
+use Rattle.lert_top.specs.cones.Unmade.{BrokeEarly, IsUnmade}
 
 module _ {B : Type 0} (files : B → Option Files) (faults mark : B → ℕ) (first then now : List B) (one : AreLater files faults mark first then) (two : AreLater files faults
     mark then now) where
@@ -58,13 +58,16 @@ module _ {S K B : Type 0} (remaining : S → Option (List ℕ)) (faults : S → 
       still = open_since files bay_faults mark first then now one two settings workers open_trace part.traces part.still;
     }
 
-    part_since : ArePartly remaining faults files bay_faults settings workers opened backs then now → ArePartly remaining faults files bay_faults settings workers opened backs first now
-    part_since part = record { traces = part.traces; keys = part.keys; woven = part.woven }
+    broken_since : (cone : ℕ) → HasBrokenOff remaining faults taken sink_faults files bay_faults settings workers opened backs before after then now cone →
+        HasBrokenOff remaining faults taken sink_faults files bay_faults settings workers opened backs before after first now cone
+    broken_since cone (inl part) = inl (partly_since (λ _ _. ⊥) part)
+    broken_since cone (inr end) = inr (record { traces = end.traces; keys = end.keys; read = end.read; fits = end.fits; ended = end.ended })
 
     module _ (fresh : AreFresh files first) (unused : AreUnused files settings first then) where
       pub shows_since : (status : Status) →
-          StatusShows remaining faults taken sink_faults files bay_faults settings workers opened backs before after then now (λ _. ⊥) (λ _. ⊤) status →
-          StatusShows remaining faults taken sink_faults files bay_faults settings workers opened backs before after first now (IsStale files first) (AreFreshBelow files first) status
+          StatusShows remaining faults taken sink_faults files bay_faults settings workers opened backs before after then now (λ _. ⊥) (λ _. ⊥) ⊤ status →
+          StatusShows remaining faults taken sink_faults files bay_faults settings workers opened backs before after first now (IsStale files first) (BrokeEarly files settings first now)
+          (AreFresh files first) status
       shows_since Done shows = record {
         traces = shows.traces;
         keys = shows.keys;
@@ -85,10 +88,9 @@ module _ {S K B : Type 0} (remaining : S → Option (List ℕ)) (faults : S → 
         failed_since files bay_faults mark first then now cone one two shows.0,
         shows.1,
         elim shows.2 [
-          | inl early ↦ inl (early.0, but_more files settings (λ other. other ≡ cone) first then now two.number unused early.1)
-          | inr parts ↦ inr (part_since parts)
+          | inl early ↦ absurd early.1
+          | inr broken ↦ inr (fresh, broken_since cone broken.1)
         ],
-        λ other below. fresh other,
       )
       shows_since (CapacityFull cone n len) shows = (
         shows.0,
@@ -96,7 +98,7 @@ module _ {S K B : Type 0} (remaining : S → Option (List ℕ)) (faults : S → 
         shows.2,
         let part = shows.3 in (part.0, partly_since (λ other t. (cone ≤ other) × (t ≡ part.0)) part.1),
       )
-      shows_since (Malformed cone file at) shows = (untold_since files bay_faults mark first then cone one shows.0, shows.1, part_since shows.2)
+      shows_since (Malformed cone file at) shows = (untold_since files bay_faults mark first then cone one shows.0, shows.1, broken_since cone shows.2)
       shows_since (OtherSettings cone) shows = absurd shows
       shows_since OutFault shows = (
         shows.0,
@@ -111,7 +113,7 @@ module _ {S K B : Type 0} (remaining : S → Option (List ℕ)) (faults : S → 
           text = shows.1.text;
         },
       )
-      shows_since OutOfMemory shows = (shows.0, (shows.1.0, but_more files settings (λ _. ⊥) first then now two.number unused shows.1.1))
+      shows_since OutOfMemory shows = (shows.0, shows.1, unused_more files settings first then now two.number unused shows.2)
 
     -- so it is of which one comes
     pub exact_since : (ok : Type 0) (fails : Status → Type 0) → AreToldFresh files first → IsExact remaining faults files bay_faults settings workers opened backs then now ok fails →
@@ -127,7 +129,8 @@ module _ {S K B : Type 0} (remaining : S → Option (List ℕ)) (faults : S → 
   -- why no cones were made, before a byte of a trace was read
   module _ (opened : List S) (before : K) (bays later : List B) where
     pub shows_unmade : (status : Status) → IsUnmade files bay_faults settings bays later status →
-        StatusShows remaining faults taken sink_faults files bay_faults settings workers opened opened before before bays later (IsStale files bays) (AreFreshBelow files bays) status
+        StatusShows remaining faults taken sink_faults files bay_faults settings workers opened opened before before bays later (IsStale files bays)
+        (BrokeEarly files settings bays later) (AreFresh files bays) status
     shows_unmade Done unmade = absurd unmade
     shows_unmade (Usage rule) unmade = absurd unmade
     shows_unmade PlaceFault unmade = absurd unmade
@@ -135,12 +138,12 @@ module _ {S K B : Type 0} (remaining : S → Option (List ℕ)) (faults : S → 
     shows_unmade (BadTrace trace at) unmade = absurd unmade
     shows_unmade (TooLong trace) unmade = absurd unmade
     shows_unmade (NotFresh cone) unmade = (unmade.0, refl, refl, unmade.1, unmade.2)
-    shows_unmade (BayFault cone) unmade = (unmade.0, refl, inl (refl, unmade.2), unmade.1)
+    shows_unmade (BayFault cone) unmade = (unmade.0, refl, inl (refl, unmade.1))
     shows_unmade (CapacityFull cone n len) unmade = absurd unmade
     shows_unmade (Malformed cone file at) unmade = absurd unmade
     shows_unmade (OtherSettings cone) unmade = absurd unmade
     shows_unmade OutFault unmade = absurd unmade
-    shows_unmade OutOfMemory unmade = (refl, (refl, unused_but files settings (λ _. ⊥) bays later unmade))
+    shows_unmade OutOfMemory unmade = (refl, refl, unmade)
 
     only_memory : (status : Status) → IsUnmade files bay_faults settings bays later status → AreToldFresh files bays → AreFaultless bay_faults bays later → status ≡ OutOfMemory
     only_memory Done unmade fresh none = absurd unmade
@@ -175,9 +178,9 @@ module _ {S K B : Type 0} (remaining : S → Option (List ℕ)) (faults : S → 
   }
 
   -- why reading stopped
-  module _ (opened backs : List S) (before : K) (bays later : List B) (stale : ℕ → Type 0) where
+  module _ (opened backs : List S) (before : K) (bays later : List B) (stale early : ℕ → Type 0) where
     pub shows_stopped : (status : Status) → StopShows remaining faults files bay_faults settings workers opened backs bays later status → AreUnused files settings bays bays →
-        StatusShows remaining faults taken sink_faults files bay_faults settings workers opened backs before before bays later stale (λ _. ⊤) status
+        StatusShows remaining faults taken sink_faults files bay_faults settings workers opened backs before before bays later stale early ⊤ status
     shows_stopped Done stopped same = absurd stopped
     shows_stopped (Usage rule) stopped same = absurd stopped
     shows_stopped PlaceFault stopped same = absurd stopped
@@ -185,17 +188,16 @@ module _ {S K B : Type 0} (remaining : S → Option (List ℕ)) (faults : S → 
     shows_stopped (BadTrace trace at) stopped same = (stopped.0, refl, stopped.1)
     shows_stopped (TooLong trace) stopped same = (stopped.0, refl, stopped.1)
     shows_stopped (NotFresh cone) stopped same = absurd stopped
-    shows_stopped (BayFault cone) stopped same = (stopped.0, refl, inr stopped.1, tt)
+    shows_stopped (BayFault cone) stopped same = (stopped.0, refl, inr (tt, inl stopped.1))
     shows_stopped (CapacityFull cone n len) stopped same = (stopped.0, stopped.1, refl, stopped.2)
-    shows_stopped (Malformed cone file at) stopped same = (stopped.0, refl, stopped.1)
+    shows_stopped (Malformed cone file at) stopped same = (stopped.0, refl, inl stopped.1)
     shows_stopped (OtherSettings cone) stopped same = absurd stopped
     shows_stopped OutFault stopped same = absurd stopped
-    shows_stopped OutOfMemory stopped same =
-        (refl, (stopped.0, unused_but files settings (λ _. ⊥) bays later (subst (AreUnused files settings bays) (sym stopped.1) same)))
+    shows_stopped OutOfMemory stopped same = (refl, stopped.0, subst (AreUnused files settings bays) (sym stopped.1) same)
 
   -- all was read, and what the end of the cones says
   module _ (mark : B → ℕ) (opened backs : List S) (before after : K) (bays then later : List B) (traces : List (List ℕ)) (one : AreLater files bay_faults mark bays then)
-      (two : AreLater files bay_faults mark then later) (keys : AreKeysOf remaining opened traces) (read : AreReadToEnd remaining opened backs) (stale : ℕ → Type 0) where
+      (two : AreLater files bay_faults mark then later) (keys : AreKeysOf remaining opened traces) (read : AreReadToEnd remaining opened backs) (fits : AllFit settings traces) (stale early : ℕ → Type 0) where
     read_all : (P : List ℕ → Type 0) → AreClosed files settings workers traces later P →
         ReadAll remaining faults taken sink_faults files bay_faults settings workers opened backs before after bays later P
     read_all P closed = record {
@@ -209,8 +211,12 @@ module _ {S K B : Type 0} (remaining : S → Option (List ℕ)) (faults : S → 
       text = closed.text;
     }
 
+    ended_at : (cone : ℕ) → AreEndedTo files settings workers traces later cone →
+        HasBrokenOff remaining faults taken sink_faults files bay_faults settings workers opened backs before after bays later cone
+    ended_at cone ended = inr (record { traces = traces; keys = keys; read = read; fits = fits; ended = ended })
+
     pub shows_ended : (status : Status) → EndShows taken sink_faults files bay_faults settings workers traces before after then later status →
-        StatusShows remaining faults taken sink_faults files bay_faults settings workers opened backs before after bays later stale (λ _. ⊤) status
+        StatusShows remaining faults taken sink_faults files bay_faults settings workers opened backs before after bays later stale early ⊤ status
     shows_ended Done shows = read_all _ shows
     shows_ended (Usage rule) shows = absurd shows
     shows_ended PlaceFault shows = absurd shows
@@ -221,14 +227,13 @@ module _ {S K B : Type 0} (remaining : S → Option (List ℕ)) (faults : S → 
     shows_ended (BayFault cone) shows = (
       failed_since files bay_faults mark bays then later cone one two shows.0,
       shows.1,
-      inr (record { traces = traces; keys = keys; woven = shows.2 }),
-      tt,
+      inr (tt, ended_at cone shows.2),
     )
     shows_ended (CapacityFull cone n len) shows = absurd shows
     shows_ended (Malformed cone file at) shows = (
       untold_since files bay_faults mark bays then cone one shows.0,
       shows.1,
-      record { traces = traces; keys = keys; woven = shows.2 },
+      ended_at cone shows.2,
     )
     shows_ended (OtherSettings cone) shows = absurd shows
     shows_ended OutFault shows = (shows.0, read_all _ shows.1)

@@ -11,11 +11,12 @@ use Rattle.lert_ingest.specs.declared.status.Status.TheVariants.{Done, Usage, Pl
 use Rattle.lert_ingest.specs.declared.status.Status.TheVariants.{OutOfMemory}
 use Rattle.lert_ingest.specs.Bays.{AreFaultlessTo, AreFresh, AreFreshBelow, AreLater, AreToldFresh, IsStale}
 use Rattle.lert_ingest.specs.Stops.{IsExact}
-use Rattle.lert_ingest.specs.Traces.{AreKeysOf, AreReadToEnd}
+use Rattle.lert_ingest.specs.Traces.{AllFit, AreKeysOf, AreReadToEnd}
 use Rattle.lert_ingest.proofs.BayLaws.{slice_get-some}
 use Rattle.lert_top.specs.cones.Finish.{EndShows}
 use Rattle.lert_top.specs.runs.Ran.{IsDone}
-use Rattle.lert_top.specs.runs.Run.{HasRun, StatusShows, is_past_freshness}
+use Rattle.lert_top.specs.runs.Run.{HasBrokenOff, HasRun, StatusShows, is_past_freshness}
+use Rattle.lert_top.specs.cones.Unmade.{BrokeEarly}
 use Rattle.lert_top.proofs.cones.StatusLaws.{fresh_told, no_rise}
 use Rattle.lert_top.proofs.runs.Ending.{are_faultless_until, ends_done, exact_memory}
 
@@ -52,11 +53,11 @@ module _ {S K B : Type 0} (remaining : S → Option (List ℕ)) (faults : S → 
 
   -- all was read, and the cones ended with the run's status
   pub exact_ended : (mark : B → ℕ) (then : List B) (traces : List (List ℕ)) → AreLater files bay_faults mark bays then → AreLater files bay_faults mark then later →
-      AreKeysOf remaining opened traces → AreReadToEnd remaining opened backs → (read : Result (Unit {0}) Status) → read ≡ Ok tt →
+      AreKeysOf remaining opened traces → AreReadToEnd remaining opened backs → AllFit s traces → (read : Result (Unit {0}) Status) → read ≡ Ok tt →
       IsExact remaining faults files bay_faults s workers opened backs bays then (read ≡ Ok tt) (λ other. read ≡ Err other) →
       ((status : Status) → EndShows taken sink_faults files bay_faults s workers traces before after then later status →
       IsExact remaining faults files bay_faults s workers opened backs bays later (IsDone sink_faults before after status) (λ other. status ≡ other))
-  exact_ended mark then traces one two keys read_all read is exact status shows = record {
+  exact_ended mark then traces one two keys read_all all_fit read is exact status shows = record {
     bad = λ told none traces_none texts are few fits trace at bytes found leaves lower.
         neither (exact.bad told (are_faultless_until files bay_faults mark bays then later one two none) traces_none texts are few fits trace at bytes found leaves lower);
     full = λ told none traces_none texts are formed few over named many.
@@ -65,8 +66,8 @@ module _ {S K B : Type 0} (remaining : S → Option (List ℕ)) (faults : S → 
           | inr memory ↦ absurd (ok_or_not read tt OutOfMemory is memory)
         ];
     complete = λ told none traces_none texts are formed few fits.
-        inl (λ kept. ends_done remaining faults taken sink_faults files bay_faults s workers mark opened backs before after bays then later traces one two keys read_all (λ cone. ⊥)
-        status shows told none kept);
+        inl (λ kept. ends_done remaining faults taken sink_faults files bay_faults s workers mark opened backs before after bays then later traces one two keys read_all all_fit (λ cone. ⊥)
+        (λ cone. ⊥) status shows told none kept);
   }
     where
       neither : {a b : Status} → (read ≡ Err a) ⊎ (read ≡ Err b) → (status ≡ a) ⊎ (status ≡ b)
@@ -74,7 +75,8 @@ module _ {S K B : Type 0} (remaining : S → Option (List ℕ)) (faults : S → 
       neither {b = b} (inr two) = absurd (ok_or_not read tt b is two)
 
   abbrev Shows : Status → Type 0
-  Shows = StatusShows remaining faults taken sink_faults files bay_faults s workers opened backs before after bays later (IsStale files bays) (AreFreshBelow files bays)
+  Shows = StatusShows remaining faults taken sink_faults files bay_faults s workers opened backs before after bays later (IsStale files bays)
+      (BrokeEarly files s bays later) (AreFresh files bays)
 
   -- traces and bays that were opened end neither in a fault of the place nor in one of the words
   pub not_place_fault : (status : Status) → Shows status → status ≡ PlaceFault → ⊥
@@ -82,6 +84,16 @@ module _ {S K B : Type 0} (remaining : S → Option (List ℕ)) (faults : S → 
 
   pub not_usage : (rule : ℕ) (status : Status) → Shows status → status ≡ Usage rule → ⊥
   not_usage rule status shows is = subst Shows is shows
+
+  -- the files of the bays below one that failed had no byte
+  fresh_below : (cone : ℕ) → ((backs ≡ opened) × BrokeEarly files s bays later cone)
+      ⊎ (AreFresh files bays × HasBrokenOff remaining faults taken sink_faults files bay_faults s workers opened backs before after bays later cone) →
+      AreFreshBelow files bays cone
+  fresh_below cone (inl early) = elim early.1 [
+    | inl unasked ↦ unasked.below
+    | inr unheaded ↦ λ other below. unheaded.fresh other
+  ]
+  fresh_below cone (inr broken) = λ other below. broken.0 other
 
   stale_exactly : (cone : ℕ) (bay : B) (seen : Files) → AreFaultlessTo bay_faults cone bays later → slice_get bays cone ≡ Some bay → files bay ≡ Some seen →
       (AreEmpty seen → ⊥) →
@@ -108,7 +120,7 @@ module _ {S K B : Type 0} (remaining : S → Option (List ℕ)) (faults : S → 
   stale_exactly cone bay seen none there told not_empty lower (BayFault other) shows fresh =
       let failed = shows.0 in
       elim (cases_lt cone other) [
-        | inl under ↦ absurd (not_empty (shows.3 cone under bay there seen told))
+        | inl under ↦ absurd (not_empty (fresh_below other shows.2 cone under bay there seen told))
         | inr reached ↦ absurd (no_rise (bay_faults failed.before) (bay_faults failed.now) (none other failed.before failed.now failed.was failed.is reached) failed.rose)
       ]
   stale_exactly cone bay seen none there told not_empty lower (CapacityFull other n len) shows fresh = absurd (not_empty (fresh refl cone bay there seen told))
@@ -140,6 +152,6 @@ module _ {S K B : Type 0} (remaining : S → Option (List ℕ)) (faults : S → 
       after bays later OutOfMemory
   run_none backs_are after_is none_later none_bays =
       HasRun-shows OutOfMemory
-      (after_is, (backs_are, λ cone first last was is broke. absurd (let gone = slice_get_within later cone last is in omega (arith, gone, ap length none_later)))) (λ other.
+      (after_is, backs_are, λ cone first last was is. absurd (let gone = slice_get_within later cone last is in omega (arith, gone, ap length none_later))) (λ other.
       absurd (other refl))
       (λ is. absurd (cc)) (λ told. exact_memory remaining faults taken sink_faults files bay_faults s workers opened backs bays later (IsDone sink_faults before after OutOfMemory))

@@ -2,6 +2,7 @@
 use Rattle.std.specs.Prelude.{◌≡◌, ℕ, ◌+◌, ◌<◌, ◌≤◌, true, false, List, ◌++◌, length, Option, Some, None, slice_get}
 use Rattle.lert_base.specs.Packet.{Packet}
 use Rattle.lert_bay.specs.Files.{Files}
+use Rattle.lert_cone.specs.Sound.{IsSound, IsSoundAs}
 use Rattle.lert_cone.specs.Stands.{IsSameCone, Standing, StandsFor, WasSound, is_refusal}
 use Rattle.lert_base.specs.declared.cone_fault.ConeFault.{ConeFault}
 use Rattle.lert_base.specs.declared.cone_fault.ConeFault.TheVariants.{BayFailed, Unsound}
@@ -10,7 +11,7 @@ use Rattle.lert_io.specs.Fault.{HasRisen}
 use Rattle.lert_io.specs.Reading.{IfTold}
 use Rattle.lert_spec.specs.declared.numbers.Numbers.{Numbers}
 use Rattle.lert_spec.specs.Lines.{Printed, lines}
-use Rattle.lert_ingest.specs.Bays.{ArePartWoven, AreWoven, HasFailed, IsLater, IsUntold}
+use Rattle.lert_ingest.specs.Bays.{AreWoven, HasFailed, HoldsAll, HoldsWeave, IfHeld, IsLater, IsUntold}
 use Rattle.lert_ingest.specs.Status.{cone_status}
 use Rattle.lert_ingest.specs.Traces.{AllFit}
 use Rattle.lert_ingest.specs.declared.status.Status.{Status}
@@ -74,6 +75,13 @@ pub record AreClosed {B : Type 0} (files : B → Option Files) (s : Numbers) (wo
   pub printed : ArePrinted files s workers later traces cones
   pub text : P (lines cones)
 
+-- The end broke off at a cone. The keys of traces are all in the journals. Those of the cones below it are closed, those of the
+-- cones above it aren't, and its own may be.
+pub record AreEndedTo {B : Type 0} (files : B → Option Files) (s : Numbers) (workers : ℕ) (traces : List (List ℕ)) (later : List B) (cone : ℕ) : Type 0 where
+  pub below : (other : ℕ) → other < cone → IfHeld files later other (HoldsWeave s workers traces other)
+  pub here : IfHeld files later cone (HoldsAll s workers traces cone (IsSound s cone))
+  pub above : (other : ℕ) → cone < other → IfHeld files later other (HoldsAll s workers traces other (IsSoundAs s other false))
+
 -- what the status says of cones that were to be finished and printed, by their bays as they were and as they are
 module _ {K B : Type 0} (taken : K → Option (List ℕ)) (sink_faults : K → ℕ) (files : B → Option Files) (faults : B → ℕ) (s : Numbers) (workers : ℕ) (traces : List (List ℕ))
     (before after : K) (bays later : List B) where
@@ -85,9 +93,9 @@ module _ {K B : Type 0} (taken : K → Option (List ℕ)) (sink_faults : K → �
   EndShows (BadTrace trace at) = ⊥
   EndShows (TooLong trace) = ⊥
   EndShows (NotFresh cone) = ⊥
-  EndShows (BayFault cone) = HasFailed faults bays later cone × (after ≡ before) × ArePartWoven files s workers later traces
+  EndShows (BayFault cone) = HasFailed faults bays later cone × (after ≡ before) × AreEndedTo files s workers traces later cone
   EndShows (CapacityFull cone n len) = ⊥
-  EndShows (Malformed cone file at) = IsUntold files bays cone × (after ≡ before) × ArePartWoven files s workers later traces
+  EndShows (Malformed cone file at) = IsUntold files bays cone × (after ≡ before) × AreEndedTo files s workers traces later cone
   EndShows (OtherSettings cone) = ⊥
   EndShows OutFault = HasRisen (sink_faults before) (sink_faults after) × AreClosed files s workers traces later (IsCut (taken before) (taken after))
   EndShows OutOfMemory = ⊥

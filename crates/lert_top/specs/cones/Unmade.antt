@@ -1,15 +1,31 @@
 -- Why no cones were made over the bays of a run.
-use Rattle.std.specs.Prelude.{◌≡◌, ℕ, List, Option}
-use Rattle.lert_bay.specs.Files.{Files}
+use Rattle.std.specs.Prelude.{◌≡◌, ◌⊎◌, ℕ, List, Option, Some, slice_get}
+use Rattle.lert_bay.specs.Files.{Files, Turns}
+use Rattle.lert_cone.specs.Sound.{FramesStay}
 use Rattle.lert_spec.specs.declared.numbers.Numbers.{Numbers}
-use Rattle.lert_ingest.specs.Bays.{AreFreshBelow, AreKept, AreUnused, AreUnusedBut, HasFailed, IfHeld, IsStale}
+use Rattle.lert_ingest.specs.Bays.{AreFresh, AreFreshBelow, AreKept, AreUnused, AreUnusedBut, HasFailed, IfHeld, IsStale}
 use Rattle.lert_ingest.specs.declared.status.Status.{Status}
 use Rattle.lert_ingest.specs.declared.status.Status.TheVariants.{Done, Usage, PlaceFault, TraceFault, BadTrace, TooLong, NotFresh, BayFault, CapacityFull, Malformed, OtherSettings, OutFault}
 use Rattle.lert_ingest.specs.declared.status.Status.TheVariants.{OutOfMemory}
 
+-- how long a cone's files are wasn't answered: the files of those below it have no byte, and all files are as they were
+pub record IsUnasked {B : Type 0} (files : B → Option Files) (bays later : List B) (cone : ℕ) : Type 0 where
+  pub below : AreFreshBelow files bays cone
+  pub kept : AreKept files bays later
+
+-- A cone wasn't made over its bay, and no file had a byte. Any bytes may stand in its journal and its log, its frames are as they
+-- were, and no other journal has a packet.
+pub record IsUnheaded {B : Type 0} (files : B → Option Files) (settings : Numbers) (bays later : List B) (cone : ℕ) : Type 0 where
+  pub fresh : AreFresh files bays
+  pub frames : (before now : B) → slice_get bays cone ≡ Some before → slice_get later cone ≡ Some now → Turns FramesStay (files before) (files now)
+  pub others : AreUnusedBut files settings (λ other. other ≡ cone) bays later
+
+-- what a bay leaves that failed before the first byte of a trace was read
+abbrev pub BrokeEarly : {B : Type 0} → (B → Option Files) → Numbers → List B → List B → ℕ → Type 0
+BrokeEarly files settings bays later cone = IsUnasked files bays later cone ⊎ IsUnheaded files settings bays later cone
+
 -- Why no cones were made over bays: a file of one isn't empty, a bay failed, or there is no memory. No journal has a packet
--- then, but for that of the bay that failed, at which any bytes may stand in the journal's header; and where the cone that
--- isn't fresh tells its files, all files are as they were.
+-- then, but for that of the bay that failed; and where the cone that isn't fresh tells its files, all files are as they were.
 abbrev pub IsUnmade : {B : Type 0} → (B → Option Files) → (B → ℕ) → Numbers → List B → List B → Status → Type 0
 IsUnmade files faults settings bays later Done = ⊥
 IsUnmade files faults settings bays later (Usage rule) = ⊥
@@ -20,7 +36,7 @@ IsUnmade files faults settings bays later (TooLong trace) = ⊥
 IsUnmade files faults settings bays later (NotFresh cone) =
     IsStale files bays cone × IfHeld files bays cone (λ _. AreKept files bays later) × AreUnused files settings bays later
 IsUnmade files faults settings bays later (BayFault cone) =
-    HasFailed faults bays later cone × AreFreshBelow files bays cone × AreUnusedBut files settings (λ other. other ≡ cone) bays later
+    HasFailed faults bays later cone × BrokeEarly files settings bays later cone
 IsUnmade files faults settings bays later (CapacityFull cone n len) = ⊥
 IsUnmade files faults settings bays later (Malformed cone file at) = ⊥
 IsUnmade files faults settings bays later (OtherSettings cone) = ⊥

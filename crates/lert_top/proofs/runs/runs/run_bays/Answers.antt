@@ -1,12 +1,13 @@
 use Rattle.std.proofs.Common.{◌≡◌, ◌++◌, List, length, ap, sym, ◌∙◌, subst, arith, append-nil}
 use Rattle.std.proofs.lemmas.List.{length-map}
 use Rattle.lert_cone.specs.Stands.{Standing}
-use Rattle.lert_ingest.specs.Bays.{AreFreshBelow, AreLater, IsStale, bays_of}
+use Rattle.lert_ingest.specs.Bays.{AreFresh, AreLater, IsStale, bays_of}
 use Rattle.lert_ingest.specs.Stops.{IsExact}
 use Rattle.lert_ingest.proofs.BayLaws.{are_more}
 use Rattle.lert_ingest.proofs.EachLaws.{kept_unused, unused_more}
 use Rattle.lert_top.specs.runs.Ran.{IsDone}
 use Rattle.lert_top.specs.runs.Run.{StatusShows}
+use Rattle.lert_top.specs.cones.Unmade.{BrokeEarly}
 use Rattle.lert_top.proofs.cones.AskedLaws.{traces_same}
 use Rattle.lert_top.proofs.cones.ConeLaws.{unmade_since}
 use Rattle.lert_top.specs.cones.Closed.{AreClosedInEach}
@@ -82,7 +83,7 @@ returns-clause-shows g c =
     g.K.Faulty.faults g.B.Bay.files g.B.Faulty.faults
     c.args.settings.now c.args.workers
     c.args.traces.items c.run_cones-cones.result.1.items c.args.out.now c.run_cones-cones.new.out
-    first xs (IsStale g.B.Bay.files first) (AreFreshBelow g.B.Bay.files first) c.run_cones-cones.result.2) (sym back)
+    first xs (IsStale g.B.Bay.files first) (BrokeEarly g.B.Bay.files s first xs) (AreFresh g.B.Bay.files first) c.run_cones-cones.result.2) (sym back)
     (shows_since {S = g.row.S.Denot} {K = g.row.K.Denot} {B = g.row.B.Denot} g.S.Source.remaining g.S.Faulty.faults g.K.Sink.taken g.K.Faulty.faults g.B.Bay.files g.B.Faulty.faults
     c.args.settings.now c.args.workers
     g.B.Faulty.mark c.args.traces.items c.run_cones-cones.result.1.items c.args.out.now c.run_cones-cones.new.out

@@ -28,7 +28,7 @@ returns-in-Err g c =
     record {
       later = are_same g.B.Bay.files g.B.Faulty.faults g.B.Faulty.mark bays;
       traces_later = traces_same g.S.Faulty.faults g.S.Faulty.mark c.args.traces.items;
-      shows = (refl, (refl, λ cone before now was is none. unused_same g.B.Bay.files c.args.settings.now bays cone before now was is));
+      shows = (refl, refl, unused_same g.B.Bay.files c.args.settings.now bays);
       exact = exact_memory {S = g.row.S.Denot} {K = g.row.K.Denot} {B = g.row.B.Denot} g.S.Source.remaining g.S.Faulty.faults g.K.Sink.taken g.K.Faulty.faults g.B.Bay.files
           g.B.Faulty.faults c.args.settings.now c.args.workers c.args.traces.items c.args.traces.items bays bays (IsDone g.K.Faulty.faults c.args.out.now c.args.out.now OutOfMemory);
       closed = λ is. absurd (no_memory_not_done is);
@@ -64,7 +64,7 @@ returns-in-Err-read-clause-shows g c =
     let s = c.args.settings.now in
     shows_stopped {S = g.row.S.Denot} {K = g.row.K.Denot} {B = g.row.B.Denot} g.S.Source.remaining g.S.Faulty.faults g.K.Sink.taken g.K.Faulty.faults g.B.Bay.files
     g.B.Faulty.faults c.args.settings.now c.args.workers
-    c.args.traces.items c.ingest-traces.result.0.items c.args.out.now bays (bays_of c.ingest-traces.result.1.items) (λ cone. ⊥) c.in-Err-read.status
+    c.args.traces.items c.ingest-traces.result.0.items c.args.out.now bays (bays_of c.ingest-traces.result.1.items) (λ cone. ⊥) (λ cone. ⊥) c.in-Err-read.status
     (err_at c.ingest-traces.result.2 c.in-Err-read.status _ c.in-Err-read.is c.ingest-traces.ensures.stopped) (unused_same g.B.Bay.files s bays)
 
 pub returns-in-Err-read-clause-exact : goal.returns-in-Err-read-clause-exact
@@ -102,7 +102,7 @@ returns-clause-shows g c =
     g.B.Faulty.faults c.args.settings.now c.args.workers
     g.B.Faulty.mark c.args.traces.items c.ingest-traces.result.0.items c.args.out.now c.finish_and_print-status.new.out
     (bays_of c.args.cones.items) (bays_of c.ingest-traces.result.1.items) (bays_of c.finish_and_print-status.new.cones.items) read.traces
-    c.ingest-traces.ensures.later c.finish_and_print-status.ensures.later read.keys read.read (λ cone. ⊥) c.finish_and_print-status.result
+    c.ingest-traces.ensures.later c.finish_and_print-status.ensures.later read.keys read.read read.fits (λ cone. ⊥) (λ cone. ⊥) c.finish_and_print-status.result
     (c.finish_and_print-status.ensures.shows c.args.workers read.traces read.weaving)
 
 pub returns-clause-exact : goal.returns-clause-exact
@@ -112,7 +112,7 @@ returns-clause-exact g c =
     g.B.Faulty.faults c.args.settings.now c.args.workers
     c.args.traces.items c.ingest-traces.result.0.items c.args.out.now c.finish_and_print-status.new.out
     (bays_of c.args.cones.items) (bays_of c.finish_and_print-status.new.cones.items) g.B.Faulty.mark (bays_of c.ingest-traces.result.1.items) read.traces
-    c.ingest-traces.ensures.later c.finish_and_print-status.ensures.later read.keys read.read c.ingest-traces.result.2 c.in_default.is
+    c.ingest-traces.ensures.later c.finish_and_print-status.ensures.later read.keys read.read read.fits c.ingest-traces.result.2 c.in_default.is
     c.ingest-traces.ensures.exact c.finish_and_print-status.result
     (c.finish_and_print-status.ensures.shows c.args.workers read.traces read.weaving)
 
