@@ -87,13 +87,13 @@ def check_apart(out: Place, other: Place) -> None:
         raise Refused(f"{out.path} is not written, since it is the same file as {other.path}")
 
 
-def check_kind(out: Place, head: bytes, kind: str) -> None:
-    """Refuses a file that has bytes and doesn't begin as those of a kind do."""
+def check_kind(out: Place, head: bytes, kind: str, at: int = 0) -> None:
+    """Refuses a file that has bytes, and not those at a place by which its kind is known."""
     if out.status is None or out.is_straight:
         return
     with open(out.path, "rb") as file:
-        found = file.read(len(head))
-    if found and found != head:
+        found = file.read(at + len(head))
+    if found and found[at:] != head:
         raise Refused(f"{out.path} is not replaced, since what stands there is no {kind}")
 
 

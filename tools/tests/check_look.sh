@@ -311,11 +311,12 @@ for at, line in enumerate(open("drawn"), 1):
         due[line.strip()] = at
 labelled = [line.strip().split(" ", 2) for line in open("labelled") if line[0].isdigit()]
 reports = {name: int(at) for _, at, name in labelled}
-heaviest = [line for line in texts[2] if line.startswith("<key>")]
-assert len(several) == 3, len(several)
+heaviest = [line for line in texts[0] if line.startswith("<key>")]
+# Of one cone there are no bars.
+assert len(several) == (2 if sys.argv[1] == "1" else 3), len(several)
 assert f"60,000 events, {len(due):,} keys reported that came 24 times, {sys.argv[1]} cone" in page
 assert [counts[name] for name in heaviest] == [count for _, count in counts.most_common(20)], heaviest
-assert texts[2][-20:] == [str(counts[name]) for name in heaviest], texts[2]
+assert texts[0][-20:] == [str(counts[name]) for name in heaviest], texts[0]
 assert all(link.startswith(("#", "data:")) for link in re.findall(r'(?:src|href)="([^"]*)', page))
 if sys.argv[1] == "1":
     delays = [at - due[name] for name, at in reports.items()]
@@ -325,6 +326,19 @@ END
 }
 
 pictured() { drawn_run "$1" && picture --names names d && judged $((1 << $1)); }
+
+# The same as one picture, twice: how wide it is, and whether the bars of twenty keys stand in it. Then what becomes of a
+# picture of one's own.
+drawn_as_png() {
+    picture --png --names names d && picture --png --names names d && python3 - <<'END' || return
+from itertools import groupby
+from matplotlib.image import imread
+
+rows = (imread("d/picture.png")[:, :, :3] * 255).round().astype(int).tolist()
+print(len(rows[0]), sum(is_bar for is_bar, _ in groupby(row.count([44, 109, 164]) > 100 for row in rows)))
+END
+    printf '\211PNG\r\n\32\n one of mine' >mine.png && rm d/picture.png && picture --png --out mine.png d
+}
 
 # A run that was refused at the end of its trace: what the page says is what stands in the logs, a plain count of the
 # journals, and what a recovery prints.
@@ -361,6 +375,8 @@ check_picture() {
     has /proc/locks && gives 'a picture of a stopped run' 0 '' \
         "lert: trace 0 bad at 240008\nlert: trace 0 is packed, which ends inside a key, $cut\n" pictured_stopped
     gives 'a picture of one cone' 0 '' '' pictured 0
+    gives 'a picture without a browser' 2 '924 20\n' \
+        'picture: mine.png is not replaced, since what stands there is no picture of this tool\n' drawn_as_png
     if mknod page_device c 1 3 2>"$work/said"; then
         gives 'draws behind a link and into a device' 0 \
             '<title>LERT: d</title>\nsymbolic link\ncharacter special file\n' '' drawn_into

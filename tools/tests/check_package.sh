@@ -1,5 +1,5 @@
 # Checks the Debian package: its bytes, what lintian says of it, and, where LERT_ROOT names the root of a bare Debian 12
-# with python3, that it is installed there, works, and is removed. tools/check reads it.
+# with python3, as debootstrap makes it, that it is installed there, works, and is removed. tools/check reads it.
 
 # Two packages are the same bytes, and what is in one works.
 packed_twice() {
