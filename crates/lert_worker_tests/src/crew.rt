@@ -67,8 +67,8 @@ where
     }
 }
 
-// A worker with the trace of its own number.
-fn start<S: Source, H: Held<Refusal = ConeFault>>(
+/// A worker with the trace of its own number.
+pub fn start<S: Source, H: Held<Refusal = ConeFault>>(
     rt: &impl Abort,
     alloc: Global,
     settings: &Settings,
@@ -138,8 +138,8 @@ fn both_of<W>(workers: [W; 2]) -> (W, W)
     (first, second)
 }
 
-// How a worker with one trace ended, and its pass.
-fn stop<S: Source, H: Held<Refusal = ConeFault>>(
+/// How a worker with one trace ended, and its pass.
+pub fn stop<S: Source, H: Held<Refusal = ConeFault>>(
     mut worker: Worker<S, H>,
 ) -> (WorkerEnd, FleetPass<H>)
 where

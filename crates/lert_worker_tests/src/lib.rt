@@ -1,9 +1,9 @@
 //! Tests of the lock of a cone, of the fleet of all cones' locks, and of workers over a fleet: what no clause says.
 //!
 //! That the calls answer at all, that `admitted` looks, that a second thread finds the lock held, that one which waits
-//! for it is woken, that a cone is free while another one's lock is held, and that a fleet crosses threads where its
-//! states may; that two workers run at once, and that one goes on with other cones while one is held. The waits end by
-//! themselves. No crate stands on this one.
+//! for it is woken, also by a call that is refused, that a cone is free while another one's lock is held, and that a
+//! fleet crosses threads where its states may; that two workers and four run at once, and that one goes on with other
+//! cones while one is held. The waits end by themselves. No crate stands on this one.
 #![tactic(auto)]
 
 #[cfg(test)]
@@ -16,6 +16,8 @@ mod crew;
 mod flags;
 #[cfg(test)]
 mod fleet;
+#[cfg(test)]
+mod four;
 #[cfg(test)]
 mod late_source;
 #[cfg(test)]

@@ -11,7 +11,7 @@ use std::sync::Arc;
 use std::thread::yield_now;
 
 // How often a state gives way once the other thread has answered, so that this one is asleep before the lock is freed.
-const LINGERS: u64 = 100_000;
+const LINGERS: u64 = 10_000;
 
 /// What a state does besides counting.
 #[derive(Clone, Copy, Debug, PartialEq, Eq)]
@@ -21,6 +21,8 @@ pub enum Role {
     Waits,
     /// The same, and it stays for long behind the answer.
     Lingers,
+    /// The same, and it refuses its first packet then.
+    Refuses,
     /// It shows that it was given a packet.
     Shows,
 }
@@ -36,11 +38,18 @@ pub struct Station {
 
 impl Station {
     // Whether the packet may be taken.
-    fn meets(&self) -> bool {
+    fn meets(&mut self) -> bool
+        ensures { self.new.taken ≡ self.old.taken }
+    {
         match self.role {
             Role::Counts => true,
             Role::Waits => self.is_answered(0),
             Role::Lingers => self.is_answered(LINGERS),
+            Role::Refuses => {
+                let _answered = self.is_answered(LINGERS);
+                self.role = Role::Counts;
+                false
+            }
             Role::Shows => {
                 self.flags.answer();
                 true

@@ -50,14 +50,34 @@ fn try_and_wait<R: Wait>(
     let _seen = flags.await_inside();
     let turn = lock.try_act(pass, entry);
     flags.answer();
-    (turn, lock.act(rt, pass, entry))
+    let waited = lock.act(rt, pass, entry);
+    flags.wake();
+    (turn, waited)
 }
 
-// What the threads of a lock were told: the first one's reply, what the second one's try came to, the reply that it waited
+// The first thread acts, and once more when it knows that the second one was woken, or gives up on that: then it wakes it.
+fn act_twice<R: Wait>(
+    rt: &R,
+    lock: &ConeLock<Station>,
+    pass: &mut Pass<Station>,
+    entry: &Entry,
+    flags: &Flags,
+) -> [Result<u64, ConeFault>; 2]
+    requires belongs { BelongsTo pass.old lock.now }
+    requires number { entry.now.by ≡ pass.old.lo }
+    ensures belongs { BelongsTo pass.new lock.now }
+    ensures range { (pass.new.lo ≡ pass.old.lo) × (pass.new.hi ≡ pass.old.hi) }
+{
+    let reply = lock.act(rt, pass, entry);
+    let _woken = flags.await_woken();
+    [reply, lock.act(rt, pass, entry)]
+}
+
+// What the threads of a lock were told: the first one's replies, what the second one's try came to, the reply that it waited
 // for, and how many packets were taken.
 #[derive(Clone, Copy, Debug, PartialEq, Eq)]
 struct AtLock {
-    reply: Result<u64, ConeFault>,
+    replies: [Result<u64, ConeFault>; 2],
     turn: Turn<u64, ConeFault>,
     waited: Result<u64, ConeFault>,
     taken: u64,
@@ -77,25 +97,27 @@ fn act_beside<R: Threads + Wait + Sync>(
         mine,
         theirs,
     } = meeting;
-    let (reply, (turn, waited)) = join_mut(
+    let (replies, (turn, waited)) = join_mut(
         rt,
-        &mut || lock.act(rt, &mut first, mine),
+        &mut ||
+            requires { BelongsTo first lock × (mine.now.by ≡ first.lo) }
+        { act_twice(rt, &lock, &mut first, mine, flags) },
         &mut ||
             requires { BelongsTo second lock × (theirs.now.by ≡ second.lo) }
         { try_and_wait(rt, &lock, &mut second, theirs, flags) },
     );
     lock.join(&mut first, second);
     AtLock {
-        reply,
+        replies,
         turn,
         waited,
         taken: lock.close(first).taken,
     }
 }
 
-fn at_lock<R: Threads + Wait + Sync + Abort>(rt: &R, alloc: Global) -> AtLock {
+fn at_lock<R: Threads + Wait + Sync + Abort>(rt: &R, alloc: Global, role: Role) -> AtLock {
     let meeting = new_meeting(rt, alloc);
-    let state = empty_station(rt, &meeting.flags, Role::Lingers);
+    let state = empty_station(rt, &meeting.flags, role);
     let (lock, first, second) = lock_of_two(rt, alloc, state);
     act_beside(rt, lock, first, second, &meeting)
 }
@@ -104,12 +126,24 @@ fn at_lock<R: Threads + Wait + Sync + Abort>(rt: &R, alloc: Global) -> AtLock {
 #[test]
 fn a_second_thread_finds_the_lock_held_waits_for_it_and_is_woken(rt: HostRuntime) {
     let expected = AtLock {
-        reply: Ok(1),
+        replies: [Ok(1), Ok(3)],
         turn: Turn::Busy,
         waited: Ok(2),
+        taken: 3,
+    };
+    assert_eq!(rt; at_lock(&rt, rt.alloc(), Role::Lingers), expected);
+}
+
+// A lock that woke nobody there would answer the first thread's second call first.
+#[test]
+fn a_second_thread_is_woken_also_where_the_first_one_is_refused(rt: HostRuntime) {
+    let expected = AtLock {
+        replies: [Err(ConeFault::Broken), Ok(2)],
+        turn: Turn::Busy,
+        waited: Ok(1),
         taken: 2,
     };
-    assert_eq!(rt; at_lock(&rt, rt.alloc()), expected);
+    assert_eq!(rt; at_lock(&rt, rt.alloc(), Role::Refuses), expected);
 }
 
 // The second thread tries both cones once it knows that the first one is inside the first cone, for which it then waits.

@@ -3,8 +3,9 @@
 ghost use Rattle.std.specs.Prelude.{◌≡◌};
 
 use crate::crew::{Outcome, Way, run_pair};
+use crate::four::run_four;
 use crate::flags::{Flags, new_flags, shared};
-use crate::late_source::LateSource;
+use crate::late_source::{Awaits, LateSource};
 use crate::station::{Role, Station, two_stations};
 use lert_base::{Numbers, Settings};
 use lert_io::{CallList, MemSource, PairedSource};
@@ -101,6 +102,39 @@ fn of_two_workers_in_turn_the_first_fails(rt: HostRuntime) {
     assert_eq!(rt; meet(&rt, rt.alloc(), Way::InTurn, SHORT), second_alone);
 }
 
+// Four workers, each of which has a source that waits at its first read for those of the other three.
+fn meet_four<R: Threads + Wait + Sync + Abort>(rt: &R, alloc: Global) -> ([WorkerEnd; 4], u64) {
+    let settings = two_cones(rt);
+    let flags = new_flags(rt, alloc);
+    let states = two_stations(rt, alloc, &flags, (Role::Counts, Role::Counts));
+    let calm = CallList::new(alloc).expect(rt, "memory");
+    let sources = [
+        begun_source(rt, alloc, &calm, &flags),
+        begun_source(rt, alloc, &calm, &flags),
+        begun_source(rt, alloc, &calm, &flags),
+        begun_source(rt, alloc, &calm, &flags),
+    ];
+    let ends = run_four(rt, alloc, &settings, states, sources);
+    (ends, flags.met())
+}
+
+fn begun_source(
+    rt: &impl Abort,
+    alloc: Global,
+    calm: &CallList,
+    flags: &Arc<Flags, Global>,
+) -> LateSource {
+    let source = MemSource::new(alloc, &FIRST, calm).expect(rt, "memory");
+    LateSource::new(source, shared(rt, flags), Awaits::Begun(4))
+}
+
+// Workers of which two run behind the other two would find two others alone.
+#[test]
+fn four_workers_run_at_once(rt: HostRuntime) {
+    let all_met = ([WorkerEnd::Ran; 4], 4);
+    assert_eq!(rt; meet_four(&rt, rt.alloc()), all_met);
+}
+
 // The first worker holds the first cone until the second cone is given a packet. The second worker has a key for the first
 // cone, begins while that is held, and then has one for the second.
 fn hold<R: Threads + Wait + Sync + Abort>(rt: &R, alloc: Global) -> Seen {
@@ -122,8 +156,8 @@ fn late_sources(
     let first = MemSource::new(alloc, &FIRST, &calm).expect(rt, "memory");
     let second = MemSource::new(alloc, &BOTH, &calm).expect(rt, "memory");
     (
-        LateSource::new(first, shared(rt, flags), false),
-        LateSource::new(second, shared(rt, flags), true),
+        LateSource::new(first, shared(rt, flags), Awaits::Nothing),
+        LateSource::new(second, shared(rt, flags), Awaits::Inside),
     )
 }
 
