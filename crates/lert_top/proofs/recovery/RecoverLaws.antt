@@ -7,7 +7,7 @@ use Rattle.lert_base.specs.declared.kept.Kept.{Kept}
 use Rattle.lert_base.specs.Packet.{Packet, events_of}
 use Rattle.lert_bay.specs.Files.{Files, IfTold}
 use Rattle.lert_cone.specs.Listing.{reports_of}
-use Rattle.lert_cone.specs.Marks.{IsMarkOf, last_mark}
+use Rattle.lert_cone.specs.JournalPlaces.{IsPlaceIn, last_place}
 use Rattle.lert_cone.specs.Sound.{IsJournal, IsSound, IsSoundAs}
 use Rattle.lert_cone.specs.Stands.{Standing, StandsFor, is_broken, is_finished}
 use Rattle.lert_cone.specs.Unread.{unread}
@@ -85,7 +85,7 @@ module _ {B : Type 0} (files : B → Option Files) (leaves : B → Files → Typ
       StandsFor files leaves faults cone history × (cone.state ≡ state_of (is_closed sound.logged))) →
       IfTold (files bay) (λ seen. IsReadOn s number seen cone.listing.events cone.gate) →
       IfTold (files bay) (λ seen. (history : List Packet) → IsJournal s number history (seen 0) → (records : List LogRecord) (log_end : ℕ) →
-      HasLog s number (seen 1) records log_end → IsMarkOf history (last_mark records) → cone.listing.events ≡ events_of history) →
+      HasLog s number (seen 1) records log_end → IsPlaceIn history (last_place records) → cone.listing.events ≡ events_of history) →
       IfTold (files bay) (λ seen. (file at : ℕ) → FirstLeaves s number seen file at → ⊥) →
       IfTold (files bay) (λ seen. (kept : Kept) → HasOther s number (seen 0) kept → ⊥) →
       cone.listing.settings ≡ s → cone.listing.cone ≡ number → cone.events ≡ length cone.listing.events → cone.state ≡ state_of cone.listing.closed →
@@ -107,7 +107,7 @@ module _ {B : Type 0} (files : B → Option Files) (leaves : B → Files → Typ
           same_end cone.listing.closed (is_closed sound.logged) (sym state ∙ all.1),
         );
     journal = journal;
-    whole = λ seen told history named. whole seen told history named.journal named.records named.log_end named.log named.mark;
+    whole = λ seen told history named. whole seen told history named.journal named.records named.log_end named.log named.place;
     formed = formed;
     own = own;
   }

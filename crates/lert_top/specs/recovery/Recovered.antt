@@ -3,7 +3,7 @@ use Rattle.std.specs.Prelude.{◌≡◌, ◌≢◌, ◌⊎◌, ℕ, ◌+◌, ◌
 use Rattle.lert_base.specs.declared.kept.Kept.{Kept}
 use Rattle.lert_base.specs.Packet.{Packet, events_of}
 use Rattle.lert_bay.specs.Files.{Files, IfTold}
-use Rattle.lert_cone.specs.Marks.{IsMarkOf, last_mark}
+use Rattle.lert_cone.specs.JournalPlaces.{IsPlaceIn, last_place}
 use Rattle.lert_cone.specs.Sound.{IsJournal, IsSound, IsSoundAs}
 use Rattle.lert_cone.specs.Stands.{Standing, StandsFor, WasSound}
 use Rattle.lert_io.specs.Fault.{HasRisen, IsFaultless}
@@ -52,7 +52,7 @@ pub record IsNamed (s : Numbers) (cone : ℕ) (seen : Files) (history : List Pac
   pub records : List LogRecord
   pub log_end : ℕ
   pub log : HasLog s cone (seen 1) records log_end
-  pub mark : IsMarkOf history (last_mark records)
+  pub place : IsPlaceIn history (last_place records)
 
 -- Of a cone was printed what its files are sound for, and they are so as they were put back. Of files that are told and in their
 -- format, but sound for no list, the events are those that are counted of them, and those of the whole journal, where the log names a
