@@ -28,13 +28,13 @@ use Rattle.lert_spec.specs.Look.{look, closing}
 use Rattle.lert_cone.specs.Framed.{last_flush, flushed}
 use Rattle.lert_cone.specs.InStep.{IsInStep}
 use Rattle.lert_cone.specs.Logged.{IsLogOf, frames_of}
-use Rattle.lert_cone.specs.declared.marks.Mark.{Mark}
-use Rattle.lert_cone.specs.Marks.{HoldsPosition, IsMarkOf, NamesRecord, first_mark, last_mark, marked_from}
+use Rattle.lert_cone.specs.declared.journal_places.JournalPlace.{JournalPlace}
+use Rattle.lert_cone.specs.JournalPlaces.{HoldsPosition, IsPlaceIn, NamesRecord, first_place, last_place, places_from}
 use Rattle.lert_cone.specs.Replay.{IsLastOf, IsOnWay, IsPast}
 use Rattle.lert_cone.specs.Sound.{IsSound, HoldFrames, HoldsDirectory}
 use Rattle.lert_cone.specs.Unread.{unread}
 use Rattle.lert_cone.proofs.FlushLaws.{last_flush_logged}
-use Rattle.lert_cone.proofs.MarkLaws.{marked_none}
+use Rattle.lert_cone.proofs.JournalPlaceLaws.{places_none}
 use Rattle.lert_cone.proofs.StepLaws.{journal_since, log_since, frames_since}
 use Rattle.lert_cone.proofs.UnreadLaws.{unread_is}
 
@@ -71,17 +71,17 @@ frames_settled leaves seen s events rows valid are holds settled =
 
 -- ---- the packets that aren't read
 
-before_record : (history : List Packet) (mark : Mark) (p : ℕ) → HoldsPosition history mark p → IsMarkOf history mark
-before_record history mark p holds = record { done = holds.done; rest = holds.packet ∷ holds.rest; is = holds.is; gate_is = holds.gate_is; first_is = holds.first_is }
+before_record : (history : List Packet) (place : JournalPlace) (p : ℕ) → HoldsPosition history place p → IsPlaceIn history place
+before_record history place p holds = record { done = holds.done; rest = holds.packet ∷ holds.rest; is = holds.is; gate_is = holds.gate_is; first_is = holds.first_is }
 
-before_all : (history : List Packet) (mark : Mark) → mark ≡ first_mark → IsMarkOf history mark
-before_all history mark is = record { done = []; rest = history; is = refl; gate_is = ap (λ (m : Mark). m.gate) is; first_is = ap (λ (m : Mark). m.first) is }
+before_all : (history : List Packet) (place : JournalPlace) → place ≡ first_place → IsPlaceIn history place
+before_all history place is = record { done = []; rest = history; is = refl; gate_is = ap (λ (m : JournalPlace). m.gate) is; first_is = ap (λ (m : JournalPlace). m.first) is }
 
 -- a record that a log names begins behind some packets
-pub mark_of : (s : Numbers) (history : List Packet) (n0 : ℕ) (mark : Mark) → NamesRecord s history n0 mark → IsMarkOf history mark
-mark_of s history n0 mark names = elim (cases_eq n0 0) [
-  | inl none ↦ before_all history mark (names.none none)
-  | inr some ↦ before_record history mark (edge s 0 n0 + 1) (names.some (omega (arith, some)))
+pub place_named : (s : Numbers) (history : List Packet) (n0 : ℕ) (place : JournalPlace) → NamesRecord s history n0 place → IsPlaceIn history place
+place_named s history n0 place names = elim (cases_eq n0 0) [
+  | inl none ↦ before_all history place (names.none none)
+  | inr some ↦ before_record history place (edge s 0 n0 + 1) (names.some (omega (arith, some)))
 ]
 
 -- ---- a cone that is adopted
@@ -174,10 +174,10 @@ module _ (leaves : Files → Type 0) (seen : Files) (s : Numbers) (cone : ℕ) (
       (subst (λ n. HoldsDirectory s (take n (events_of history)) (last_directory s sound.logged) (seen 2)) (sym n0_is) sound.frames)
 
   -- the packets before the record that the last one of the log names
-  pub before : IsMarkOf history (record { gate = offset; first = first })
+  pub before : IsPlaceIn history (record { gate = offset; first = first })
   before =
-      let mark_is : record { gate = offset; first = first } ≡ last_mark records = λ i. record { gate = last.offset_is i; first = last.first_is i } in
-      subst (IsMarkOf history) (sym (mark_is ∙ ap last_mark same)) (mark_of s history (last_n0 sound.logged) (last_mark sound.logged) sound.begins)
+      let mark_is : record { gate = offset; first = first } ≡ last_place records = λ i. record { gate = last.offset_is i; first = last.first_is i } in
+      subst (IsPlaceIn history) (sym (mark_is ∙ ap last_place same)) (place_named s history (last_n0 sound.logged) (last_place sound.logged) sound.begins)
 
   no_more : first - 1 ≤ n0
   no_more = omega (arith, early, mul-div-le (n0 - offset_of s 0) (span s 0))
@@ -186,7 +186,7 @@ module _ (leaves : Files → Type 0) (seen : Files) (s : Numbers) (cone : ℕ) (
     gate = log_end;
     most = most_record s;
     named = length reports;
-    marks = marked_from s (first - 1);
+    places = places_from s (first - 1);
   })
   in_step = record {
     logged = records;
@@ -198,8 +198,8 @@ module _ (leaves : Files → Type 0) (seen : Files) (s : Numbers) (cone : ℕ) (
     journal_settled = journal_settled;
     log_settled = log_settled;
     reports_are = last.reports_are ∙ listed;
-    begins = subst (λ (rs : List LogRecord). NamesRecord s history (last_n0 rs) (last_mark rs)) (sym same) sound.begins;
-    marked = marked_none history (marked_from s (first - 1)) refl;
+    begins = subst (λ (rs : List LogRecord). NamesRecord s history (last_n0 rs) (last_place rs)) (sym same) sound.begins;
+    placed = places_none history (places_from s (first - 1)) refl;
     reach = subst (λ n. first - 1 + 1 ≤ edge s 0 n + 1) (sym long) (omega (arith, early));
   }
 
@@ -208,7 +208,7 @@ module _ (leaves : Files → Type 0) (seen : Files) (s : Numbers) (cone : ℕ) (
     gate = log_end;
     most = most_record s;
     named = length reports;
-    marks = marked_from s (first - 1);
+    places = places_from s (first - 1);
   }) n0
   adopted keys counted =
       let first_keys : n0 ≡ max n0 (length keys) = omega (arith, counted, no_more) in
@@ -220,7 +220,7 @@ module _ (leaves : Files → Type 0) (seen : Files) (s : Numbers) (cone : ℕ) (
           gate = log_end;
           most = most_record s;
           named = length reports;
-          marks = marked_from s (first - 1);
+          places = places_from s (first - 1);
         })) first_keys in_step;
       }
 

@@ -13,21 +13,20 @@ use Rattle.lert_spec.specs.declared.numbers.Numbers.{Numbers}
 use Rattle.lert_spec.specs.declared.report.Report.{Report}
 use Rattle.lert_spec.specs.Edges.{capacity, edge}
 use Rattle.lert_spec.specs.Limits.{IsValid}
-use Rattle.lert_cone.specs.declared.state.ConeState.TheVariants.{Replaying}
 use Rattle.lert_cone.specs.History.{most_payload}
 use Rattle.lert_cone.specs.KeepsLog.{IsHeadOf, LogHead}
 use Rattle.lert_cone.specs.Listing.{Listing}
 use Rattle.lert_cone.specs.Logged.{frames_of}
-use Rattle.lert_cone.specs.Marks.{marked_from}
+use Rattle.lert_cone.specs.JournalPlaces.{places_from}
 use Rattle.lert_cone.specs.Record.{LogPlace}
 use Rattle.lert_cone.specs.Replay.{IsLastOf, IsOnWay, IsPast}
+use Rattle.lert_cone.specs.Replaying.{IsReplaying}
 use Rattle.lert_cone.specs.Replays.{Replays}
 use Rattle.lert_cone.specs.Room.{room_of}
-use Rattle.lert_cone.specs.Stands.{IsCone}
 use Rattle.lert_cone.specs.Tally.{Tallied, IsRecounted}
 use Rattle.lert_cone.specs.Wrote.{IsShutIfTold}
 use Rattle.lert_cone.proofs.FaultLaws.{turns_as}
-use Rattle.lert_cone.proofs.ReplayStands.{replaying_cone}
+use Rattle.lert_cone.proofs.ReplayStands.{seen_as}
 use Rattle.lert_cone.proofs.ReplayStep.{told_once}
 
 -- its memory goes on with the records of the log that was read
@@ -49,60 +48,41 @@ module _ {B : Type 0} (files : B → Option Files) (leaves : B → Files → Typ
       (room keys_room : ℕ) → IsValid s
       → tally.listing ≡ record { settings = s; cone = cone; events = keys; closed = last.closed } → length keys ≡ n → n ≤ capacity s → IsRecounted tally last.n0
       → journal.file ≡ 0 → journal.most ≡ most_payload s → journal.gate ≤ 2 ^ 46 → last.log_end ≤ 2 ^ 62
-      → log ≡ record { gate = last.log_end; most = most_record s; named = length tally.due.reports; marks = marked_from s n } → room ≡ room_of s → keys_room ≡ 4 * s.packet →
+      → log ≡ record { gate = last.log_end; most = most_record s; named = length tally.due.reports; places = places_from s n } → room ≡ room_of s → keys_room ≡ 4 * s.packet →
       made ≡ bay
       → IfTold (files bay) (λ seen. IsWhollySettled (leaves bay) seen 0) → IsShutIfTold (files bay) (leaves bay) 1 last.log_end
-      → IsCone files leaves faults mark (record {
-        bay = bay;
-        made = made;
-        listing = tally.listing;
-        rows = tally.rows;
-        reports = tally.due.reports;
-        events = n;
-        state = Replaying;
-        over = None;
-        gate = journal.gate;
-        log = log;
-        last = last;
-      }) tally journal room keys_room
+      → IsReplaying files leaves faults mark (seen_as bay made tally n None journal.gate log last) tally journal room keys_room
   adopted_cone mark bay made s cone keys n tally journal log last room keys_room valid is counted fits recounted file_is most_is near reach log_is room_is keys_room_is made_is settled
       shut =
       let long : length tally.listing.events ≡ n = ap (λ (l : Listing). length l.events) is ∙ counted in
       let same : s ≡ tally.listing.settings = ap (λ (l : Listing). l.settings) (sym is) in
-      replaying_cone files leaves faults mark
-      (record {
-        bay = bay;
-        made = made;
-        listing = tally.listing;
-        rows = tally.rows;
-        reports = tally.due.reports;
-        events = n;
-        state = Replaying;
-        over = None;
-        gate = journal.gate;
-        log = log;
-        last = last;
-      }) tally journal room keys_room
-      refl file_is (most_is ∙ ap most_payload same)
-      (room_is ∙ ap room_of same) (keys_room_is ∙ ap (λ (v : Numbers). 4 * v.packet) same) (subst (λ (v : Numbers). n ≤ capacity v) same fits)
-      (subst IsValid same valid) (omega (arith, ap faults made_is)) (turns_as (files made) (files bay) (ap files (sym made_is))) (ap mark (sym made_is))
-      (record {
-        none_over = refl;
-        counted = long;
-        recounted = recounted;
-        closed = ap (λ (l : Listing). l.closed) is;
-        near = omega (arith, near);
-        journal_settled = settled;
-        logging = record {
-          most = ap (λ (l : LogPlace). l.most) log_is ∙ ap most_record same;
-          named = omega (arith, ap (λ (l : LogPlace). l.named) log_is);
-          near = omega (arith, ap (λ (l : LogPlace). l.gate) log_is, reach);
-          roomy = omega (arith, ap (λ (l : LogPlace). l.most) log_is, room_is);
-          same = ap (λ (l : LogPlace). l.marks.settings) log_is ∙ same;
-          passed = ap (λ (l : LogPlace). l.marks.passed) log_is ∙ sym long;
+      record {
+        file = file_is;
+        most = most_is ∙ ap most_payload same;
+        roomy = room_is ∙ ap room_of same;
+        keys_roomy = keys_room_is ∙ ap (λ (v : Numbers). 4 * v.packet) same;
+        within = subst (λ (v : Numbers). n ≤ capacity v) same fits;
+        valid = subst IsValid same valid;
+        never_falls = omega (arith, ap faults made_is);
+        marked = ap mark (sym made_is);
+        tells = turns_as (files made) (files bay) (ap files (sym made_is));
+        taking = λ _. record {
+          counted = long;
+          recounted = recounted;
+          closed = ap (λ (l : Listing). l.closed) is;
+          near = omega (arith, near);
+          journal_settled = settled;
+          logging = record {
+            most = ap (λ (l : LogPlace). l.most) log_is ∙ ap most_record same;
+            named = omega (arith, ap (λ (l : LogPlace). l.named) log_is);
+            near = omega (arith, ap (λ (l : LogPlace). l.gate) log_is, reach);
+            roomy = omega (arith, ap (λ (l : LogPlace). l.most) log_is, room_is);
+            same = ap (λ (l : LogPlace). l.places.settings) log_is ∙ same;
+            passed = ap (λ (l : LogPlace). l.places.passed) log_is ∙ sym long;
+          };
+          log_shut = subst (λ gate. IsShutIfTold (files bay) (leaves bay) 1 gate) (sym (ap (λ (l : LogPlace). l.gate) log_is)) shut;
         };
-        log_shut = subst (λ gate. IsShutIfTold (files bay) (leaves bay) 1 gate) (sym (ap (λ (l : LogPlace). l.gate) log_is)) shut;
-      })
+      }
 
   -- what it is adopted with is on the way
   pub adopted_replays : (bay made : B) (s : Numbers) (cone gate : ℕ) (keys : List ℕ) (n : ℕ) (tally : Tallied) (log : LogPlace) (last : LogPoint) (rows : List (List BinAt))
@@ -111,30 +91,18 @@ module _ {B : Type 0} (files : B → Option Files) (leaves : B → Files → Typ
         gate = last.log_end;
         most = most_record s;
         named = length reports;
-        marks = marked_from s n;
+        places = places_from s n;
       }
       → files bay ≡ Some seen → IsPast history done keys last.offset
       → IsOnWay (leaves bay) seen history (record { settings = s; cone = cone; events = keys; closed = last.closed }) rows reports (record {
         gate = last.log_end;
         most = most_record s;
         named = length reports;
-        marks = marked_from s n;
+        places = places_from s n;
       }) last.n0
-      → Replays files leaves (record {
-        bay = bay;
-        made = made;
-        listing = tally.listing;
-        rows = tally.rows;
-        reports = tally.due.reports;
-        events = n;
-        state = Replaying;
-        over = None;
-        gate = gate;
-        log = log;
-        last = last;
-      }) history done
+      → Replays files leaves (seen_as bay made tally n None gate log last) history done
   adopted_replays bay made s cone gate keys n tally log last rows reports history done seen is rows_are reports_are gate_is log_is told past on_way = record {
-    state_is = refl;
+    taking = refl;
     past = subst (λ (l : Listing). IsPast history done l.events gate) (sym is) (subst (IsPast history done keys) (sym gate_is) past);
     on_way = λ after told_after.
         subst (λ (f : Files). IsOnWay (leaves bay) f history tally.listing tally.rows tally.due.reports log last.n0) (told_once (files bay) seen after told told_after)

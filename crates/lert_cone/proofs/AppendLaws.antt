@@ -20,13 +20,13 @@ use Rattle.lert_spec.specs.Edges.{capacity}
 use Rattle.lert_cone.specs.Framed.{last_flush}
 use Rattle.lert_cone.specs.History.{most_payload, end_of}
 use Rattle.lert_cone.specs.InStep.{IsInStep, IsPartway}
-use Rattle.lert_cone.specs.Marks.{NamesRecord, last_mark}
+use Rattle.lert_cone.specs.JournalPlaces.{NamesRecord, last_place}
 use Rattle.lert_cone.specs.Record.{LogPlace}
 use Rattle.lert_cone.specs.Sound.{IsJournal, IsSoundAs, IsSoundOver, but_last}
 use Rattle.lert_cone.specs.Stands.{IsWhole}
 use Rattle.lert_cone.specs.Tally.{Tallied, IsCounted}
 use Rattle.lert_cone.proofs.EndStep.{partway_all, late_all}
-use Rattle.lert_cone.proofs.MarkLaws.{marked_more, names_more}
+use Rattle.lert_cone.proofs.JournalPlaceLaws.{places_more, names_more}
 use Rattle.lert_cone.proofs.SoundLaws.{events_more, counted_more, end_more}
 use Rattle.lert_cone.proofs.StepLaws.{log_since, frames_since, sound_of, sound_as}
 
@@ -129,8 +129,8 @@ module _ (leaves since : Files → Type 0) (seen : Files) (t : Tallied) (log : L
       record { rest = packet.keys ++ whole_packet.rest; is = whole_packet.is; late = whole_packet.late }
 
   -- the records say of the longer list what they said
-  begins_more : NamesRecord t.listing.settings (history ++ packet ∷ []) (last_n0 up.logged) (last_mark up.logged)
-  begins_more = names_more history (packet ∷ []) t.listing.settings (last_n0 up.logged) (last_mark up.logged) up.begins
+  begins_more : NamesRecord t.listing.settings (history ++ packet ∷ []) (last_n0 up.logged) (last_place up.logged)
+  begins_more = names_more history (packet ∷ []) t.listing.settings (last_n0 up.logged) (last_place up.logged) up.begins
 
   -- in each image of each moment
   pub sound_appending : InEach since 0 (HasPacketsOrOneMore (most_payload t.listing.settings) 32 history gate packet) → (image : Files) → since image →
@@ -165,7 +165,7 @@ module _ (leaves since : Files → Type 0) (seen : Files) (t : Tallied) (log : L
     log_settled = log_settled;
     reports_are = up.reports_are;
     begins = begins_more;
-    marked = marked_more history (packet ∷ []) log.marks up.marked;
+    placed = places_more history (packet ∷ []) log.places up.placed;
     reach = up.reach;
   }
 

@@ -6,7 +6,7 @@ use Rattle.lert_spec.specs.declared.numbers.Numbers.{Numbers}
 use Rattle.lert_spec.specs.Edges.{span, offset, edge}
 use Rattle.lert_spec.specs.Limits.{IsValid}
 use Rattle.lert_spec.proofs.EdgeLaws.{steps, span_pos}
-use Rattle.lert_cone.specs.Marks.{bins_begun}
+use Rattle.lert_cone.specs.JournalPlaces.{bins_begun}
 
 -- ---- bins
 

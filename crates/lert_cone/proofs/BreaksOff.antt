@@ -21,7 +21,7 @@ use Rattle.lert_cone.specs.Wrote.{Anything}
 use Rattle.lert_bay.proofs.KeptLaws.{IsLawful, keeps_as}
 use Rattle.lert_cone.proofs.SoundLaws.{turns_back}
 use Rattle.lert_cone.proofs.StandLaws.{stands_broken}
-use Rattle.lert_cone.proofs.FaultLaws.{kept_since, turned_none, untold, is_broken_by, not_replaying_by, by_bay_of, by_read_of, failed_of, unsound_of, no_refusal}
+use Rattle.lert_cone.proofs.FaultLaws.{kept_since, turned_none, untold, is_broken_by, by_bay_of, by_read_of, failed_of, unsound_of, no_refusal}
 use Rattle.lert_cone.proofs.Admits.{Admits}
 
 module _ {B : Type 0} (bays : Bays B) (lawful : IsLawful bays) (packet : Packet) where
@@ -124,7 +124,7 @@ module _ {B : Type 0} (bays : Bays B) (lawful : IsLawful bays) (packet : Packet)
                 log = log_after;
                 last = last;
               }) h same
-              (ap is_broken state_is ∙ is_broken_by fault) (λ never. not_replaying_by fault (sym state_is ∙ never)) refl
+              (ap is_broken state_is ∙ is_broken_by fault) refl
               (λ by_bay. risen_since (bays.faults made) (bays.faults bay) (bays.faults bay_after) risen did.kept.never_falls
               (did.kept.failed (ap Err (by_bay_of fault (sym state_is ∙ by_bay)))))
               (λ file at by_read sound. turned_none (bays.files bay) (bays.files bay_after) did.seen (untold (bays.files bay)

@@ -22,8 +22,8 @@ use Rattle.lert_cone.specs.contracts.unread.Unread.TheInside as unread
 use Rattle.lert_cone.specs.contracts.tally.Tally as Tally
 use Rattle.lert_cone.specs.contracts.tally.Tally.TheInside as tally
 use Rattle.lert_cone.specs.contracts.room.ConeRoom as Room
-use Rattle.lert_cone.specs.contracts.marks.Marks as Marks
-use Rattle.lert_cone.specs.contracts.marks.Marks.TheInside as marks
+use Rattle.lert_cone.specs.contracts.journal_places.JournalPlaces as JournalPlaces
+use Rattle.lert_cone.specs.contracts.journal_places.JournalPlaces.TheInside as places
 use Rattle.lert_cone.specs.contracts.report_log.ReportLog as Log
 use Rattle.lert_cone.specs.contracts.report_log.ReportLog.TheInside as log
 use Rattle.lert_cone.specs.contracts.cone.Cone as Cone
@@ -44,17 +44,17 @@ ahead_field = view_send _ _ _ _ _ ahead_inside
 writing_field : IsSend (Writing.the_field).row
 writing_field = search (sendable, crosses) depth 60 fits 20000
 
-marks_inside : IsSend marks.the_row
-marks_inside = recorded_send _ _ _ (marks.the_type).to_one (struct_send (shape marks.the_type) (
+places_inside : IsSend places.the_row
+places_inside = recorded_send _ _ _ (places.the_type).to_one (struct_send (shape places.the_type) (
   search (sendable, crosses) depth 20,
   (search (sendable, crosses) depth 20, (search sendable, (search sendable, (search sendable, tt)))),
 ))
 
-marks_field : IsSend (Marks.the_field).row
-marks_field = view_send _ _ _ _ _ marks_inside
+places_field : IsSend (JournalPlaces.the_field).row
+places_field = view_send _ _ _ _ _ places_inside
 
 log_inside : IsSend log.the_row
-log_inside = recorded_send _ _ _ (log.the_type).to_one (struct_send (shape log.the_type) (search (sendable, crosses) depth 20, (search sendable, (marks_field, tt))))
+log_inside = recorded_send _ _ _ (log.the_type).to_one (struct_send (shape log.the_type) (search (sendable, crosses) depth 20, (search sendable, (places_field, tt))))
 
 log_field : IsSend (Log.the_field).row
 log_field = view_send _ _ _ _ _ log_inside

@@ -19,14 +19,14 @@ use Rattle.lert_spec.specs.Look.{closing}
 use Rattle.lert_cone.specs.InStep.{IsInStep, IsPartway}
 use Rattle.lert_cone.specs.Listing.{Listing, reports_of}
 use Rattle.lert_cone.specs.Logged.{IsLogOf, next_record}
-use Rattle.lert_cone.specs.Marks.{AreMarked, Marked, MayName, NamesRecord, last_mark, oldest_mark}
+use Rattle.lert_cone.specs.JournalPlaces.{ArePlacesIn, Places, MayName, NamesRecord, last_place, oldest_place}
 use Rattle.lert_cone.specs.Record.{LogPlace, payload_at}
 use Rattle.lert_cone.specs.Sound.{IsJournal, IsSound, but_last}
 use Rattle.lert_cone.specs.Tally.{Tallied, IsCounted}
 use Rattle.lert_cone.proofs.KeyStep.{next_payload, journal_beside, frames_beside, log_beside, log_behind}
 use Rattle.lert_cone.proofs.LogLaws.{LogsNext, log_at_close}
 use Rattle.lert_cone.proofs.FlushLaws.{last_flush_grows}
-use Rattle.lert_cone.proofs.MarkLaws.{may_name, names_pushed, oldest_names}
+use Rattle.lert_cone.proofs.JournalPlaceLaws.{may_name, names_pushed, oldest_names}
 use Rattle.lert_cone.proofs.StepLaws.{sound_of}
 
 -- all keys are taken
@@ -49,11 +49,11 @@ pub record IsEnding (leaves : Files → Type 0) (seen : Files) (history : List P
   pub reports_are : a.due.reports ≡ reports_of a.listing
   pub all : t.listing.events ≡ events_of history
   pub late : length (events_of (but_last history)) ≤ length t.listing.events
-  pub begins : NamesRecord t.listing.settings history (last_n0 logged) (last_mark logged)
-  pub marked : AreMarked history log.marks
-  pub same : log.marks.settings ≡ t.listing.settings
-  pub passed : log.marks.passed ≡ length t.listing.events
-  pub reach : log.marks.from ≤ edge t.listing.settings 0 (length t.listing.events) + 1
+  pub begins : NamesRecord t.listing.settings history (last_n0 logged) (last_place logged)
+  pub placed : ArePlacesIn history log.places
+  pub same : log.places.settings ≡ t.listing.settings
+  pub passed : log.places.passed ≡ length t.listing.events
+  pub reach : log.places.from ≤ edge t.listing.settings 0 (length t.listing.events) + 1
 
 module _ (leaves : Files → Type 0) (seen : Files) (history : List Packet) (t a : Tallied) (log : LogPlace) (logged : List LogRecord)
     (before : IsCounted t) (ending : IsEnding leaves seen history t a log logged) (few : length a.due.reports ≤ t.listing.settings.room) where
@@ -61,25 +61,25 @@ module _ (leaves : Files → Type 0) (seen : Files) (history : List Packet) (t a
   closed_reports = ending.reports_are ∙ ap reports_of ending.listing_is
 
   abbrev last : LogRecord
-  last = next_record LogKind.Closing (length t.listing.events) (oldest_mark log.marks) t.rows logged a.due.reports
+  last = next_record LogKind.Closing (length t.listing.events) (oldest_place log.places) t.rows logged a.due.reports
 
   -- it names the journal's record that holds the first key of level 0
-  names : NamesRecord t.listing.settings history (length t.listing.events) (oldest_mark log.marks)
-  names = oldest_names t.listing.settings before.valid history log.marks (length t.listing.events) ending.same ending.passed ending.reach ending.marked
+  names : NamesRecord t.listing.settings history (length t.listing.events) (oldest_place log.places)
+  names = oldest_names t.listing.settings before.valid history log.places (length t.listing.events) ending.same ending.passed ending.reach ending.placed
 
-  may : MayName t.listing.settings (length t.listing.events) (oldest_mark log.marks)
+  may : MayName t.listing.settings (length t.listing.events) (oldest_place log.places)
   may =
       let journal = ending.journal seen ending.read in
-      may_name t.listing.settings before.valid t.listing.cone (length t.listing.events) history (oldest_mark log.marks) journal.journaled journal.within names
+      may_name t.listing.settings before.valid t.listing.cone (length t.listing.events) history (oldest_place log.places) journal.journaled journal.within names
 
-  named_then : NamesRecord t.listing.settings history (last_n0 (logged ++ last ∷ [])) (last_mark (logged ++ last ∷ []))
+  named_then : NamesRecord t.listing.settings history (last_n0 (logged ++ last ∷ [])) (last_place (logged ++ last ∷ []))
   named_then = names_pushed t.listing.settings history logged last names
 
   next : LogsNext t.listing.settings t.listing.cone t.listing.events t.rows true logged
-      (next_record LogKind.Closing (length t.listing.events) (oldest_mark log.marks) t.rows logged a.due.reports)
+      (next_record LogKind.Closing (length t.listing.events) (oldest_place log.places) t.rows logged a.due.reports)
   next =
       log_at_close t.listing.settings before.valid t.listing.cone t.listing.events
-      (oldest_mark log.marks) t.rows logged a.due.reports may before.fits before.keys before.own before.rows before.are closed_reports few
+      (oldest_place log.places) t.rows logged a.due.reports may before.fits before.keys before.own before.rows before.are closed_reports few
       ending.log_of
 
   partway : IsPartway t.listing.settings history t.listing.events []
@@ -87,7 +87,7 @@ module _ (leaves : Files → Type 0) (seen : Files) (history : List Packet) (t a
 
   module _ (since : Files → Type 0) (payload : List ℕ) (payload_is : payload ≡ payload_at log LogKind.Closing (length a.listing.events) (directory_text a.rows) a.due.reports)
       (others : KeepsOthers leaves since seen 1) (earlier : KeepsBefore leaves since seen 1 log.gate) where
-    payload_here : payload ≡ log_payload_of (next_record LogKind.Closing (length t.listing.events) (oldest_mark log.marks) t.rows logged a.due.reports)
+    payload_here : payload ≡ log_payload_of (next_record LogKind.Closing (length t.listing.events) (oldest_place log.places) t.rows logged a.due.reports)
     payload_here =
         payload_is
         ∙ ap (λ n. payload_at log LogKind.Closing n (directory_text a.rows) a.due.reports) (ap (λ (l : Listing). length l.events) ending.listing_is)
@@ -123,11 +123,11 @@ module _ (leaves : Files → Type 0) (seen : Files) (history : List Packet) (t a
         (subst (λ (rows : List (List BinAt)). P t.listing.settings t.listing.cone t.listing.events rows true) (sym ending.rows_are) holds)
 
     pub up_closed : (after : Files → Type 0) (seen_after : Files) (log_after : LogPlace) → ((image : Files) → after image → since image) → log_after.named ≡ length a.due.reports →
-        log_after.marks ≡ log.marks →
+        log_after.places ≡ log.places →
         InEach after 1 (λ bytes. IsGated (most_record t.listing.settings) bytes 8 (map log_payload_of logged ++ payload ∷ []) log_after.gate) → IsWhollySettled after seen_after 0 →
         IsWhollySettled after seen_after 1 →
         IsInStep after seen_after history a.listing a.rows a.due.reports log_after
-    up_closed after seen_after log_after now named_is marks_are stands journal_settled log_settled = record {
+    up_closed after seen_after log_after now named_is places_are stands journal_settled log_settled = record {
       logged = logged ++ last ∷ [];
       log_of = of_listing (λ s cone events rows closed. IsLogOf s cone events rows closed (logged ++ last ∷ [])) next.is;
       named_is = named_is ∙ ap length (closed_reports ∙ sym next.is.reports_are);
@@ -140,10 +140,10 @@ module _ (leaves : Files → Type 0) (seen : Files) (history : List Packet) (t a
       journal_settled = journal_settled;
       log_settled = log_settled;
       reports_are = ending.reports_are;
-      begins = of_listing (λ s cone events rows closed. NamesRecord s history (last_n0 (logged ++ last ∷ [])) (last_mark (logged ++ last ∷ []))) named_then;
-      marked = subst (AreMarked history) (sym marks_are) ending.marked;
-      reach = of_listing (λ s cone events rows closed. log_after.marks.from ≤ edge s 0 (length events) + 1)
-          (subst (λ (m : Marked). m.from ≤ edge t.listing.settings 0 (length t.listing.events) + 1) (sym marks_are) ending.reach);
+      begins = of_listing (λ s cone events rows closed. NamesRecord s history (last_n0 (logged ++ last ∷ [])) (last_place (logged ++ last ∷ []))) named_then;
+      placed = subst (ArePlacesIn history) (sym places_are) ending.placed;
+      reach = of_listing (λ s cone events rows closed. log_after.places.from ≤ edge s 0 (length events) + 1)
+          (subst (λ (m : Places). m.from ≤ edge t.listing.settings 0 (length t.listing.events) + 1) (sym places_are) ending.reach);
     }
 
 -- ---- where a bay tells its files
@@ -163,7 +163,7 @@ pub ending_of : (leaves leaves_after : Files → Type 0) (seen : Files) (history
     a.listing ≡ record t.listing { closed = true } → a.rows ≡ t.rows → ((image : Files) → leaves_after image → leaves image) → leaves_after seen →
     a.due.reports ≡ reports_of a.listing →
     t.listing.events ≡ events_of history →
-    log.marks.settings ≡ t.listing.settings → log.marks.passed ≡ length t.listing.events →
+    log.places.settings ≡ t.listing.settings → log.places.passed ≡ length t.listing.events →
     IsEnding leaves_after seen history t a log up.logged
 ending_of leaves leaves_after seen history t a log still up listing_is rows_are back read reports_are all same passed = record {
   log_of = subst (λ closed. IsLogOf t.listing.settings t.listing.cone t.listing.events t.rows closed up.logged) still up.log_of;
@@ -179,7 +179,7 @@ ending_of leaves leaves_after seen history t a log still up listing_is rows_are 
   all = all;
   late = late_all history t.listing.events all;
   begins = up.begins;
-  marked = up.marked;
+  placed = up.placed;
   same = same;
   passed = passed;
   reach = up.reach;

@@ -164,7 +164,7 @@ module _ {B : Type 0} (bays : Bays B) (lawful : IsLawful bays) (old : Workplace 
           up_closed (bays.leaves bay) seen history old.counts counts old.log up.logged can.counted ends (few_here few (Ok tt) bay_after log_after appends) (bays.left_since bay_after
           (bays.moment bay)) payload refl
           (appends.others seen told_then) (appends.before seen told_then) (bays.leaves bay_after) after log_after (now_since bays lawful bay bay_after appends.kept.time.later)
-          (ap (λ (l : LogPlace). l.named) appends.moved) (ap (λ (l : LogPlace). l.marks) appends.moved) stands
+          (ap (λ (l : LogPlace). l.named) appends.moved) (ap (λ (l : LogPlace). l.places) appends.moved) stands
           (settled_alone bays lawful 0 bay bay_after (beside few (Ok tt) bay_after log_after appends) seen told_then ends.journal_settled after told_after)
           (appends.settled after told_after);
       each_moment = sound_end few (Ok tt) bay_after log_after appends;

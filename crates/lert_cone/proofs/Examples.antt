@@ -9,9 +9,9 @@ use Rattle.lert_spec.specs.declared.numbers.Numbers.{Numbers}
 use Rattle.lert_spec.specs.Mix.{mix, cone_of}
 use Rattle.lert_cone.specs.Framed.{last_flush}
 use Rattle.lert_base.specs.Packet.{events_of}
-use Rattle.lert_cone.specs.declared.marks.Mark.{Mark}
+use Rattle.lert_cone.specs.declared.journal_places.JournalPlace.{JournalPlace}
 use Rattle.lert_cone.specs.History.{most_payload, end_of}
-use Rattle.lert_cone.specs.Marks.{HoldsPosition, first_mark, oldest_mark}
+use Rattle.lert_cone.specs.JournalPlaces.{HoldsPosition, first_place, oldest_place}
 use Rattle.lert_cone.specs.Sound.{IsSoundClosed, HoldFrames}
 use Rattle.lert_cone.specs.Unread.{unread}
 use Rattle.lert_reports.specs.declared.log.LogKind.{LogKind}
@@ -150,7 +150,7 @@ unfolding mix
 listed = refl
 
 -- it names the record that holds position 1
-first_holds : HoldsPosition (sevens ∷ []) first_mark 1
+first_holds : HoldsPosition (sevens ∷ []) first_place 1
 first_holds = record { done = []; packet = sevens; rest = []; is = refl; gate_is = refl; first_is = refl; from = omega arith; to = omega arith }
 
 -- and the files are sound for them, and closed
@@ -238,21 +238,21 @@ holds_29 = record {
   to = omega arith;
 }
 
--- the marks of the bins that begin at 33, 29, 25 and 21, and at 37 in front of these: level 0 begins behind 28 at both places
-abbrev late : List Mark
+-- the places of the bins that begin at 33, 29, 25 and 21, and at 37 in front of these: level 0 begins behind 28 at both places
+abbrev late : List JournalPlace
 late = record { gate = 326; first = 28 } ∷ record { gate = 326; first = 28 } ∷ record { gate = 257; first = 21 } ∷ record { gate = 257; first = 21 } ∷ []
 
-oldest_at_a_flush : oldest_mark (record { settings = small; marks = late; passed = 36; from = 1 }) ≡ record { gate = 326; first = 28 }
-unfolding oldest_mark
+oldest_at_a_flush : oldest_place (record { settings = small; places = late; passed = 36; from = 1 }) ≡ record { gate = 326; first = 28 }
+unfolding oldest_place
 oldest_at_a_flush = refl
 
-oldest_at_the_end : oldest_mark (record { settings = small; marks = record { gate = 387; first = 34 } ∷ late; passed = 37; from = 1 }) ≡ record { gate = 326; first = 28 }
-unfolding oldest_mark
+oldest_at_the_end : oldest_place (record { settings = small; places = record { gate = 387; first = 34 } ∷ late; passed = 37; from = 1 }) ≡ record { gate = 326; first = 28 }
+unfolding oldest_place
 oldest_at_the_end = refl
 
 -- at a flush at 32 the newest bin begins at 29, and level 0 at 25
-oldest_before : oldest_mark (record { settings = small; marks = drop 1 late; passed = 32; from = 1 }) ≡ record { gate = 257; first = 21 }
-unfolding oldest_mark
+oldest_before : oldest_place (record { settings = small; places = drop 1 late; passed = 32; from = 1 }) ≡ record { gate = 257; first = 21 }
+unfolding oldest_place
 oldest_before = refl
 
 -- ---- keys that a reopening doesn't read

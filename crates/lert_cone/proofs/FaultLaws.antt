@@ -1,13 +1,10 @@
 -- What a fault in the middle of a call leaves of a cone and of its bay.
-use Rattle.std.proofs.Common.{◌≡◌, ◌≢◌, ◌∙◌, ℕ, true, false, Option, Some, None, refl}
+use Rattle.std.proofs.Common.{◌≡◌, ◌∙◌, ℕ, true, false, Option, Some, None, refl}
 use Rattle.lert_bay.specs.Files.{Files, Turns}
-use Rattle.lert_cone.specs.declared.state.ConeState.TheVariants.{BrokenByBay, BrokenByRead, Replaying}
+use Rattle.lert_cone.specs.declared.state.ConeState.TheVariants.{BrokenByBay, BrokenByRead}
 use Rattle.lert_base.specs.declared.cone_fault.ConeFault.TheVariants.{BayFailed, Unsound}
 use Rattle.lert_cone.specs.declared.tally.TakeFault.{TakeFault}
 use Rattle.lert_cone.specs.declared.tally.TakeFault.TheVariants.{Failed as TakeFailed, Unsound as TakeUnsound}
-use Rattle.lert_cone.specs.declared.refusal.ReplayFault.{ReplayFault}
-use Rattle.lert_cone.specs.declared.refusal.ReplayFault.TheVariants.{Failed as ReplayFailed, Malformed as ReplayMalformed, Unsound as ReplayUnsound}
-use Rattle.lert_cone.specs.Replays.{broken_after, of_take_fault}
 use Rattle.lert_cone.specs.Sound.{IsKept}
 use Rattle.lert_cone.specs.Stands.{is_broken, is_refusal, broken_by, cone_fault}
 use Rattle.lert_cone.specs.Wrote.{Anything}
@@ -22,10 +19,6 @@ untold (Some seen) never = absurd (never seen refl)
 pub is_broken_by : (fault : TakeFault) → is_broken (broken_by fault) ≡ true
 is_broken_by TakeFailed = refl
 is_broken_by (TakeUnsound file at) = refl
-
-pub not_replaying_by : (fault : TakeFault) → broken_by fault ≢ Replaying
-not_replaying_by TakeFailed same = (let never : ⊥ = cc in never)
-not_replaying_by (TakeUnsound file at) same = (let never : ⊥ = cc in never)
 
 pub by_bay_of : (fault : TakeFault) → broken_by fault ≡ BrokenByBay → fault ≡ TakeFailed
 by_bay_of TakeFailed same = refl
@@ -46,28 +39,6 @@ unsound_of (TakeUnsound other place) file at same = (let is : TakeUnsound other 
 pub no_refusal : (fault : TakeFault) → is_refusal (cone_fault fault) ≡ false
 no_refusal TakeFailed = refl
 no_refusal (TakeUnsound file at) = refl
-
--- ---- a fault of a replay
-
-pub is_broken_after : (fault : ReplayFault) → is_broken (broken_after fault) ≡ true
-is_broken_after ReplayFailed = refl
-is_broken_after (ReplayMalformed at) = refl
-is_broken_after (ReplayUnsound file at) = refl
-
-pub not_replaying_after : (fault : ReplayFault) → broken_after fault ≢ Replaying
-not_replaying_after ReplayFailed same = (let never : ⊥ = cc in never)
-not_replaying_after (ReplayMalformed at) same = (let never : ⊥ = cc in never)
-not_replaying_after (ReplayUnsound file at) same = (let never : ⊥ = cc in never)
-
-pub by_bay_after : (fault : ReplayFault) → broken_after fault ≡ BrokenByBay → fault ≡ ReplayFailed
-by_bay_after ReplayFailed same = refl
-by_bay_after (ReplayMalformed at) same = absurd (let never : ⊥ = cc in never)
-by_bay_after (ReplayUnsound file at) same = absurd (let never : ⊥ = cc in never)
-
--- one in the middle of a call breaks the cone as it is answered
-pub broken_alike : (fault : TakeFault) → broken_by fault ≡ broken_after (of_take_fault fault)
-broken_alike TakeFailed = refl
-broken_alike (TakeUnsound file at) = refl
 
 -- ---- what is left of a bay
 

@@ -8,7 +8,7 @@ use Rattle.lert_cone.specs.declared.acked.Acked.{Acked}
 use Rattle.lert_base.specs.declared.cone_fault.ConeFault.{ConeFault}
 use Rattle.lert_base.specs.declared.cone_fault.ConeFault.TheVariants.{Closed, Broken, CapacityFull, BayFailed, Unsound}
 use Rattle.lert_cone.specs.declared.state.ConeState.{ConeState}
-use Rattle.lert_cone.specs.declared.state.ConeState.TheVariants.{Running, Finished, BrokenByBay, BrokenByRead, Replaying}
+use Rattle.lert_cone.specs.declared.state.ConeState.TheVariants.{Running, Finished, BrokenByBay, BrokenByRead}
 use Rattle.lert_cone.specs.Locked.{AnswersUnder, RefusesUnder, is_stopped}
 use Rattle.lert_cone.specs.Stands.{Standing, StandsFor, Answers, is_broken, terms_of}
 use Rattle.lert_cone.specs.Wrote.{Anything}
@@ -19,12 +19,11 @@ stopped_if Running broken = broken
 stopped_if Finished broken = refl
 stopped_if BrokenByBay broken = refl
 stopped_if (BrokenByRead file at) broken = refl
-stopped_if Replaying broken = refl
 
 module _ {B : Type 0} (bays : Bays B) (packet : Packet) (old new : Standing B) where
   pub answers_under : Turns Anything (bays.files old.made) (bays.files old.bay) → (result : Result Acked ConeFault)
       → IfOk result (λ acked. (h : List Packet) → StandsFor bays.files bays.leaves bays.faults old h → Answers bays.files old h packet acked)
-      → IfOk result (λ acked. (h : List Packet) → StandsFor bays.files bays.leaves bays.faults old h → AnswersUnder bays.files (terms_of old) h packet acked)
+      → IfOk result (λ acked. (h : List Packet) → StandsFor bays.files bays.leaves bays.faults old h → AnswersUnder bays.files (terms_of bays.faults bays.mark old) h packet acked)
   answers_under tells (Ok acked) answers = λ h stands.
       let at_bay = answers h stands in
       record {
@@ -46,7 +45,7 @@ module _ {B : Type 0} (bays : Bays B) (packet : Packet) (old new : Standing B) w
 
   pub refuses_under : (result : Result Acked ConeFault) → Admits bays packet old new result
       → IfErr result (λ fault. (h : List Packet) → StandsFor bays.files bays.leaves bays.faults old h →
-      (RefusesUnder (terms_of old) h packet fault × (is_stopped new.state ≡ is_stopped old.state) × (new.over ≡ old.over))
+      (RefusesUnder (terms_of bays.faults bays.mark old) h packet fault × (is_stopped new.state ≡ is_stopped old.state) × (new.over ≡ old.over))
       ⊎ (IsTrue (is_stopped new.state) × ((new.over ≡ old.over) ⊎ (new.over ≡ Some packet))))
   refuses_under (Ok acked) did = tt
   refuses_under (Err Closed) did = λ h stands. inr (unchanged (did.unchanged refl) (ap is_stopped (did.closed.0 refl)))

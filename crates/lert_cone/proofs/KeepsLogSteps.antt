@@ -26,7 +26,7 @@ use Rattle.lert_cone.specs.Appends.{AppendsRecord}
 use Rattle.lert_cone.specs.Framed.{HoldsSome}
 use Rattle.lert_cone.specs.KeepsLog.{IsNextFlush, NamesRows, HoldsNamed, KeepsRecords, KeepsLog, LogHead, IsHeadOf, KeepsLogOf}
 use Rattle.lert_cone.specs.Logged.{frames_of}
-use Rattle.lert_cone.specs.Marks.{oldest_mark}
+use Rattle.lert_cone.specs.JournalPlaces.{oldest_place}
 use Rattle.lert_cone.specs.Record.{LogPlace, payload_at}
 use Rattle.lert_cone.specs.Replays.{IsUnwritten}
 use Rattle.lert_cone.specs.Wrote.{IsShutIfTold}
@@ -181,8 +181,8 @@ module _ {B : Type 0} (bays : Bays B) (lawful : IsLawful bays) (s : Numbers) whe
           one = record {
             kind = LogKind.Flush;
             n0 = n0;
-            offset = (oldest_mark log.marks).gate;
-            first = (oldest_mark log.marks).first;
+            offset = (oldest_place log.places).gate;
+            first = (oldest_place log.places).first;
             directory = frames_of moved;
             reports = drop log.named reports;
           }
@@ -190,7 +190,7 @@ module _ {B : Type 0} (bays : Bays B) (lawful : IsLawful bays) (s : Numbers) whe
           payload_one : payload_at log LogKind.Flush n0 (directory_text moved) reports ≡ log_payload_of one
           payload_one =
               sym (payload_is_at log LogKind.Flush n0 (directory_text moved) reports)
-              ∙ ap (λ directory. log_payload LogKind.Flush n0 (oldest_mark log.marks).gate (oldest_mark log.marks).first directory (drop log.named reports)) (sym (directory_is moved))
+              ∙ ap (λ directory. log_payload LogKind.Flush n0 (oldest_place log.places).gate (oldest_place log.places).first directory (drop log.named reports)) (sym (directory_is moved))
 
           module _ (seen : Files) (told : bays.files old ≡ Some seen) (records : List LogRecord) (is : IsHeadOf s records head (seen 1)) (mid : Files) (told_mid : bays.files bay ≡ Some mid) where
             leaves_mid : LeavesRest (InNamed s rows) seen mid

@@ -20,7 +20,7 @@ use Rattle.lert_cone.specs.declared.tally.TakeFault.{TakeFault}
 use Rattle.lert_cone.specs.declared.tally.TakeFault.TheVariants.{Failed, Unsound}
 use Rattle.lert_bay.specs.Kept.{Bays}
 use Rattle.lert_bay.proofs.KeptLaws.{IsLawful, keeps_as}
-use Rattle.lert_cone.specs.Counts.{Brings, CountsKey}
+use Rattle.lert_cone.specs.Counts.{GivesTotals, CountsKey}
 use Rattle.lert_cone.specs.Due.{Dues, started}
 use Rattle.lert_cone.specs.Framed.{HoldsSome}
 use Rattle.lert_cone.specs.Tally.{Tallied, AreYoung, IsHeld, take_fault}
@@ -52,50 +52,50 @@ module _ {B : Type 0} (bays : Bays B) (lawful : IsLawful bays) (t : Tallied) (ls
       ∙ ap (edge t.listing.settings 0) (omega (arith, taking.m_is))
       ∙ ap (λ (s : Numbers). edge s 0 (m - 1)) (sym taking.levels_are)
 
-  module _ (result : Result (Unit {0}) FlushFault) (brings : Brings bays start m tail bay bay_after young young_after (record { settings = ls; rows = t.rows }) levels_after due result) where
+  module _ (result : Result (Unit {0}) FlushFault) (gives : GivesTotals bays start m tail bay bay_after young young_after (record { settings = ls; rows = t.rows }) levels_after due result) where
     never_malformed_held : (seen : Files) → bays.files bay ≡ Some seen → IsHeld t seen → (at : ℕ) → result ≢ Err (Malformed at)
-    never_malformed_held seen told held = brings.sound (t.listing.events ++ key ∷ []) long now_young seen told (now_frames seen held)
+    never_malformed_held seen told held = gives.sound (t.listing.events ++ key ∷ []) long now_young seen told (now_frames seen held)
 
     never_malformed_some : (seen : Files) → bays.files bay ≡ Some seen → HoldsSome t.listing.settings (length t.listing.events) t.rows (seen 2) → (at : ℕ) →
         result ≢ Err (Malformed at)
     never_malformed_some seen told some =
-        brings.sound (others t ls key tail m young taking (seen 2) some)
+        gives.sound (others t ls key tail m young taking (seen 2) some)
         (others_long t ls key tail m young taking (seen 2) some)
         (others_young t ls key tail m young taking (seen 2) some) seen told
         (others_frames t ls key tail m young taking (seen 2) some)
 
     rest_here : KeepsRest bays (InNamed t.listing.settings t.rows) bay bay_after
-    rest_here = subst (λ (s : Numbers). KeepsRest bays (InNamed s t.rows) bay bay_after) taking.levels_are brings.rest
+    rest_here = subst (λ (s : Numbers). KeepsRest bays (InNamed s t.rows) bay bay_after) taking.levels_are gives.rest
 
     unflushed_here : edge t.listing.settings 0 (length t.listing.events + 1) ≡ edge t.listing.settings 0 (length t.listing.events) → bay_after ≡ bay
-    unflushed_here stays = brings.unflushed (levels_stay stays)
+    unflushed_here stays = gives.unflushed (levels_stay stays)
 
   -- the totals don't come
-  refused_by : (fault : FlushFault) → Brings bays start m tail bay bay_after young young_after (record { settings = ls; rows = t.rows }) levels_after due (Err fault) →
+  refused_by : (fault : FlushFault) → GivesTotals bays start m tail bay bay_after young young_after (record { settings = ls; rows = t.rows }) levels_after due (Err fault) →
       CountsKey bays key bay bay_after t (record { listing = t.listing; young = young_after; rows = levels_after.rows; due = due }) (Err (take_fault fault))
-  refused_by fault brings = record {
+  refused_by fault gives = record {
     listing = refl;
     taken = tt;
     counted = tt;
     grows = tt;
     still = λ stays. tt;
-    unflushed = unflushed_here (Err fault) brings;
+    unflushed = unflushed_here (Err fault) gives;
     held = λ seen told held. tt;
     sound = λ seen told held file at same.
-        sound_fault fault (λ place is. never_malformed_held (Err fault) brings seen told held place (ap Err is)) file at (let inner : take_fault fault ≡ Unsound file at = cc in inner);
+        sound_fault fault (λ place is. never_malformed_held (Err fault) gives seen told held place (ap Err is)) file at (let inner : take_fault fault ≡ Unsound file at = cc in inner);
     shows = λ seen told file at same.
         shows_frame (Err (take_fault fault)) fault refl t.listing.settings levels_after.rows due.reports (seen 2)
-        (λ place is. subst (λ (v : Numbers). OneBreaks v levels_after.rows (seen 2) place) (brings.settings ∙ taking.levels_are) (brings.malformed_after seen told place (ap Err is)))
+        (λ place is. subst (λ (v : Numbers). OneBreaks v levels_after.rows (seen 2) place) (gives.settings ∙ taking.levels_are) (gives.malformed_after seen told place (ap Err is)))
         file at same;
     framed = λ seen told some. tt;
     whole = λ seen told some at same.
-        sound_fault fault (λ place is. never_malformed_some (Err fault) brings seen told some place (ap Err is)) 2 at (let inner : take_fault fault ≡ Unsound 2 at = cc in inner);
+        sound_fault fault (λ place is. never_malformed_some (Err fault) gives seen told some place (ap Err is)) 2 at (let inner : take_fault fault ≡ Unsound 2 at = cc in inner);
     images = λ seen told held each. tt;
-    rest = rest_here (Err fault) brings;
-    kept = keeps_as bays lawful bay bay_after _ _ (λ same. ap Err (failed_flush fault (let inner : take_fault fault ≡ Failed = cc in inner))) brings.kept;
+    rest = rest_here (Err fault) gives;
+    kept = keeps_as bays lawful bay bay_after _ _ (λ same. ap Err (failed_flush fault (let inner : take_fault fault ≡ Failed = cc in inner))) gives.kept;
   }
 
-  pub not_counted : (result : Result (Unit {0}) FlushFault) (fault : FlushFault) → result ≡ Err fault → Brings bays start m tail bay bay_after young young_after (record {
+  pub not_counted : (result : Result (Unit {0}) FlushFault) (fault : FlushFault) → result ≡ Err fault → GivesTotals bays start m tail bay bay_after young young_after (record {
     settings = ls;
     rows = t.rows;
   }) levels_after due result →
@@ -105,14 +105,14 @@ module _ {B : Type 0} (bays : Bays B) (lawful : IsLawful bays) (t : Tallied) (ls
         rows = levels_after.rows;
         due = due;
       }) given
-  not_counted result fault is brings given given_is =
+  not_counted result fault is gives given given_is =
       subst (λ (r : Result (Unit {0}) TakeFault). CountsKey bays key bay bay_after t (record { listing = t.listing; young = young_after; rows = levels_after.rows; due = due }) r) (handed_on given
       (take_fault fault) given_is)
-      (refused_by fault (subst (λ (r : Result (Unit {0}) FlushFault). Brings bays start m tail bay bay_after young young_after (record { settings = ls; rows = t.rows }) levels_after due r) is
-      brings))
+      (refused_by fault (subst (λ (r : Result (Unit {0}) FlushFault). GivesTotals bays start m tail bay bay_after young young_after (record { settings = ls; rows = t.rows }) levels_after due r) is
+      gives))
 
   module _ (below : key < 2 ^ 64) (own : cone_of t.listing.settings key ≡ t.listing.cone) (still : t.listing.closed ≡ false)
-      (brings : Brings bays start m tail bay bay_after young young_after (record { settings = ls; rows = t.rows }) levels_after due (Ok tt)) where
+      (gives : GivesTotals bays start m tail bay bay_after young young_after (record { settings = ls; rows = t.rows }) levels_after due (Ok tt)) where
     -- a report finds no room
     pub no_room : due.is_full ≡ true → length due.reports ≡ due.settings.room →
         CountsKey bays key bay bay_after t (record { listing = t.listing; young = young_after; rows = levels_after.rows; due = due }) (Err (Unsound 1 0))
@@ -122,19 +122,19 @@ module _ {B : Type 0} (bays : Bays B) (lawful : IsLawful bays) (t : Tallied) (ls
       counted = tt;
       grows = tt;
       still = λ stays. tt;
-      unflushed = unflushed_here (Ok tt) brings;
+      unflushed = unflushed_here (Ok tt) gives;
       held = λ seen told held. tt;
       sound = λ seen told held file at same.
           never_full t ls key tail m young taking below own start due start_is still seen held
-          (brings.totals (t.listing.events ++ key ∷ []) long now_young seen told (now_frames seen held)) full;
+          (gives.totals (t.listing.events ++ key ∷ []) long now_young seen told (now_frames seen held)) full;
       shows = λ seen told file at same.
           shows_full t.listing.settings levels_after.rows due.reports (seen 2)
-          (filled ∙ ap (λ (s : Numbers). s.room) (brings.took.1.settings_are ∙ ap (λ (d : Dues). d.settings) start_is ∙ taking.counted.due_settings)) file at same;
+          (filled ∙ ap (λ (s : Numbers). s.room) (gives.took.1.settings_are ∙ ap (λ (d : Dues). d.settings) start_is ∙ taking.counted.due_settings)) file at same;
       framed = λ seen told some. tt;
       whole = λ seen told some at same. (let never : ⊥ = cc in never);
       images = λ seen told held each. tt;
-      rest = rest_here (Ok tt) brings;
-      kept = keeps_as bays lawful bay bay_after _ _ (λ same. absurd (let never : ⊥ = cc in never)) brings.kept;
+      rest = rest_here (Ok tt) gives;
+      kept = keeps_as bays lawful bay bay_after _ _ (λ same. absurd (let never : ⊥ = cc in never)) gives.kept;
     }
 
     -- the key is counted
@@ -169,21 +169,21 @@ module _ {B : Type 0} (bays : Bays B) (lawful : IsLawful bays) (t : Tallied) (ls
           taken = events_are;
           counted = counted_next t ls key tail m young taking below own start due start_is young_after levels_after.rows after
               after_is
-              brings.from brings.to (brings.bins (t.listing.events ++ key ∷ []) long now_young) brings.rows (brings.are (subst (λ (v : Numbers). AreRows v t.rows)
-              (sym taking.levels_are) taking.counted.are)) brings.took;
-          grows = omega (arith, brings.took.1.grows, ap (λ (d : Dues). length d.before) start_is, ap (length {A = Report}) brings.took.1.before_is);
-          still = λ stays. brings.still (levels_stay stays);
-          unflushed = unflushed_here (Ok tt) brings;
+              gives.from gives.to (gives.bins (t.listing.events ++ key ∷ []) long now_young) gives.rows (gives.are (subst (λ (v : Numbers). AreRows v t.rows)
+              (sym taking.levels_are) taking.counted.are)) gives.took;
+          grows = omega (arith, gives.took.1.grows, ap (λ (d : Dues). length d.before) start_is, ap (length {A = Report}) gives.took.1.before_is);
+          still = λ stays. gives.still (levels_stay stays);
+          unflushed = unflushed_here (Ok tt) gives;
           held = λ seen told held after_files told_after.
               held_next t ls key tail m young taking below own start due start_is still seen held
-              (brings.totals (t.listing.events ++ key ∷ []) long now_young seen told (now_frames seen held)) young_after levels_after.rows after after_files after_is room
-              (brings.holds (t.listing.events ++ key ∷ []) long now_young seen told (now_frames seen held) after_files told_after);
+              (gives.totals (t.listing.events ++ key ∷ []) long now_young seen told (now_frames seen held)) young_after levels_after.rows after after_files after_is room
+              (gives.holds (t.listing.events ++ key ∷ []) long now_young seen told (now_frames seen held) after_files told_after);
           sound = λ seen told held file at same. (let never : ⊥ = cc in never);
           shows = λ seen told file at same. absurd (let never : ⊥ = cc in never);
           framed = λ seen told some after_files told_after.
               subst (λ (keys : List ℕ). HoldsSome t.listing.settings (length keys) levels_after.rows (after_files 2)) (sym events_are)
-              (others_next t ls key tail m young taking (seen 2) some levels_after.rows (after_files 2) brings.rows
-              (brings.holds (others t ls key tail m young taking (seen 2) some)
+              (others_next t ls key tail m young taking (seen 2) some levels_after.rows (after_files 2) gives.rows
+              (gives.holds (others t ls key tail m young taking (seen 2) some)
               (others_long t ls key tail m young taking (seen 2) some)
               (others_young t ls key tail m young taking (seen 2) some) seen told
               (others_frames t ls key tail m young taking (seen 2) some) after_files told_after));
@@ -192,9 +192,9 @@ module _ {B : Type 0} (bays : Bays B) (lawful : IsLawful bays) (t : Tallied) (ls
               let each_now : InEach (bays.leaves bay) 2 (HoldsBins ls (t.listing.events ++ key ∷ []) t.rows) =
               λ image may. subst (λ (v : Numbers). HoldsBins v (t.listing.events ++ key ∷ []) t.rows (image 2)) (sym taking.levels_are) (frames_more t.listing.settings taking.valid t.listing.events
               (key ∷ []) t.rows (image 2) taking.counted.rows (each image may)) in
-              let stay = brings.images (t.listing.events ++ key ∷ []) long now_young seen told (now_frames seen held) each_now in
+              let stay = gives.images (t.listing.events ++ key ∷ []) long now_young seen told (now_frames seen held) each_now in
               subst (λ (keys : List ℕ). InEach (bays.leaves bay_after) 2 (HoldsBins t.listing.settings keys levels_after.rows)) (sym events_are)
               (subst (λ (v : Numbers). InEach (bays.leaves bay_after) 2 (HoldsBins v (t.listing.events ++ key ∷ []) levels_after.rows)) taking.levels_are (stay after_files told_after));
-          rest = rest_here (Ok tt) brings;
-          kept = keeps_as bays lawful bay bay_after _ _ (λ same. absurd (let never : ⊥ = cc in never)) brings.kept;
+          rest = rest_here (Ok tt) gives;
+          kept = keeps_as bays lawful bay bay_after _ _ (λ same. absurd (let never : ⊥ = cc in never)) gives.kept;
         }

@@ -30,13 +30,13 @@ use Rattle.lert_cone.specs.Framed.{last_flush}
 use Rattle.lert_cone.specs.InStep.{IsInStep, IsPartway}
 use Rattle.lert_cone.specs.Listing.{Listing, reports_of}
 use Rattle.lert_cone.specs.Logged.{IsLogOf, next_record}
-use Rattle.lert_cone.specs.Marks.{AreMarked, Marked, MayName, NamesRecord, last_mark, oldest_mark}
+use Rattle.lert_cone.specs.JournalPlaces.{ArePlacesIn, Places, MayName, NamesRecord, last_place, oldest_place}
 use Rattle.lert_cone.specs.Record.{LogPlace, payload_at}
 use Rattle.lert_cone.specs.Sound.{IsJournal, IsSound}
 use Rattle.lert_cone.specs.Tally.{Tallied, IsCounted, IsHeld}
 use Rattle.lert_cone.proofs.LogLaws.{LogsNext, log_between, log_at_flush, payload_is}
 use Rattle.lert_cone.proofs.FlushLaws.{last_flush_grows}
-use Rattle.lert_cone.proofs.MarkLaws.{edge_grows, may_name, names_pushed, oldest_names}
+use Rattle.lert_cone.proofs.JournalPlaceLaws.{edge_grows, may_name, names_pushed, oldest_names}
 use Rattle.lert_cone.proofs.RecordLaws.{payload_is_at}
 use Rattle.lert_cone.proofs.Calls.{alone_rest, now_since, settled_alone}
 use Rattle.lert_cone.proofs.StepLaws.{journal_since, log_since, frames_since, sound_of, with_or_without, with_record, header_since}
@@ -54,11 +54,11 @@ partway_more s history events key partway = record {
 
 -- the payload that is appended is that of the next record
 pub next_payload : (log : LogPlace) (kind : LogKind) (n0 : ℕ) (rows : List (List BinAt)) (logged : List LogRecord) (reports : List Report) → log.named ≡ length (listed_in logged) →
-    payload_at log kind n0 (directory_text rows) reports ≡ log_payload_of (next_record kind n0 (oldest_mark log.marks) rows logged reports)
+    payload_at log kind n0 (directory_text rows) reports ≡ log_payload_of (next_record kind n0 (oldest_place log.places) rows logged reports)
 next_payload log kind n0 rows logged reports named_is =
     sym (payload_is_at log kind n0 (directory_text rows) reports)
-    ∙ (ap (λ n. log_payload kind n0 (oldest_mark log.marks).gate (oldest_mark log.marks).first (directory_text rows) (drop n reports)) named_is
-    ∙ payload_is kind n0 (oldest_mark log.marks) rows logged reports)
+    ∙ (ap (λ n. log_payload kind n0 (oldest_place log.places).gate (oldest_place log.places).first (directory_text rows) (drop n reports)) named_is
+    ∙ payload_is kind n0 (oldest_place log.places) rows logged reports)
 
 -- ---- while calls leave the files alone that memory goes together with
 
@@ -124,11 +124,11 @@ pub record IsTaken (leaves : Files → Type 0) (seen : Files) (history : List Pa
   pub frames_before : InEach leaves 2 (HoldsBins t.listing.settings t.listing.events t.rows)
   pub frames : InEach leaves 2 (HoldsBins a.listing.settings a.listing.events a.rows)
   pub reports_are : a.due.reports ≡ reports_of a.listing
-  pub begins : NamesRecord t.listing.settings history (last_n0 logged) (last_mark logged)
-  pub marked : AreMarked history log.marks
-  pub same : log.marks.settings ≡ t.listing.settings
-  pub passed : log.marks.passed ≡ suc (length t.listing.events)
-  pub reach : log.marks.from ≤ edge t.listing.settings 0 (suc (length t.listing.events)) + 1
+  pub begins : NamesRecord t.listing.settings history (last_n0 logged) (last_place logged)
+  pub placed : ArePlacesIn history log.places
+  pub same : log.places.settings ≡ t.listing.settings
+  pub passed : log.places.passed ≡ suc (length t.listing.events)
+  pub reach : log.places.from ≤ edge t.listing.settings 0 (suc (length t.listing.events)) + 1
 
 module _ (leaves : Files → Type 0) (seen : Files) (history : List Packet) (t a : Tallied) (log : LogPlace) (logged : List LogRecord) (key : ℕ)
     (still : t.listing.closed ≡ false) (before : IsCounted t) (counted : IsCounted a) (taken : IsTaken leaves seen history t a log logged key) where
@@ -155,10 +155,10 @@ module _ (leaves : Files → Type 0) (seen : Files) (history : List Packet) (t a
   journal_now : InEach leaves 0 (IsJournal a.listing.settings a.listing.cone history)
   journal_now image may = of_listing (λ s cone events closed. IsJournal s cone history (image 0)) (taken.journal image may)
 
-  reach_here : log.marks.from ≤ edge a.listing.settings 0 (length a.listing.events) + 1
+  reach_here : log.places.from ≤ edge a.listing.settings 0 (length a.listing.events) + 1
   reach_here =
-      of_listing (λ s cone events closed. log.marks.from ≤ edge s 0 (length events) + 1)
-      (subst (λ n. log.marks.from ≤ edge t.listing.settings 0 n + 1) (sym long) taken.reach)
+      of_listing (λ s cone events closed. log.places.from ≤ edge s 0 (length events) + 1)
+      (subst (λ n. log.places.from ≤ edge t.listing.settings 0 n + 1) (sym long) taken.reach)
 
   -- between two flushes
   pub up_between : edge t.listing.settings 0 (length a.listing.events) ≡ edge t.listing.settings 0 (length a.listing.events - 1) → a.rows ≡ t.rows →
@@ -178,8 +178,8 @@ module _ (leaves : Files → Type 0) (seen : Files) (history : List Packet) (t a
         journal_settled = taken.journal_settled;
         log_settled = taken.log_settled;
         reports_are = taken.reports_are;
-        begins = of_listing (λ s cone events closed. NamesRecord s history (last_n0 logged) (last_mark logged)) taken.begins;
-        marked = taken.marked;
+        begins = of_listing (λ s cone events closed. NamesRecord s history (last_n0 logged) (last_place logged)) taken.begins;
+        placed = taken.placed;
         reach = reach_here;
       }
 
@@ -198,19 +198,19 @@ module _ (leaves : Files → Type 0) (seen : Files) (history : List Packet) (t a
         (t.listing.events ++ key ∷ []))) still
 
     abbrev pub one : LogRecord
-    one = next_record LogKind.Flush (suc (length t.listing.events)) (oldest_mark log.marks) a.rows logged a.due.reports
+    one = next_record LogKind.Flush (suc (length t.listing.events)) (oldest_place log.places) a.rows logged a.due.reports
 
     -- it names the journal's record that holds the first key of level 0
-    names : NamesRecord t.listing.settings history (suc (length t.listing.events)) (oldest_mark log.marks)
-    names = oldest_names t.listing.settings before.valid history log.marks (suc (length t.listing.events)) taken.same taken.passed taken.reach
-        taken.marked
+    names : NamesRecord t.listing.settings history (suc (length t.listing.events)) (oldest_place log.places)
+    names = oldest_names t.listing.settings before.valid history log.places (suc (length t.listing.events)) taken.same taken.passed taken.reach
+        taken.placed
 
-    may : MayName t.listing.settings (suc (length t.listing.events)) (oldest_mark log.marks)
+    may : MayName t.listing.settings (suc (length t.listing.events)) (oldest_place log.places)
     may =
         let journal = taken.journal seen taken.read in
-        may_name t.listing.settings before.valid t.listing.cone (suc (length t.listing.events)) history (oldest_mark log.marks) journal.journaled journal.within names
+        may_name t.listing.settings before.valid t.listing.cone (suc (length t.listing.events)) history (oldest_place log.places) journal.journaled journal.within names
 
-    named_then : NamesRecord t.listing.settings history (last_n0 (logged ++ one ∷ [])) (last_mark (logged ++ one ∷ []))
+    named_then : NamesRecord t.listing.settings history (last_n0 (logged ++ one ∷ [])) (last_place (logged ++ one ∷ []))
     named_then = names_pushed t.listing.settings history logged one names
 
     rows_are : AreRows t.listing.settings a.rows
@@ -220,9 +220,9 @@ module _ (leaves : Files → Type 0) (seen : Files) (history : List Packet) (t a
     rows_at = subst (λ n. IsAt t.listing.settings n a.rows) long (to_listing (λ s cone events closed. IsAt s (length events) a.rows) counted.rows)
 
     pub next : LogsNext t.listing.settings t.listing.cone (t.listing.events ++ key ∷ []) a.rows false logged
-        (next_record LogKind.Flush (suc (length t.listing.events)) (oldest_mark log.marks) a.rows logged a.due.reports)
+        (next_record LogKind.Flush (suc (length t.listing.events)) (oldest_place log.places) a.rows logged a.due.reports)
     next =
-        log_at_flush t.listing.settings before.valid t.listing.cone t.listing.events key (oldest_mark log.marks) t.rows a.rows logged a.due.reports may
+        log_at_flush t.listing.settings before.valid t.listing.cone t.listing.events key (oldest_place log.places) t.rows a.rows logged a.due.reports may
         (omega (arith, long, to_listing (λ s cone events closed. length events ≤ capacity s) counted.fits)) moves_here
         (to_listing (λ s cone events closed. AreKeys events) counted.keys)
         (to_listing (λ s cone events closed. AreOfCone s cone events) counted.own)
@@ -230,7 +230,7 @@ module _ (leaves : Files → Type 0) (seen : Files) (history : List Packet) (t a
 
     module _ (since : Files → Type 0) (payload : List ℕ) (payload_is : payload ≡ payload_at log LogKind.Flush (length a.listing.events) (directory_text a.rows) a.due.reports)
         (others : KeepsOthers leaves since seen 1) (earlier : KeepsBefore leaves since seen 1 log.gate) where
-      payload_here : payload ≡ log_payload_of (next_record LogKind.Flush (suc (length t.listing.events)) (oldest_mark log.marks) a.rows logged a.due.reports)
+      payload_here : payload ≡ log_payload_of (next_record LogKind.Flush (suc (length t.listing.events)) (oldest_place log.places) a.rows logged a.due.reports)
       payload_here = payload_is ∙ ap (λ n. payload_at log LogKind.Flush n (directory_text a.rows) a.due.reports) n_is ∙ next_payload log LogKind.Flush (suc
           (length t.listing.events)) a.rows logged a.due.reports taken.named_is
 
@@ -260,11 +260,11 @@ module _ (leaves : Files → Type 0) (seen : Files) (history : List Packet) (t a
 
       -- and after it
       pub up_flushed : (after : Files → Type 0) (seen_after : Files) (log_after : LogPlace) → ((image : Files) → after image → since image) → log_after.named ≡ length a.due.reports →
-          log_after.marks ≡ log.marks →
+          log_after.places ≡ log.places →
           InEach after 1 (λ bytes. IsGated (most_record t.listing.settings) bytes 8 (map log_payload_of logged ++ payload ∷ []) log_after.gate) → IsWhollySettled after seen_after 0 →
           IsWhollySettled after seen_after 1 →
           IsInStep after seen_after history a.listing a.rows a.due.reports log_after
-      up_flushed after seen_after log_after now named_is marks_are stands journal_settled log_settled =
+      up_flushed after seen_after log_after now named_is places_are stands journal_settled log_settled =
           let s = t.listing.settings in
           let cone = t.listing.cone in
           let last : last_flush s (length (t.listing.events ++ key ∷ [])) ≡ length (t.listing.events ++ key ∷ []) =
@@ -288,9 +288,9 @@ module _ (leaves : Files → Type 0) (seen : Files) (history : List Packet) (t a
             journal_settled = journal_settled;
             log_settled = log_settled;
             reports_are = taken.reports_are;
-            begins = of_listing (λ s cone events closed. NamesRecord s history (last_n0 (logged ++ one ∷ [])) (last_mark (logged ++ one ∷ []))) named_then;
-            marked = subst (AreMarked history) (sym marks_are) taken.marked;
-            reach = omega (arith, reach_here, ap (λ (m : Marked). m.from) marks_are);
+            begins = of_listing (λ s cone events closed. NamesRecord s history (last_n0 (logged ++ one ∷ [])) (last_place (logged ++ one ∷ []))) named_then;
+            placed = subst (ArePlacesIn history) (sym places_are) taken.placed;
+            reach = omega (arith, reach_here, ap (λ (m : Places). m.from) places_are);
           }
 
 -- ---- where a bay tells its files
@@ -325,9 +325,9 @@ module _ {B : Type 0} (bays : Bays B) (lawful : IsLawful bays) (bay bay_after : 
   pub taken_of : (a : Tallied) (key : ℕ) → a.listing ≡ record t.listing { events = t.listing.events ++ key ∷ [] } → (after : Files) → bays.files bay_after ≡ Some after →
       bays.leaves bay_after after →
       InEach (bays.leaves bay_after) 2 (HoldsBins a.listing.settings a.listing.events a.rows) → a.due.reports ≡ reports_of a.listing →
-      (marks : Marked) → AreMarked history marks → marks.settings ≡ t.listing.settings → marks.passed ≡ suc (length t.listing.events) → marks.from ≡ log.marks.from →
-      IsTaken (bays.leaves bay_after) after history t a (record log { marks = marks }) up.logged key
-  taken_of a key listing_is after told_after read_after frames reports marks marked same passed from_is = record {
+      (places : Places) → ArePlacesIn history places → places.settings ≡ t.listing.settings → places.passed ≡ suc (length t.listing.events) → places.from ≡ log.places.from →
+      IsTaken (bays.leaves bay_after) after history t a (record log { places = places }) up.logged key
+  taken_of a key listing_is after told_after read_after frames reports places placed same passed from_is = record {
     log_of = subst (λ closed. IsLogOf t.listing.settings t.listing.cone t.listing.events t.rows closed up.logged) still up.log_of;
     named_is = up.named_is;
     listing_is = listing_is;
@@ -347,7 +347,7 @@ module _ {B : Type 0} (bays : Bays B) (lawful : IsLawful bays) (bay bay_after : 
     frames = frames;
     reports_are = reports;
     begins = up.begins;
-    marked = marked;
+    placed = placed;
     same = same;
     passed = passed;
     reach = omega (arith, from_is, up.reach, edge_grows t.listing.settings counted.valid (length t.listing.events) (suc (length t.listing.events)) (omega arith));

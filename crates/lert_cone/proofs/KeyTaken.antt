@@ -14,7 +14,7 @@ use Rattle.lert_reports.specs.LogText.{log_payload_of}
 use Rattle.lert_spec.specs.declared.numbers.Numbers.{Numbers}
 use Rattle.lert_spec.specs.Edges.{edge, capacity}
 use Rattle.lert_base.specs.Packet.{Packet}
-use Rattle.lert_cone.specs.declared.marks.Mark.{Mark}
+use Rattle.lert_cone.specs.declared.journal_places.JournalPlace.{JournalPlace}
 use Rattle.lert_cone.specs.declared.tally.TakeFault.{TakeFault}
 use Rattle.lert_cone.specs.declared.tally.TakeFault.TheVariants.{Failed}
 use Rattle.lert_cone.specs.Appends.{AppendsRecord}
@@ -23,7 +23,7 @@ use Rattle.lert_cone.specs.Framed.{HoldsSome, last_flush}
 use Rattle.lert_cone.specs.InStep.{IsLogging, IsPartway}
 use Rattle.lert_cone.specs.KeepsLog.{NamesRows}
 use Rattle.lert_cone.specs.Listing.{Listing}
-use Rattle.lert_cone.specs.Marks.{AreMarked, HasPassed, Marked}
+use Rattle.lert_cone.specs.JournalPlaces.{ArePlacesIn, HasPassed, Places}
 use Rattle.lert_cone.specs.Record.{LogPlace, payload_at}
 use Rattle.lert_cone.specs.Sound.{IsSound}
 use Rattle.lert_cone.specs.Takes.{Workplace, CanLog, CanTake, AreInStep, AreNext, TakesKeys}
@@ -33,17 +33,17 @@ use Rattle.lert_cone.proofs.Calls.{now_since, alone_on, alone_rest, alone_others
 use Rattle.lert_cone.proofs.FlushLaws.{flush_passed}
 use Rattle.lert_cone.proofs.KeepsLogSteps.{IsFlushed, log_failed, log_flushed, log_rest}
 use Rattle.lert_cone.proofs.KeyStep.{IsTaken, held_of, sound_rest, taken_of, up_between, sound_append, up_flushed}
-use Rattle.lert_cone.proofs.MarkLaws.{record_part}
+use Rattle.lert_cone.proofs.JournalPlaceLaws.{record_part}
 use Rattle.lert_cone.proofs.RecordLaws.{record_fits, logging_more}
 use Rattle.lert_cone.proofs.SoundLaws.{turns_back}
 use Rattle.lert_cone.proofs.TakeLaws.{handed_on}
 use Rattle.lert_cone.specs.Wrote.{LeavesAlone}
 use Rattle.std.specs.Result.{IsErrAnd}
 
-module _ {B : Type 0} (bays : Bays B) (lawful : IsLawful bays) (mark : Mark) (old : Workplace B) (key : ℕ) (can : CanTake bays (key ∷ []) old) (bay : B) (counts : Tallied) where
+module _ {B : Type 0} (bays : Bays B) (lawful : IsLawful bays) (place : JournalPlace) (old : Workplace B) (key : ℕ) (can : CanTake bays (key ∷ []) old) (bay : B) (counts : Tallied) where
   -- whatever comes of it, the frames of before stand at each moment
   module _ (result : Result (Unit {0}) TakeFault) (did : CountsKey bays key old.bay bay old.counts counts result) where
-    sound_key : IfTold (bays.files old.bay) (λ seen. (history : List Packet) → AreNext history mark old (key ∷ []) →
+    sound_key : IfTold (bays.files old.bay) (λ seen. (history : List Packet) → AreNext history place old (key ∷ []) →
         IsPartway old.counts.listing.settings history old.counts.listing.events (key ∷ []) → AreInStep bays old seen history →
         (image : Files) → bays.left_since bay (bays.moment old.bay) image → IsSound old.counts.listing.settings old.counts.listing.cone history image)
     sound_key seen told history next partway up image may =
@@ -53,7 +53,7 @@ module _ {B : Type 0} (bays : Bays B) (lawful : IsLawful bays) (mark : Mark) (ol
     held seen told history up = held_of (bays.leaves old.bay) seen history old.counts old.log (lawful.as_read old.bay seen told) up
 
   refused_by : (fault : TakeFault) → CountsKey bays key old.bay bay old.counts counts (Err fault) →
-      TakesKeys bays mark (key ∷ []) old (record { bay = bay; counts = counts; log = old.log; room = old.room }) (Err fault)
+      TakesKeys bays place (key ∷ []) old (record { bay = bay; counts = counts; log = old.log; room = old.room }) (Err fault)
   refused_by fault did = record {
     listing = did.listing;
     taken = tt;
@@ -78,15 +78,15 @@ module _ {B : Type 0} (bays : Bays B) (lawful : IsLawful bays) (mark : Mark) (ol
 
   -- the key isn't counted
   pub key_refused : (result : Result (Unit {0}) TakeFault) (fault : TakeFault) → result ≡ Err fault → CountsKey bays key old.bay bay old.counts counts result →
-      (given : Result (Unit {0}) TakeFault) → IsErrAnd given (λ g. g ≡ fault) → TakesKeys bays mark (key ∷ []) old (record { bay = bay; counts = counts; log = old.log; room = old.room }) given
+      (given : Result (Unit {0}) TakeFault) → IsErrAnd given (λ g. g ≡ fault) → TakesKeys bays place (key ∷ []) old (record { bay = bay; counts = counts; log = old.log; room = old.room }) given
   key_refused result fault is did given given_is =
-      subst (λ (r : Result (Unit {0}) TakeFault). TakesKeys bays mark (key ∷ []) old (record { bay = bay; counts = counts; log = old.log; room = old.room }) r) (handed_on given fault given_is)
+      subst (λ (r : Result (Unit {0}) TakeFault). TakesKeys bays place (key ∷ []) old (record { bay = bay; counts = counts; log = old.log; room = old.room }) r) (handed_on given fault given_is)
       (refused_by fault (subst (λ (r : Result (Unit {0}) TakeFault). CountsKey bays key old.bay bay old.counts counts r) is did))
 
   -- the key is counted, and passed
-  module _ (did : CountsKey bays key old.bay bay old.counts counts (Ok tt)) (marks : Marked) (over : HasPassed (length counts.listing.events) mark old.log.marks marks) where
+  module _ (did : CountsKey bays key old.bay bay old.counts counts (Ok tt)) (places : Places) (over : HasPassed (length counts.listing.events) place old.log.places places) where
     abbrev log_then : LogPlace
-    log_then = record old.log { marks = marks }
+    log_then = record old.log { places = places }
 
     is : counts.listing ≡ record old.counts.listing { events = old.counts.listing.events ++ key ∷ [] }
     is = did.listing ∙ ap (λ (keys : List ℕ). record { settings = old.counts.listing.settings; cone = old.counts.listing.cone; events = keys; closed = old.counts.listing.closed }) did.taken
@@ -97,26 +97,26 @@ module _ {B : Type 0} (bays : Bays B) (lawful : IsLawful bays) (mark : Mark) (ol
     long : length counts.listing.events ≡ length old.counts.listing.events + 1
     long = ap (λ (l : Listing). length l.events) is ∙ length-append old.counts.listing.events (key ∷ [])
 
-    -- it is of the record at the mark
-    marked : (history : List Packet) → AreNext history mark old (key ∷ []) → AreMarked history old.log.marks → AreMarked history marks
-    marked history next = over.marks history
-        (record_part history mark (length old.counts.listing.events) (length old.counts.listing.events + length (key ∷ [])) old.log.marks.passed (length counts.listing.events)
+    -- it is of the record at the place
+    placed : (history : List Packet) → AreNext history place old (key ∷ []) → ArePlacesIn history old.log.places → ArePlacesIn history places
+    placed history next = over.places history
+        (record_part history place (length old.counts.listing.events) (length old.counts.listing.events + length (key ∷ [])) old.log.places.passed (length counts.listing.events)
         (omega (arith, can.can_log.logging.passed)) (omega (arith, long)) next)
 
-    same : marks.settings ≡ old.counts.listing.settings
+    same : places.settings ≡ old.counts.listing.settings
     same = over.settings ∙ can.can_log.logging.same
 
-    taken : (seen : Files) → bays.files old.bay ≡ Some seen → (history : List Packet) → AreNext history mark old (key ∷ []) → (up : AreInStep bays old seen history) → (after : Files) →
+    taken : (seen : Files) → bays.files old.bay ≡ Some seen → (history : List Packet) → AreNext history place old (key ∷ []) → (up : AreInStep bays old seen history) → (after : Files) →
         bays.files bay ≡ Some after →
-        IsTaken (bays.leaves bay) after history old.counts counts (record old.log { marks = marks }) up.logged key
+        IsTaken (bays.leaves bay) after history old.counts counts (record old.log { places = places }) up.logged key
     taken seen told history next up after told_after =
         let holds = held (Ok tt) did seen told history up in
         taken_of bays lawful old.bay bay history old.counts old.log did.rest did.kept.time can.counted can.still seen told up counts key is after told_after
         (lawful.as_read bay after told_after)
         (did.images seen told holds up.frames after told_after) (did.held seen told holds after told_after).reports
-        marks (marked history next up.marked) same (over.passed ∙ omega (arith, long)) over.from
+        places (placed history next up.placed) same (over.passed ∙ omega (arith, long)) over.from
 
-    logging_kept : IsLogging counts (record old.log { marks = marks }) old.room
+    logging_kept : IsLogging counts (record old.log { places = places }) old.room
     logging_kept = record {
       most = can.can_log.logging.most ∙ ap most_record (sym settings_are);
       named = omega (arith, can.can_log.logging.named, did.grows);
@@ -143,7 +143,7 @@ module _ {B : Type 0} (bays : Bays B) (lawful : IsLawful bays) (mark : Mark) (ol
         subst (λ (s : Numbers). HoldsSome s (length counts.listing.events) counts.rows (after 2)) settings_are (did.framed seen told some after told_after)
 
     -- where it stands then the log's next record may be appended
-    pub can_log_then : CanLog bays (record { bay = bay; counts = counts; log = record old.log { marks = marks }; room = old.room })
+    pub can_log_then : CanLog bays (record { bay = bay; counts = counts; log = record old.log { places = places }; room = old.room })
     can_log_then = record {
       logging = logging_kept;
       log_shut = shut_alone bays lawful 1 old.log.gate old.bay bay
@@ -152,7 +152,7 @@ module _ {B : Type 0} (bays : Bays B) (lawful : IsLawful bays) (mark : Mark) (ol
 
     -- between two flushes
     pub key_between : edge counts.listing.settings 0 (length counts.listing.events) ≡ edge counts.listing.settings 0 (length counts.listing.events - 1) →
-        TakesKeys bays mark (key ∷ []) old (record { bay = bay; counts = counts; log = record old.log { marks = marks }; room = old.room }) (Ok tt)
+        TakesKeys bays place (key ∷ []) old (record { bay = bay; counts = counts; log = record old.log { places = places }; room = old.room }) (Ok tt)
     key_between stays_now =
         let stays : edge old.counts.listing.settings 0 (length counts.listing.events) ≡ edge old.counts.listing.settings 0 (length counts.listing.events - 1) =
         subst (λ (s : Numbers). edge s 0 (length counts.listing.events) ≡ edge s 0 (length counts.listing.events - 1)) settings_are stays_now in
@@ -214,7 +214,7 @@ module _ {B : Type 0} (bays : Bays B) (lawful : IsLawful bays) (mark : Mark) (ol
           (alone_others bays lawful 1 0 (λ same. absurd (omega (arith, same))) bay bay_after appends.seen appends.others appends.kept.time)
 
       -- in each image of each moment
-      sound_flush : IfTold (bays.files old.bay) (λ seen. (history : List Packet) → AreNext history mark old (key ∷ []) →
+      sound_flush : IfTold (bays.files old.bay) (λ seen. (history : List Packet) → AreNext history place old (key ∷ []) →
           IsPartway old.counts.listing.settings history old.counts.listing.events (key ∷ []) → AreInStep bays old seen history →
           (image : Files) → bays.left_since bay_after (bays.moment old.bay) image → IsSound old.counts.listing.settings old.counts.listing.cone history image)
       sound_flush seen told history next partway up image may =
@@ -237,13 +237,13 @@ module _ {B : Type 0} (bays : Bays B) (lawful : IsLawful bays) (mark : Mark) (ol
         length counts.due.reports ≤ counts.listing.settings.room →
         {E : Type 0} (failed : E) (bay_after : B) (log_after : LogPlace) (room : ℕ) →
         AppendsRecord bays LogKind.Flush (length counts.listing.events) (directory_text counts.rows) counts.due.reports bay bay_after log_then log_after (Err failed) →
-        (given : Result (Unit {0}) TakeFault) → IsErrAnd given (λ fault. fault ≡ Failed) → TakesKeys bays mark (key ∷ []) old (record {
+        (given : Result (Unit {0}) TakeFault) → IsErrAnd given (λ fault. fault ≡ Failed) → TakesKeys bays place (key ∷ []) old (record {
           bay = bay_after;
           counts = counts;
           log = log_after;
           room = room;
         }) given
-    record_failed moves_now few failed bay_after log_after room appends given given_is = subst (λ (r : Result (Unit {0}) TakeFault). TakesKeys bays mark (key ∷ []) old (record {
+    record_failed moves_now few failed bay_after log_after room appends given given_is = subst (λ (r : Result (Unit {0}) TakeFault). TakesKeys bays place (key ∷ []) old (record {
       bay = bay_after;
       counts = counts;
       log = log_after;
@@ -260,7 +260,8 @@ module _ {B : Type 0} (bays : Bays B) (lawful : IsLawful bays) (mark : Mark) (ol
       whole = λ seen told some at same. (let never : ⊥ = cc in never);
       unflushed = λ passed. absurd (never_passed moves_now few (Err failed) bay_after log_after appends passed);
       log = log_failed bays lawful old.counts.listing.settings can.counted.valid old.counts.rows can.counted.are (length old.counts.listing.events) old.log.gate old.bay bay did.rest
-          can.can_log.log_shut did.kept.time.later can_log_then.log_shut counts.rows (length counts.listing.events) (flushed_then (moves moves_now few (Err failed) bay_after log_after appends)) framed_then counts.due.reports log_then refl
+          can.can_log.log_shut did.kept.time.later can_log_then.log_shut counts.rows (length counts.listing.events) (flushed_then (moves moves_now few (Err failed) bay_after log_after appends))
+          framed_then counts.due.reports log_then refl
           can.can_log.logging.most (Err failed) bay_after log_after appends (record { rows = counts.rows; events = length counts.listing.events; gate = log_after.gate }) Failed;
       keeps = record {
         shows = λ seen told file at same. absurd (let never : ⊥ = cc in never);
@@ -275,7 +276,7 @@ module _ {B : Type 0} (bays : Bays B) (lawful : IsLawful bays) (mark : Mark) (ol
         length counts.due.reports ≤ counts.listing.settings.room →
         {E : Type 0} (bay_after : B) (log_after : LogPlace) (room : ℕ) → room ≡ old.room →
         AppendsRecord {E = E} bays LogKind.Flush (length counts.listing.events) (directory_text counts.rows) counts.due.reports bay bay_after log_then log_after (Ok tt) →
-        TakesKeys bays mark (key ∷ []) old (record { bay = bay_after; counts = counts; log = log_after; room = room }) (Ok tt)
+        TakesKeys bays place (key ∷ []) old (record { bay = bay_after; counts = counts; log = log_after; room = room }) (Ok tt)
     key_flushed moves_now few bay_after log_after room room_is appends = record {
       listing = did.listing;
       taken = did.taken;
@@ -286,7 +287,7 @@ module _ {B : Type 0} (bays : Bays B) (lawful : IsLawful bays) (mark : Mark) (ol
             (record_fits counts.listing.settings counts.rows log_then (directory_text counts.rows) counts.due.reports counts.due.reports did.counted.are
             (can.can_log.logging.most ∙ ap most_record (sym settings_are)) refl refl few)
             room_is
-            (ap (λ (l : LogPlace). l.marks.settings) appends.moved ∙ same ∙ sym settings_are) (ap (λ (l : LogPlace). l.marks.passed) appends.moved ∙ over.passed);
+            (ap (λ (l : LogPlace). l.places.settings) appends.moved ∙ same ∙ sym settings_are) (ap (λ (l : LogPlace). l.places.passed) appends.moved ∙ over.passed);
         log_shut = λ after told_after.
             let back = turns_back (OthersStay 1) (bays.files bay) (bays.files bay_after) appends.seen after told_after in
             record { settled = appends.settled after told_after; closed = appends.closed back.0 back.1 };
@@ -305,7 +306,7 @@ module _ {B : Type 0} (bays : Bays B) (lawful : IsLawful bays) (mark : Mark) (ol
           (moves moves_now few (Ok tt) bay_after log_after appends) (few_here moves_now few (Ok tt) bay_after log_after appends)
           (bays.left_since bay_after (bays.moment bay)) pay refl (appends.others mid.0 mid.1) (appends.before mid.0 mid.1) (bays.leaves bay_after) after log_after
           (now_since bays lawful bay bay_after appends.kept.time.later) (ap (λ (l : LogPlace). l.named) appends.moved)
-          (ap (λ (l : LogPlace). l.marks) appends.moved) stands
+          (ap (λ (l : LogPlace). l.places) appends.moved) stands
           (settled_alone bays lawful 0 bay bay_after (alone_others bays lawful 1 0 (λ same. absurd (omega (arith, same))) bay bay_after appends.seen appends.others appends.kept.time)
           mid.0 mid.1 taken_then.journal_settled after told_after)
           (appends.settled after told_after);
@@ -318,7 +319,8 @@ module _ {B : Type 0} (bays : Bays B) (lawful : IsLawful bays) (mark : Mark) (ol
       whole = did.whole;
       unflushed = λ passed. absurd (never_passed moves_now few (Ok tt) bay_after log_after appends passed);
       log = log_flushed bays lawful old.counts.listing.settings can.counted.valid old.counts.rows can.counted.are (length old.counts.listing.events) old.log.gate old.bay bay did.rest
-          can.can_log.log_shut did.kept.time.later can_log_then.log_shut counts.rows (length counts.listing.events) (flushed_then (moves moves_now few (Ok tt) bay_after log_after appends)) framed_then counts.due.reports log_then refl
+          can.can_log.log_shut did.kept.time.later can_log_then.log_shut counts.rows (length counts.listing.events) (flushed_then (moves moves_now few (Ok tt) bay_after log_after appends))
+          framed_then counts.due.reports log_then refl
           can.can_log.logging.most bay_after log_after appends;
       keeps = record {
         shows = λ seen told file at same. absurd (let never : ⊥ = cc in never);

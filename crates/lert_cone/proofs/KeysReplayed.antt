@@ -11,14 +11,14 @@ use Rattle.lert_reports.specs.Log.{most_record}
 use Rattle.lert_spec.specs.declared.numbers.Numbers.{Numbers}
 use Rattle.lert_spec.specs.Edges.{capacity}
 use Rattle.lert_spec.specs.Mix.{cone_of}
-use Rattle.lert_cone.specs.declared.marks.Mark.{Mark}
+use Rattle.lert_cone.specs.declared.journal_places.JournalPlace.{JournalPlace}
 use Rattle.lert_cone.specs.declared.tally.TakeFault.{TakeFault}
 use Rattle.lert_bay.specs.Kept.{Bays}
 use Rattle.lert_cone.specs.Due.{Dues}
 use Rattle.lert_cone.specs.KeepsLog.{KeepsLogOf, LogHead}
 use Rattle.lert_cone.specs.Framed.{HoldsSome, last_flush}
 use Rattle.lert_cone.specs.Listing.{Listing}
-use Rattle.lert_cone.specs.Marks.{AreMarked, AreOfRecord, HasPassed, Marked}
+use Rattle.lert_cone.specs.JournalPlaces.{ArePlacesIn, AreOfRecord, HasPassed, Places}
 use Rattle.lert_cone.specs.Record.{LogPlace}
 use Rattle.lert_cone.specs.Replay.{IsOnWay}
 use Rattle.lert_cone.specs.Takes.{Workplace, AreNext, CanLog, CanTake, CanReplay, TakesKeys, ReplaysKeys, replayed_head, taken_head}
@@ -28,9 +28,9 @@ use Rattle.lert_cone.proofs.Calls.{alone_none}
 use Rattle.lert_cone.proofs.KeepsLogSteps.{log_as, log_none}
 use Rattle.lert_cone.proofs.KeysTaken.{map_ok}
 use Rattle.lert_cone.proofs.KeyStep.{sound_behind}
-use Rattle.lert_cone.proofs.MarkLaws.{record_part}
+use Rattle.lert_cone.proofs.JournalPlaceLaws.{record_part}
 use Rattle.lert_cone.proofs.RecountLaws.{recounted_behind}
-use Rattle.lert_cone.proofs.ReplayLaws.{on_way_marked, sound_recounted}
+use Rattle.lert_cone.proofs.ReplayLaws.{on_way_places, sound_recounted}
 use Rattle.lert_cone.proofs.ReplayStep.{way_counted, way_in_step, way_partway, way_taken, enough_counted, told_once}
 use Rattle.lert_cone.proofs.SomeLaws.{some_counted}
 use Rattle.lert_cone.proofs.TakeLaws.{on_ok}
@@ -40,13 +40,13 @@ never_true true never = absurd (never refl)
 never_true false never = refl
 
 -- `counts` is what the cone counted once the first keys are counted again, and nothing else changed
-module _ {B : Type 0} (bays : Bays B) (lawful : IsLawful bays) (mark : Mark) (old : Workplace B) (n0 count : ℕ) (keys : List ℕ) (can : CanReplay bays n0 keys old) (counts : Tallied)
+module _ {B : Type 0} (bays : Bays B) (lawful : IsLawful bays) (place : JournalPlace) (old : Workplace B) (n0 count : ℕ) (keys : List ℕ) (can : CanReplay bays n0 keys old) (counts : Tallied)
     (count_is : count ≡ min (n0 - length old.counts.listing.events) (length keys))
     (listing_is : counts.listing ≡ record old.counts.listing { events = old.counts.listing.events ++ take count keys })
     (rows_are : counts.rows ≡ old.counts.rows) (due_is : counts.due ≡ old.counts.due) (recounted : IsRecounted counts n0)
-    (marks : Marked) (over : HasPassed (length counts.listing.events) mark old.log.marks marks) where
+    (places : Places) (over : HasPassed (length counts.listing.events) place old.log.places places) where
   abbrev log_then : LogPlace
-  log_then = record old.log { marks = marks }
+  log_then = record old.log { places = places }
 
   settings_are : counts.listing.settings ≡ old.counts.listing.settings
   settings_are = ap (λ (l : Listing). l.settings) listing_is
@@ -57,7 +57,7 @@ module _ {B : Type 0} (bays : Bays B) (lawful : IsLawful bays) (mark : Mark) (ol
   early : count ≤ n0 - length old.counts.listing.events
   early = omega (arith, count_is)
 
-  can_log_then : CanLog bays (record { bay = old.bay; counts = counts; log = record old.log { marks = marks }; room = old.room })
+  can_log_then : CanLog bays (record { bay = old.bay; counts = counts; log = record old.log { places = places }; room = old.room })
   can_log_then = record {
     logging = record {
       most = can.can_log.logging.most ∙ ap most_record (sym settings_are);
@@ -71,29 +71,29 @@ module _ {B : Type 0} (bays : Bays B) (lawful : IsLawful bays) (mark : Mark) (ol
   }
 
   -- the keys that were counted are of the record, and those that are left
-  marked : (history : List Packet) → AreNext history mark old keys → AreMarked history old.log.marks → AreMarked history marks
-  marked history next = over.marks history
-      (record_part history mark (length old.counts.listing.events) (length old.counts.listing.events + length keys) old.log.marks.passed (length counts.listing.events)
+  placed : (history : List Packet) → AreNext history place old keys → ArePlacesIn history old.log.places → ArePlacesIn history places
+  placed history next = over.places history
+      (record_part history place (length old.counts.listing.events) (length old.counts.listing.events + length keys) old.log.places.passed (length counts.listing.events)
       (omega (arith, can.can_log.logging.passed)) (omega (arith, counted, length-take count keys)) next)
 
-  next_ahead : (history : List Packet) → AreNext history mark old keys →
-      AreOfRecord history mark (length counts.listing.events) (length counts.listing.events + length (drop count keys))
+  next_ahead : (history : List Packet) → AreNext history place old keys →
+      AreOfRecord history place (length counts.listing.events) (length counts.listing.events + length (drop count keys))
   next_ahead history next =
-      record_part history mark (length old.counts.listing.events) (length old.counts.listing.events + length keys) (length counts.listing.events)
+      record_part history place (length old.counts.listing.events) (length old.counts.listing.events + length keys) (length counts.listing.events)
       (length counts.listing.events + length (drop count keys)) (omega (arith, counted)) (omega (arith, counted, length-take count keys, length-drop count keys)) next
 
-  turned : (seen : Files) (history : List Packet) → AreNext history mark old keys →
+  turned : (seen : Files) (history : List Packet) → AreNext history place old keys →
       IsOnWay (bays.leaves old.bay) seen history old.counts.listing old.counts.rows old.counts.due.reports old.log n0 →
-      IsOnWay (bays.leaves old.bay) seen history old.counts.listing old.counts.rows old.counts.due.reports (record old.log { marks = marks }) n0
+      IsOnWay (bays.leaves old.bay) seen history old.counts.listing old.counts.rows old.counts.due.reports (record old.log { places = places }) n0
   turned seen history next on_way =
-      on_way_marked (bays.leaves old.bay) seen history old.counts.listing old.counts.rows old.counts.due.reports old.log n0 on_way marks (marked history next on_way.in_step.marked)
+      on_way_places (bays.leaves old.bay) seen history old.counts.listing old.counts.rows old.counts.due.reports old.log n0 on_way places (placed history next on_way.in_step.placed)
       over.from
 
   -- all keys are counted again
-  pub all_again : length (drop count keys) ≡ 0 → ReplaysKeys bays n0 mark keys old (record {
+  pub all_again : length (drop count keys) ≡ 0 → ReplaysKeys bays n0 place keys old (record {
     bay = old.bay;
     counts = counts;
-    log = record old.log { marks = marks };
+    log = record old.log { places = places };
     room = old.room;
   }) (Ok tt)
   all_again none =
@@ -141,7 +141,7 @@ module _ {B : Type 0} (bays : Bays B) (lawful : IsLawful bays) (mark : Mark) (ol
     enough : n0 ≤ length counts.listing.events
     enough = enough_counted old.counts counts n0 count keys count_is some listing_is
 
-    pub can_take_ahead : CanTake bays (drop count keys) (record { bay = old.bay; counts = counts; log = record old.log { marks = marks }; room = old.room })
+    pub can_take_ahead : CanTake bays (drop count keys) (record { bay = old.bay; counts = counts; log = record old.log { places = places }; room = old.room })
     can_take_ahead = record {
       still = never_true counts.listing.closed (λ closed. absurd (omega (
         arith,
@@ -161,13 +161,13 @@ module _ {B : Type 0} (bays : Bays B) (lawful : IsLawful bays) (mark : Mark) (ol
       can_log = can_log_then;
     }
 
-    pub others_ahead : (new : Workplace B) (result : Result (Unit {0}) TakeFault) → TakesKeys bays mark (drop count keys) (record {
+    pub others_ahead : (new : Workplace B) (result : Result (Unit {0}) TakeFault) → TakesKeys bays place (drop count keys) (record {
       bay = old.bay;
       counts = counts;
-      log = record old.log { marks = marks };
+      log = record old.log { places = places };
       room = old.room;
     }) new result →
-        ReplaysKeys bays n0 mark keys old new result
+        ReplaysKeys bays n0 place keys old new result
     others_ahead new result did =
         let up_to : max n0 (length old.counts.listing.events) ≡ length counts.listing.events = omega (arith, count_is, counted, enough, length-take count keys) in
         let then_most : (ks : List ℕ) → ks ≡ counts.listing.events ++ drop count keys → length ks ≡ max n0 (length ks) =

@@ -11,7 +11,7 @@ use Rattle.lert_bay.specs.Files.{Files}
 use Rattle.lert_spec.specs.declared.numbers.Numbers.{Numbers}
 use Rattle.lert_spec.specs.Edges.{capacity}
 use Rattle.lert_spec.specs.Mix.{cone_of}
-use Rattle.lert_cone.specs.declared.marks.Mark.{Mark}
+use Rattle.lert_cone.specs.declared.journal_places.JournalPlace.{JournalPlace}
 use Rattle.lert_cone.specs.declared.tally.TakeFault.{TakeFault}
 use Rattle.lert_bay.specs.Kept.{Bays}
 use Rattle.lert_cone.specs.Framed.{HoldsSome, last_flush}
@@ -24,7 +24,7 @@ use Rattle.lert_cone.proofs.Calls.{alone_none, alone_on}
 use Rattle.lert_cone.proofs.KeepsLogSteps.{log_none, log_on}
 use Rattle.lert_cone.proofs.KeyStep.{sound_now, sound_behind}
 use Rattle.lert_cone.proofs.FlushLaws.{last_flush_grows}
-use Rattle.lert_cone.proofs.MarkLaws.{record_part}
+use Rattle.lert_cone.proofs.JournalPlaceLaws.{record_part}
 use Rattle.lert_cone.proofs.TakeLaws.{handed_on}
 
 -- what follows from an answer of Ok
@@ -52,9 +52,9 @@ partway_back s history events front back partway = record {
 front_passed : (s : Numbers) (n : ℕ) (front back : List ℕ) → last_flush s (n + length (front ++ back)) ≤ n → last_flush s (n + length front) ≤ n
 front_passed s n front back passed = omega (arith, passed, last_flush_grows s (n + length front) (n + length (front ++ back)) (omega (arith, length-append front back)))
 
-module _ {B : Type 0} (bays : Bays B) (lawful : IsLawful bays) (mark : Mark) where
+module _ {B : Type 0} (bays : Bays B) (lawful : IsLawful bays) (place : JournalPlace) where
   -- no key
-  pub takes_none : (at : Workplace B) (keys : List ℕ) → CanTake bays keys at → TakesKeys bays mark [] at at (Ok tt)
+  pub takes_none : (at : Workplace B) (keys : List ℕ) → CanTake bays keys at → TakesKeys bays place [] at at (Ok tt)
   takes_none at keys can = record {
     listing = refl;
     taken = sym (append-nil at.counts.listing.events);
@@ -78,14 +78,14 @@ module _ {B : Type 0} (bays : Bays B) (lawful : IsLawful bays) (mark : Mark) whe
   }
 
   -- the first of some keys are of the record, too
-  next_front : (at : Workplace B) (front back : List ℕ) (history : List Packet) → AreNext history mark at (front ++ back) → AreNext history mark at front
+  next_front : (at : Workplace B) (front back : List ℕ) (history : List Packet) → AreNext history place at (front ++ back) → AreNext history place at front
   next_front at front back history next =
-      record_part history mark (length at.counts.listing.events) (length at.counts.listing.events + length (front ++ back)) (length at.counts.listing.events)
+      record_part history place (length at.counts.listing.events) (length at.counts.listing.events + length (front ++ back)) (length at.counts.listing.events)
       (length at.counts.listing.events + length front) (omega arith) (omega (arith, length-append front back)) next
 
   -- some, and then others
-  module _ (old mid new : Workplace B) (front back : List ℕ) (result : Result (Unit {0}) TakeFault) (first : TakesKeys bays mark front old mid (Ok tt))
-      (second : TakesKeys bays mark back mid new result)
+  module _ (old mid new : Workplace B) (front back : List ℕ) (result : Result (Unit {0}) TakeFault) (first : TakesKeys bays place front old mid (Ok tt))
+      (second : TakesKeys bays place back mid new result)
     where
       mid_is : mid.counts.listing ≡ record old.counts.listing { events = old.counts.listing.events ++ front }
       mid_is = first.listing ∙ ap (λ (keys : List ℕ). record { settings = old.counts.listing.settings; cone = old.counts.listing.cone; events = keys; closed = old.counts.listing.closed })
@@ -101,12 +101,12 @@ module _ {B : Type 0} (bays : Bays B) (lawful : IsLawful bays) (mark : Mark) whe
           subst (λ (s : Numbers). last_flush s (length mid.counts.listing.events + length back) ≤ length mid.counts.listing.events) (sym (ap (λ (l : Listing). l.settings) mid_is))
           (omega (arith, passed, mid_long, ap (last_flush old.counts.listing.settings) same))
 
-      next_back : (history : List Packet) → AreNext history mark old (front ++ back) → AreNext history mark mid back
+      next_back : (history : List Packet) → AreNext history place old (front ++ back) → AreNext history place mid back
       next_back history next =
-          record_part history mark (length old.counts.listing.events) (length old.counts.listing.events + length (front ++ back)) (length mid.counts.listing.events)
+          record_part history place (length old.counts.listing.events) (length old.counts.listing.events + length (front ++ back)) (length mid.counts.listing.events)
           (length mid.counts.listing.events + length back) (omega (arith, mid_long)) (omega (arith, mid_long, length-append front back)) next
 
-      pub takes_more : TakesKeys bays mark (front ++ back) old new result
+      pub takes_more : TakesKeys bays place (front ++ back) old new result
       takes_more = record {
         listing = second.listing ∙ ap (λ (l : Listing). record { settings = l.settings; cone = l.cone; events = new.counts.listing.events; closed = l.closed }) first.listing;
         taken = map_ok result (λ (took : new.counts.listing.events ≡ mid.counts.listing.events ++ back).
@@ -149,7 +149,7 @@ module _ {B : Type 0} (bays : Bays B) (lawful : IsLawful bays) (mark : Mark) whe
       }
 
   -- where a key isn't taken no other is
-  takes_fewer : (old new : Workplace B) (front back : List ℕ) (fault : TakeFault) → TakesKeys bays mark front old new (Err fault) → TakesKeys bays mark (front ++ back) old new (Err fault)
+  takes_fewer : (old new : Workplace B) (front back : List ℕ) (fault : TakeFault) → TakesKeys bays place front old new (Err fault) → TakesKeys bays place (front ++ back) old new (Err fault)
   takes_fewer old new front back fault did = record {
     listing = did.listing;
     taken = tt;
@@ -168,7 +168,7 @@ module _ {B : Type 0} (bays : Bays B) (lawful : IsLawful bays) (mark : Mark) whe
 
   -- ---- a list of keys, up to a place
 
-  module _ (old mid : Workplace B) (keys : List ℕ) (i : ℕ) (first : TakesKeys bays mark (take i keys) old mid (Ok tt)) where
+  module _ (old mid : Workplace B) (keys : List ℕ) (i : ℕ) (first : TakesKeys bays place (take i keys) old mid (Ok tt)) where
     pub next_can : CanTake bays keys old → i < length keys → CanTake bays (get_or keys i 0 ∷ []) mid
     next_can can within =
         let is = first.listing ∙ ap (λ (ks : List ℕ). record { settings = old.counts.listing.settings; cone = old.counts.listing.cone; events = ks; closed = old.counts.listing.closed })
@@ -184,20 +184,20 @@ module _ {B : Type 0} (bays : Bays B) (lawful : IsLawful bays) (mark : Mark) whe
           can_log = first.can_log;
         }
 
-    pub next_takes : (new : Workplace B) → i < length keys → TakesKeys bays mark (get_or keys i 0 ∷ []) mid new (Ok tt) → TakesKeys bays mark (take (i + 1) keys) old new (Ok tt)
+    pub next_takes : (new : Workplace B) → i < length keys → TakesKeys bays place (get_or keys i 0 ∷ []) mid new (Ok tt) → TakesKeys bays place (take (i + 1) keys) old new (Ok tt)
     next_takes new within second =
-        subst (λ (front : List ℕ). TakesKeys bays mark front old new (Ok tt)) (sym (take_more keys i 0 within)) (takes_more old mid new (take i keys) (get_or keys i 0 ∷ []) (Ok tt) first second)
+        subst (λ (front : List ℕ). TakesKeys bays place front old new (Ok tt)) (sym (take_more keys i 0 within)) (takes_more old mid new (take i keys) (get_or keys i 0 ∷ []) (Ok tt) first second)
 
     pub next_refused : (new : Workplace B) → i < length keys → (result : Result (Unit {0}) TakeFault) (fault : TakeFault) → result ≡ Err fault →
-        TakesKeys bays mark (get_or keys i 0 ∷ []) mid new result →
-        (given : Result (Unit {0}) TakeFault) → IsErrAnd given (λ g. g ≡ fault) → TakesKeys bays mark keys old new given
+        TakesKeys bays place (get_or keys i 0 ∷ []) mid new result →
+        (given : Result (Unit {0}) TakeFault) → IsErrAnd given (λ g. g ≡ fault) → TakesKeys bays place keys old new given
     next_refused new within result fault is second given given_is =
-        let failed : TakesKeys bays mark (get_or keys i 0 ∷ []) mid new (Err fault) = subst (λ (r : Result (Unit {0}) TakeFault). TakesKeys bays mark (get_or keys i 0 ∷ []) mid new r) is second in
+        let failed : TakesKeys bays place (get_or keys i 0 ∷ []) mid new (Err fault) = subst (λ (r : Result (Unit {0}) TakeFault). TakesKeys bays place (get_or keys i 0 ∷ []) mid new r) is second in
         let split : (take i keys ++ get_or keys i 0 ∷ []) ++ drop (i + 1) keys ≡ keys = ap (λ front. front ++ drop (i + 1) keys) (sym (take_more keys i 0 within))
         ∙ take-append-drop (i + 1) keys in
-        subst (λ (r : Result (Unit {0}) TakeFault). TakesKeys bays mark keys old new r) (handed_on given fault given_is)
-        (subst (λ (all : List ℕ). TakesKeys bays mark all old new (Err fault)) split
+        subst (λ (r : Result (Unit {0}) TakeFault). TakesKeys bays place keys old new r) (handed_on given fault given_is)
+        (subst (λ (all : List ℕ). TakesKeys bays place all old new (Err fault)) split
         (takes_fewer old new (take i keys ++ get_or keys i 0 ∷ []) (drop (i + 1) keys) fault (takes_more old mid new (take i keys) (get_or keys i 0 ∷ []) (Err fault) first failed)))
 
-    pub all_taken : length keys ≤ i → TakesKeys bays mark keys old mid (Ok tt)
-    all_taken over = subst (λ (all : List ℕ). TakesKeys bays mark all old mid (Ok tt)) (take_all i keys over) first
+    pub all_taken : length keys ≤ i → TakesKeys bays place keys old mid (Ok tt)
+    all_taken over = subst (λ (all : List ℕ). TakesKeys bays place all old mid (Ok tt)) (take_all i keys over) first

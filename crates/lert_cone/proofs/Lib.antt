@@ -28,7 +28,7 @@ pub mod KeysReplayed
 pub mod KeysTaken
 pub mod LogLaws
 pub mod MadeReports
-pub mod MarkLaws
+pub mod JournalPlaceLaws
 pub mod NextFlush
 pub mod PacketTaken
 pub mod ReadCosts

@@ -25,10 +25,10 @@ use Rattle.lert_spec.specs.Limits.{IsValid}
 use Rattle.lert_spec.specs.Look.{look, closing}
 use Rattle.lert_spec.proofs.LookLaws.{AreKeys}
 use Rattle.lert_spec.proofs.TailLaws.{AreOfCone}
-use Rattle.lert_cone.specs.declared.marks.Mark.{Mark}
+use Rattle.lert_cone.specs.declared.journal_places.JournalPlace.{JournalPlace}
 use Rattle.lert_cone.specs.Framed.{last_flush, flushed}
 use Rattle.lert_cone.specs.Logged.{frames_of, next_record, IsLogOf}
-use Rattle.lert_cone.specs.Marks.{MayName}
+use Rattle.lert_cone.specs.JournalPlaces.{MayName}
 use Rattle.lert_cone.proofs.FlushLaws.{before_next, flush_stays, flush_there, flushes_are, flushes_at, last_flush_within, longer}
 use Rattle.lert_cone.proofs.MadeReports.{AreReports, BeginsWith, IsReport, apart, closing_are, closing_begins, count_map, flushed_begin, look_are}
 
@@ -47,10 +47,10 @@ frames_none zero = refl
 frames_none (suc n) = ap (λ (levels : List (List ℕ)). [] ∷ levels) (frames_none n)
 
 -- a record's payload is what is written of it
-pub payload_is : (kind : LogKind) (n0 : ℕ) (mark : Mark) (rows : List (List BinAt)) (records : List LogRecord) (reports : List Report) →
-    log_payload kind n0 mark.gate mark.first (directory_text rows) (drop (length (listed_in records)) reports) ≡ log_payload_of (next_record kind n0 mark rows records reports)
-payload_is kind n0 mark rows records reports =
-    ap (λ directory. log_payload kind n0 mark.gate mark.first directory (drop (length (listed_in records)) reports)) (sym (directory_is rows))
+pub payload_is : (kind : LogKind) (n0 : ℕ) (place : JournalPlace) (rows : List (List BinAt)) (records : List LogRecord) (reports : List Report) →
+    log_payload kind n0 place.gate place.first (directory_text rows) (drop (length (listed_in records)) reports) ≡ log_payload_of (next_record kind n0 place rows records reports)
+payload_is kind n0 place rows records reports =
+    ap (λ directory. log_payload kind n0 place.gate place.first directory (drop (length (listed_in records)) reports)) (sym (directory_is rows))
 
 -- ---- no event, and a position without a flush
 
@@ -168,12 +168,12 @@ pub record LogsNext (s : Numbers) (cone : ℕ) (events : List ℕ) (rows : List 
   pub keeps : KeepsRules s cone (before_of records) one
   pub is : IsLogOf s cone events rows closed (records ++ one ∷ [])
 
-module _ (s : Numbers) (valid : IsValid s) (cone : ℕ) (kind : LogKind) (n0 : ℕ) (mark : Mark) (rows : List (List BinAt)) (records : List LogRecord) (reports : List Report)
-    (may : MayName s n0 mark) (within : n0 ≤ capacity s) (turn : IsInTurn s (before_of records) kind n0) (at : IsAt s n0 rows) (are_rows : AreRows s rows)
+module _ (s : Numbers) (valid : IsValid s) (cone : ℕ) (kind : LogKind) (n0 : ℕ) (place : JournalPlace) (rows : List (List BinAt)) (records : List LogRecord) (reports : List Report)
+    (may : MayName s n0 place) (within : n0 ≤ capacity s) (turn : IsInTurn s (before_of records) kind n0) (at : IsAt s n0 rows) (are_rows : AreRows s rows)
     (are : AreReports s cone n0 reports) (few : length reports ≤ s.room) (begun : BeginsWith (listed_in records) reports) (rules : AreRecords s cone records)
     (still_open : is_closed records ≡ false) where
   abbrev one : LogRecord
-  one = next_record kind n0 mark rows records reports
+  one = next_record kind n0 place rows records reports
 
   abbrev new : List Report
   new = drop (length (listed_in records)) reports
@@ -202,15 +202,16 @@ module _ (s : Numbers) (valid : IsValid s) (cone : ℕ) (kind : LogKind) (n0 : �
   all_listed = listed_in-push records one ∙ whole
 
 -- a flush adds the record of the rows that it made, and lists the reports that were made up to there
-pub log_at_flush : (s : Numbers) (valid : IsValid s) (cone : ℕ) (events : List ℕ) (key : ℕ) (mark : Mark) (rows_before rows : List (List BinAt)) (records : List LogRecord) (reports : List Report) →
-    MayName s (suc (length events)) mark → suc (length events) ≤ capacity s → edge s 0 (suc (length events)) ≢ edge s 0 (length events) → AreKeys (events ++ key ∷ []) → AreOfCone s cone
+pub log_at_flush : (s : Numbers) (valid : IsValid s) (cone : ℕ) (events : List ℕ) (key : ℕ) (place : JournalPlace) (rows_before rows : List (List BinAt)) (records : List LogRecord)
+    (reports : List Report) →
+    MayName s (suc (length events)) place → suc (length events) ≤ capacity s → edge s 0 (suc (length events)) ≢ edge s 0 (length events) → AreKeys (events ++ key ∷ []) → AreOfCone s cone
     (events ++ key ∷ []) →
     IsAt s (suc (length events)) rows → AreRows s rows → reports ≡ look s (events ++ key ∷ []) → length reports ≤ s.room → IsLogOf s cone events rows_before false records →
-    LogsNext s cone (events ++ key ∷ []) rows false records (next_record LogKind.Flush (suc (length events)) mark rows records reports)
-log_at_flush s valid cone events key mark rows_before rows records reports may within moves keys own at are_rows reports_are few is =
+    LogsNext s cone (events ++ key ∷ []) rows false records (next_record LogKind.Flush (suc (length events)) place rows records reports)
+log_at_flush s valid cone events key place rows_before rows records reports may within moves keys own at are_rows reports_are few is =
     let n = length events in
     let all = events ++ key ∷ [] in
-    let one = next_record LogKind.Flush (suc n) mark rows records reports in
+    let one = next_record LogKind.Flush (suc n) place rows records reports in
     let positive : 1 ≤ s.threshold = omega (arith, valid.limits.threshold_from) in
     let long = longer events key in
     let last : last_flush s (length all) ≡ suc n = ap (last_flush s) long ∙ flush_there s n moves in
@@ -221,26 +222,26 @@ log_at_flush s valid cone events key mark rows_before rows records reports may w
     subst (λ rs. BeginsWith rs reports) (sym is.reports_are) (subst (BeginsWith (look s (flushed s events))) (sym reports_are) (flushed_begin s events (key ∷ []) positive keys)) in
     let flushed_all : flushed s all ≡ all = take_all (last_flush s (length all)) all (omega (arith, last, long)) in
     record {
-      keeps = keeps_rules s valid cone LogKind.Flush (suc n) mark rows records reports may within turn at are_rows are few begun is.rules is.closed_is;
+      keeps = keeps_rules s valid cone LogKind.Flush (suc n) place rows records reports may within turn at are_rows are few begun is.rules is.closed_is;
       is = record {
-        rules = more_records s valid cone LogKind.Flush (suc n) mark rows records reports may within turn at are_rows are few begun is.rules is.closed_is;
+        rules = more_records s valid cone LogKind.Flush (suc n) place rows records reports may within turn at are_rows are few begun is.rules is.closed_is;
         closed_is = is_closed-push records one;
         n0_is = last_n0-push records one ∙ sym last;
         directory_is = last_directory-push s records one;
-        reports_are = all_listed s valid cone LogKind.Flush (suc n) mark rows records reports may within turn at are_rows are few begun is.rules is.closed_is ∙ reports_are
+        reports_are = all_listed s valid cone LogKind.Flush (suc n) place rows records reports may within turn at are_rows are few begun is.rules is.closed_is ∙ reports_are
             ∙ ap (look s) (sym flushed_all);
       };
     }
 
 -- closing adds a record after all events, with the rows of the last flush, and lists all reports
-pub log_at_close : (s : Numbers) (valid : IsValid s) (cone : ℕ) (events : List ℕ) (mark : Mark) (rows : List (List BinAt)) (records : List LogRecord) (reports : List Report) →
-    MayName s (length events) mark → length events ≤ capacity s → AreKeys events → AreOfCone s cone events → IsAt s (length events) rows → AreRows s rows → reports ≡ closing s events →
+pub log_at_close : (s : Numbers) (valid : IsValid s) (cone : ℕ) (events : List ℕ) (place : JournalPlace) (rows : List (List BinAt)) (records : List LogRecord) (reports : List Report) →
+    MayName s (length events) place → length events ≤ capacity s → AreKeys events → AreOfCone s cone events → IsAt s (length events) rows → AreRows s rows → reports ≡ closing s events →
     length reports ≤ s.room →
     IsLogOf s cone events rows false records →
-    LogsNext s cone events rows true records (next_record LogKind.Closing (length events) mark rows records reports)
-log_at_close s valid cone events mark rows records reports may within keys own at are_rows reports_are few is =
+    LogsNext s cone events rows true records (next_record LogKind.Closing (length events) place rows records reports)
+log_at_close s valid cone events place rows records reports may within keys own at are_rows reports_are few is =
     let n = length events in
-    let one = next_record LogKind.Closing n mark rows records reports in
+    let one = next_record LogKind.Closing n place rows records reports in
     let positive : 1 ≤ s.threshold = omega (arith, valid.limits.threshold_from) in
     let early : last_n0 records ≤ n = omega (arith, is.n0_is, last_flush_within s n) in
     let next : n < next_flush s (flushes_in records) = subst (λ k. n < next_flush s k) (sym (flushes_are s valid cone events rows records is)) (before_next s valid n) in
@@ -251,12 +252,12 @@ log_at_close s valid cone events mark rows records reports may within keys own a
     subst (λ rs. BeginsWith rs reports) (sym is.reports_are)
     (subst (BeginsWith (look s (flushed s events))) (sym reports_are) (closing_begins s events (look s (flushed s events)) looked)) in
     record {
-      keeps = keeps_rules s valid cone LogKind.Closing n mark rows records reports may within (early, next) at are_rows are few begun is.rules is.closed_is;
+      keeps = keeps_rules s valid cone LogKind.Closing n place rows records reports may within (early, next) at are_rows are few begun is.rules is.closed_is;
       is = record {
-        rules = more_records s valid cone LogKind.Closing n mark rows records reports may within (early, next) at are_rows are few begun is.rules is.closed_is;
+        rules = more_records s valid cone LogKind.Closing n place rows records reports may within (early, next) at are_rows are few begun is.rules is.closed_is;
         closed_is = is_closed-push records one;
         n0_is = last_n0-push records one;
         directory_is = last_directory-push s records one;
-        reports_are = all_listed s valid cone LogKind.Closing n mark rows records reports may within (early, next) at are_rows are few begun is.rules is.closed_is ∙ reports_are;
+        reports_are = all_listed s valid cone LogKind.Closing n place rows records reports may within (early, next) at are_rows are few begun is.rules is.closed_is ∙ reports_are;
       };
     }

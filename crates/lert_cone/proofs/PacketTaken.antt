@@ -11,19 +11,19 @@ use Rattle.lert_io.specs.declared.faulty.Failed.{Failed as Fault}
 use Rattle.lert_journal.specs.Journal.{HasPackets, HasPacketsOrOneMore}
 use Rattle.lert_journal.specs.Payload.{payload_of}
 use Rattle.lert_spec.specs.Edges.{capacity}
-use Rattle.lert_cone.specs.declared.marks.Mark.{Mark}
+use Rattle.lert_cone.specs.declared.journal_places.JournalPlace.{JournalPlace}
 use Rattle.lert_cone.specs.declared.tally.TakeFault.{TakeFault}
 use Rattle.lert_cone.specs.declared.tally.TakeFault.TheVariants.{Failed}
 use Rattle.lert_bay.specs.Kept.{Bays, KeepsBay}
 use Rattle.lert_cone.specs.History.{most_payload}
 use Rattle.lert_cone.specs.InStep.{IsInStep}
-use Rattle.lert_cone.specs.Marks.{AreOfRecord}
+use Rattle.lert_cone.specs.JournalPlaces.{AreOfRecord}
 use Rattle.lert_cone.specs.Sound.{IsSoundOver}
 use Rattle.lert_cone.specs.Takes.{Workplace, CanTake, CanTakePacket, IsWholeAt, TakesKeys, TakesPacket}
 use Rattle.lert_cone.specs.Wrote.{IsShutIfTold, LeavesAlone}
 use Rattle.lert_bay.proofs.KeptLaws.{IsLawful, keeps_on}
 use Rattle.lert_cone.proofs.Calls.{now_since, alone_others, settled_alone, shut_alone}
-use Rattle.lert_cone.proofs.MarkLaws.{last_holds}
+use Rattle.lert_cone.proofs.JournalPlaceLaws.{last_holds}
 use Rattle.lert_cone.proofs.SoundLaws.{turns_back}
 use Rattle.lert_cone.proofs.AppendLaws.{sound_appending, up_appended, records_there, each_there, partway_packet, appended_there}
 use Rattle.lert_cone.proofs.FaultLaws.{any_turn, turns_on}
@@ -164,20 +164,21 @@ module _ {B : Type 0} (bays : Bays B) (lawful : IsLawful bays) (old : Workplace 
         (settled_alone bays lawful 1 old.bay bay (log_alone (Ok tt) appends) seen told whole.in_step.log_settled mid told_mid)
 
     -- its keys are those of the record that begins at the gate
-    next_then : (mark : Mark) → mark.gate ≡ journal.gate → mark.first ≡ length old.counts.listing.events + 1 → (seen : Files) (history : List Packet) → IsWholeAt bays old journal seen history →
-        AreOfRecord (history ++ packet ∷ []) mark (length old.counts.listing.events) (length old.counts.listing.events + length packet.keys)
-    next_then mark gate_is first_is seen history whole =
-        last_holds history packet mark (length old.counts.listing.events) (gate_is ∙ whole.gate_is) (ap (length {A = ℕ}) whole.keys) first_is
+    next_then : (place : JournalPlace) → place.gate ≡ journal.gate → place.first ≡ length old.counts.listing.events + 1 → (seen : Files) (history : List Packet) →
+        IsWholeAt bays old journal seen history →
+        AreOfRecord (history ++ packet ∷ []) place (length old.counts.listing.events) (length old.counts.listing.events + length packet.keys)
+    next_then place gate_is first_is seen history whole =
+        last_holds history packet place (length old.counts.listing.events) (gate_is ∙ whole.gate_is) (ap (length {A = ℕ}) whole.keys) first_is
 
-    pub packet_taken : (mark : Mark) → mark.gate ≡ journal.gate → mark.first ≡ length old.counts.listing.events + 1 → (room : ℕ) (new : Workplace B) (result : Result (Unit {0}) TakeFault) →
-        TakesKeys bays mark packet.keys (record {
+    pub packet_taken : (place : JournalPlace) → place.gate ≡ journal.gate → place.first ≡ length old.counts.listing.events + 1 → (room : ℕ) (new : Workplace B) (result : Result (Unit {0}) TakeFault) →
+        TakesKeys bays place packet.keys (record {
           bay = bay;
           counts = old.counts;
           log = old.log;
           room = room;
         }) new result →
         TakesPacket bays packet old new journal journal_after result
-    packet_taken mark gate_is first_is room new result did = record {
+    packet_taken place gate_is first_is room new result did = record {
       listing = did.listing;
       taken = did.taken;
       counted = did.counted;
@@ -188,7 +189,7 @@ module _ {B : Type 0} (bays : Bays B) (lawful : IsLawful bays) (old : Workplace 
       shut = ok_holds result (shut_alone bays lawful 0 journal_after.gate bay new.bay did.keeps.journal shut_then);
       in_step = λ seen told history whole.
           let mid = appends.seen.told seen told in
-          did.in_step mid.0 mid.1 (history ++ packet ∷ []) (next_then mark gate_is first_is seen history whole) (up_then seen told history whole mid.0 mid.1);
+          did.in_step mid.0 mid.1 (history ++ packet ∷ []) (next_then place gate_is first_is seen history whole) (up_then seen told history whole mid.0 mid.1);
       each_moment = λ seen told history whole image may.
           let mid = appends.seen.told seen told in
           elim (did.keeps.journal.time.known (bays.moment old.bay) image appends.kept.time.later may) [
@@ -196,14 +197,14 @@ module _ {B : Type 0} (bays : Bays B) (lawful : IsLawful bays) (old : Workplace 
             | inr here ↦ inr (
               packet,
               refl,
-              did.each_moment mid.0 mid.1 (history ++ packet ∷ []) (next_then mark gate_is first_is seen history whole)
+              did.each_moment mid.0 mid.1 (history ++ packet ∷ []) (next_then place gate_is first_is seen history whole)
                   (partway_packet old.counts.listing.settings history packet old.counts.listing.events whole.keys)
                   (up_then seen told history whole mid.0 mid.1) image here,
             )
           ];
       sound = λ seen told history whole.
           let mid = appends.seen.told seen told in
-          did.sound mid.0 mid.1 (history ++ packet ∷ []) (next_then mark gate_is first_is seen history whole) (up_then seen told history whole mid.0 mid.1);
+          did.sound mid.0 mid.1 (history ++ packet ∷ []) (next_then place gate_is first_is seen history whole) (up_then seen told history whole mid.0 mid.1);
       shows = did.keeps.shows;
       seen = turns_on (OthersStay journal.file) (λ before after. after 0 ≡ before 0) (bays.files old.bay) (bays.files bay) (bays.files new.bay) appends.seen did.keeps.journal.seen;
       now = λ image may. lawful.since_earlier new.bay (bays.moment old.bay) (bays.moment bay) image appends.kept.time.later (did.keeps.journal.now image may);

@@ -16,18 +16,18 @@ use Rattle.lert_spec.specs.declared.numbers.Numbers.{Numbers}
 use Rattle.lert_spec.specs.Limits.{IsValid}
 use Rattle.lert_spec.specs.declared.report.Report.{Report}
 use Rattle.std.specs.Result.{IsErrAnd}
-use Rattle.lert_cone.specs.declared.marks.Mark.{Mark}
+use Rattle.lert_cone.specs.declared.journal_places.JournalPlace.{JournalPlace}
 use Rattle.lert_cone.specs.Appends.{AppendsRecord}
 use Rattle.lert_bay.specs.Kept.{Bays}
 use Rattle.lert_cone.specs.InStep.{IsLogging}
 use Rattle.lert_cone.specs.Listing.{Listing}
-use Rattle.lert_cone.specs.Marks.{oldest_mark}
+use Rattle.lert_cone.specs.JournalPlaces.{oldest_place}
 use Rattle.lert_cone.specs.Tally.{Tallied}
 use Rattle.lert_cone.specs.Record.{LogPlace, payload_at, payload_len}
 use Rattle.lert_cone.proofs.TakeLaws.{handed_on}
 
 pub payload_is_at : (log : LogPlace) (kind : LogKind) (n0 : ℕ) (directory : List ℕ) (reports : List Report) → log_payload kind n0
-    (oldest_mark log.marks).gate (oldest_mark log.marks).first directory (drop log.named reports) ≡ payload_at log kind n0 directory reports
+    (oldest_place log.places).gate (oldest_place log.places).first directory (drop log.named reports) ≡ payload_at log kind n0 directory reports
 unfolding payload_at
 payload_is_at log kind n0 directory reports = refl
 
@@ -36,21 +36,21 @@ payload_is_at log kind n0 directory reports = refl
 pub payload_long : (log : LogPlace) (kind : LogKind) (n0 : ℕ) (directory : List ℕ) (reports : List Report) →
     length (payload_at log kind n0 directory reports) ≡ payload_len log directory reports
 payload_long log kind n0 directory reports = ap length (sym (payload_is_at log kind n0 directory reports))
-    ∙ log_payload_length kind n0 (oldest_mark log.marks).gate (oldest_mark log.marks).first directory (drop log.named reports)
+    ∙ log_payload_length kind n0 (oldest_place log.places).gate (oldest_place log.places).first directory (drop log.named reports)
 
 -- ---- a text that was written, of the reports behind the named ones
 
-module _ (log : LogPlace) (kind : LogKind) (n0 : ℕ) (directory : List ℕ) (reports : List Report) (mark : Mark) (mark_is : mark ≡ oldest_mark log.marks) (len : ℕ)
+module _ (log : LogPlace) (kind : LogKind) (n0 : ℕ) (directory : List ℕ) (reports : List Report) (place : JournalPlace) (place_is : place ≡ oldest_place log.places) (len : ℕ)
     (into : List ℕ)
-    (text : take len into ≡ appendix (log_payload kind n0 mark.gate mark.first directory (take (length reports - log.named) (drop log.named reports)))) where
+    (text : take len into ≡ appendix (log_payload kind n0 place.gate place.first directory (take (length reports - log.named) (drop log.named reports)))) where
   new_is : take (length reports - log.named) (drop log.named reports) ≡ drop log.named reports
   new_is = take_all (length reports - log.named) (drop log.named reports) (omega (arith, length-drop log.named reports))
 
   pub text_at : take len into ≡ appendix (payload_at log kind n0 directory reports)
   text_at =
       text
-      ∙ (ap (λ new. appendix (log_payload kind n0 mark.gate mark.first directory new)) new_is
-      ∙ (ap (λ (m : Mark). appendix (log_payload kind n0 m.gate m.first directory (drop log.named reports))) mark_is
+      ∙ (ap (λ new. appendix (log_payload kind n0 place.gate place.first directory new)) new_is
+      ∙ (ap (λ (m : JournalPlace). appendix (log_payload kind n0 m.gate m.first directory (drop log.named reports))) place_is
       ∙ ap appendix (payload_is_at log kind n0 directory reports)))
 
   pub text_long : length (take len into) ≡ 5 + length (payload_at log kind n0 directory reports)
@@ -94,7 +94,7 @@ pub logging_more : (t a : Tallied) (log log_after : LogPlace) (room room_after :
     a.listing ≡ record t.listing { events = t.listing.events ++ key ∷ [] } →
     log_after.most ≡ log.most → log_after.named ≡ length a.due.reports → log_after.gate ≡ log.gate + 5 + payload_len log directory reports →
     payload_len log directory reports ≤ log.most →
-    room_after ≡ room → log_after.marks.settings ≡ a.listing.settings → log_after.marks.passed ≡ length a.listing.events → IsLogging a log_after room_after
+    room_after ≡ room → log_after.places.settings ≡ a.listing.settings → log_after.places.passed ≡ length a.listing.events → IsLogging a log_after room_after
 logging_more t a log log_after room room_after key directory reports valid logging is most_is named_is gate_is fits room_is same passed = record {
   most = most_is ∙ logging.most ∙ ap (λ (l : Listing). most_record l.settings) (sym is);
   named = omega (arith, named_is);

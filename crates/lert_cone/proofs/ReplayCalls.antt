@@ -1,5 +1,5 @@
--- A record of the journal through the calls that a cone makes for it: it is read, and then its keys are taken.
-use Rattle.std.proofs.Common.{◌≡◌, ℕ, ◌+◌, ◌≤◌, List, ◌++◌, length, take, drop, max, Option, Some, Result, Ok, OnOk, sym, ap, ◌∙◌, subst, inl, inr, arith, length-append}
+-- A record of the journal through the calls that a cone makes for it as it is read again: it is read, and then its keys are taken.
+use Rattle.std.proofs.Common.{◌≡◌, ℕ, ◌+◌, ◌≤◌, List, ◌++◌, length, take, drop, max, Option, Some, None, Result, Ok, OnOk, sym, ap, ◌∙◌, subst, inl, inr, arith, length-append}
 use Rattle.std.specs.List.{length_refill}
 use Rattle.lert_base.specs.Packet.{Packet, events_of}
 use Rattle.lert_bay.specs.Files.{Files, IfTold}
@@ -11,9 +11,8 @@ use Rattle.lert_gatelog.specs.Kept.{IsWhollySettled}
 use Rattle.lert_journal.specs.Journal.{HoldsPacket}
 use Rattle.lert_reports.specs.declared.log_point.LogPoint.{LogPoint}
 use Rattle.lert_spec.specs.declared.numbers.Numbers.{Numbers}
-use Rattle.lert_cone.specs.declared.marks.Mark.{Mark}
-use Rattle.lert_cone.specs.declared.state.ConeState.{ConeState}
-use Rattle.lert_cone.specs.declared.state.ConeState.TheVariants.{Replaying}
+use Rattle.lert_cone.specs.declared.journal_places.JournalPlace.{JournalPlace}
+use Rattle.lert_cone.specs.declared.refusal.ReplayFault.{ReplayFault}
 use Rattle.lert_cone.specs.declared.tally.TakeFault.{TakeFault}
 use Rattle.lert_cone.specs.Framed.{last_flush}
 use Rattle.lert_cone.specs.History.{most_payload}
@@ -24,16 +23,15 @@ use Rattle.lert_cone.specs.Record.{LogPlace}
 use Rattle.lert_cone.specs.Replay.{IsOnWay, IsPast, IsNext}
 use Rattle.lert_cone.specs.Replays.{HasEnded, IsUnwritten, Replays}
 use Rattle.lert_cone.specs.Sound.{IsSound, StaysSound}
-use Rattle.lert_cone.specs.Stands.{Standing}
 use Rattle.lert_cone.specs.Takes.{Workplace, ReplaysKeys}
 use Rattle.lert_cone.specs.Tally.{Tallied, IsRecounted}
 use Rattle.lert_cone.specs.Wrote.{IsShutIfTold, LeavesAlone}
 use Rattle.lert_cone.proofs.Calls.{now_since, alone_on, alone_reading}
 use Rattle.lert_cone.proofs.GateLaws.{ends_there, keys_past, keys_next}
 use Rattle.lert_cone.proofs.KeepsLogSteps.{log_as, log_on, log_unwritten}
-use Rattle.lert_cone.proofs.MarkLaws.{next_holds}
+use Rattle.lert_cone.proofs.JournalPlaceLaws.{next_holds}
 use Rattle.lert_cone.proofs.ReplayLaws.{journal_on_way, on_way_read, sound_recounted}
-use Rattle.lert_cone.proofs.ReplayStands.{next_there, read_settled, shut_there}
+use Rattle.lert_cone.proofs.ReplayStands.{next_there, read_settled, seen_as, shut_there}
 use Rattle.lert_cone.proofs.ReplayStep.{told_once}
 
 -- bays, seen by these members
@@ -46,22 +44,6 @@ bays_of faults mark files leaves moment left_since handed_out = record {
   moment = moment;
   left_since = left_since;
   handed_out = handed_out;
-}
-
--- what a cone is seen as
-abbrev pub seen_as : {B : Type 0} → B → B → Tallied → ℕ → ConeState → Option Packet → ℕ → LogPlace → LogPoint → Standing B
-seen_as bay made tally events state over gate log last = record {
-  bay = bay;
-  made = made;
-  listing = tally.listing;
-  rows = tally.rows;
-  reports = tally.due.reports;
-  events = events;
-  state = state;
-  over = over;
-  gate = gate;
-  log = log;
-  last = last;
 }
 
 -- a packet that stands at the gate of a journal, said of another name of it
@@ -160,10 +142,10 @@ module _ {B : Type 0} (bays : Bays B) (lawful : IsLawful bays) where
         subst (λ (b : B). IsUnwritten bays bay b) (sym (unflushed (omega (arith, passed, ap (λ (ks : List ℕ). last_flush s (n + length ks)) keys_are)))) read_unwritten
 
     -- a closed gate stands there
-    pub ended_at : (made : B) (t : Tallied) (events : ℕ) (state : ConeState) (over : Option Packet) (before after at : ℕ) (log : LogPlace) (last : LogPoint) → after ≡ at →
+    pub ended_at : (made : B) (t : Tallied) (events : ℕ) (stopped : Option ReplayFault) (before after at : ℕ) (log : LogPlace) (last : LogPoint) → after ≡ at →
         last.n0 ≤ length t.listing.events → IfTold (bays.files bay) (λ seen. IsWhollySettled (bays.leaves bay) seen 0) → IfTold (bays.files bay) (λ seen. IsClosed (seen 0) at) →
-        HasEnded bays.files bays.leaves (seen_as bay made t events state over before log last) (seen_as bay_read made t events state over after log last) at
-    ended_at made t events state over before after at log last after_is enough settled closed = record {
+        HasEnded bays.files bays.leaves (seen_as bay made t events stopped before log last) (seen_as bay_read made t events stopped after log last) at
+    ended_at made t events stopped before after at log last after_is enough settled closed = record {
       enough = enough;
       stands = closed;
       shut = shut_there 0 at (bays.files bay_read) (bays.leaves bay_read)
@@ -178,8 +160,7 @@ module _ {B : Type 0} (bays : Bays B) (lawful : IsLawful bays) where
         rows = t.rows;
         reports = t.due.reports;
         events = events;
-        state = state;
-        over = over;
+        stopped = stopped;
         gate = after_is i;
         log = log;
         last = last;
@@ -200,13 +181,13 @@ module _ {B : Type 0} (bays : Bays B) (lawful : IsLawful bays) where
           (on_way_read (bays.leaves bay) seen history t.listing t.rows t.due.reports log last.n0 on_way (bays.leaves bay_read) (λ image may. (read.reads.images image).0 may))
 
       -- a closed gate that stands there is behind the last packet
-      pub ended_replays : (made : B) (events : ℕ) (state : ConeState) (over : Option Packet) (after : ℕ) → state ≡ Replaying → after ≡ gate → IsClosed (seen 0) gate →
-          (done ≡ history) × Replays bays.files bays.leaves (seen_as bay_read made t events state over after log last) history done
-      ended_replays made events state over after state_is after_is closed = (
+      pub ended_replays : (made : B) (events : ℕ) (stopped : Option ReplayFault) (after : ℕ) → stopped ≡ None → after ≡ gate → IsClosed (seen 0) gate →
+          (done ≡ history) × Replays bays.files bays.leaves (seen_as bay_read made t events stopped after log last) history done
+      ended_replays made events stopped after taking after_is closed = (
         ends_there t.listing.settings t.listing.cone (seen 0) history done t.listing.events gate
             (journal_on_way (bays.leaves bay) seen history t.listing t.rows t.due.reports log last.n0 on_way (lawful.as_read bay seen told)) past closed,
         record {
-          state_is = state_is;
+          taking = taking;
           past = subst (λ at. IsPast history done t.listing.events at) (sym after_is) past;
           on_way = λ seen_after told_after.
               subst (λ (files : Files). IsOnWay (bays.leaves bay_read) files history t.listing t.rows t.due.reports log last.n0)
@@ -224,11 +205,11 @@ module _ {B : Type 0} (bays : Bays B) (lawful : IsLawful bays) where
 
         pub keys_stay : (packet : Packet) → HoldsPacket t.listing.settings t.listing.cone (most_payload t.listing.settings) (seen 0) gate packet → (keys : List ℕ) →
             keys ≡ packet.keys →
-            (mark : Mark) → mark.gate ≡ gate → mark.first ≡ length t.listing.events + 1 → (buffer : ℕ) (new : Workplace B) (result : Result (Unit {0}) TakeFault) →
-            ReplaysKeys bays last.n0 mark keys (record { bay = bay_read; counts = t; log = log; room = buffer }) new result →
+            (place : JournalPlace) → place.gate ≡ gate → place.first ≡ length t.listing.events + 1 → (buffer : ℕ) (new : Workplace B) (result : Result (Unit {0}) TakeFault) →
+            ReplaysKeys bays last.n0 place keys (record { bay = bay_read; counts = t; log = log; room = buffer }) new result →
             StaysSound bays t.listing.settings t.listing.cone history bay new.bay
-        keys_stay packet holds keys keys_are mark gate_is first_is buffer new result did =
+        keys_stay packet holds keys keys_are place gate_is first_is buffer new result did =
             with_keys packet holds keys keys_are (λ told_read next is on_read.
             stays_on t.listing.settings t.listing.cone history bay bay_read new.bay read.reads.kept.time.later did.keeps.journal.time read_stays
             (stays_by t.listing.settings t.listing.cone history bay_read new.bay did.keeps.journal.time.later (did.each_moment seen told_read history (events_of next.rest) is
-            (next_holds history done t.listing.events gate packet keys mark past next keys_are gate_is first_is) on_read)))
+            (next_holds history done t.listing.events gate packet keys place past next keys_are gate_is first_is) on_read)))

@@ -16,7 +16,7 @@ use Rattle.lert_spec.specs.Limits.{IsValid}
 use Rattle.lert_cone.specs.Framed.{last_flush}
 use Rattle.lert_cone.specs.InStep.{IsInStep, IsPartway}
 use Rattle.lert_cone.specs.Listing.{Listing}
-use Rattle.lert_cone.specs.Marks.{AreMarked, Marked}
+use Rattle.lert_cone.specs.JournalPlaces.{ArePlacesIn, Places}
 use Rattle.lert_cone.specs.Record.{LogPlace}
 use Rattle.lert_cone.specs.Replay.{IsOnWay, IsPast, IsNext, MayFollow, ReplayLeavesAt}
 use Rattle.lert_cone.specs.Sound.{IsJournal, IsSound, but_last}
@@ -78,14 +78,14 @@ module _ (leaves : Files → Type 0) (seen : Files) (history : List Packet) (lis
           log_settled = record { within = step.log_settled.within; same = λ image may. step.log_settled.same image (fewer image may) };
           reports_are = step.reports_are;
           begins = step.begins;
-          marked = step.marked;
+          placed = step.placed;
           reach = step.reach;
         };
       }
 
-  -- and so with other marks of the history's records
-  pub on_way_marked : (marks : Marked) → AreMarked history marks → marks.from ≡ log.marks.from → IsOnWay leaves seen history listing rows reports (record log { marks = marks }) n0
-  on_way_marked marks marked from_is =
+  -- and so with other places of the history's records
+  pub on_way_places : (places : Places) → ArePlacesIn history places → places.from ≡ log.places.from → IsOnWay leaves seen history listing rows reports (record log { places = places }) n0
+  on_way_places places placed from_is =
       let step = on_way.in_step in
       record {
         n0_most = on_way.n0_most;
@@ -102,7 +102,7 @@ module _ (leaves : Files → Type 0) (seen : Files) (history : List Packet) (lis
           log_settled = step.log_settled;
           reports_are = step.reports_are;
           begins = step.begins;
-          marked = marked;
+          placed = placed;
           reach = omega (arith, from_is, step.reach);
         };
       }

@@ -1,6 +1,6 @@
--- A cone that is given the packets of its journal again: what is so of it, what the record at a gate makes of it, and which
+-- A cone whose journal is read again: what is so of it, what the record at a gate makes of it, and which
 -- lists it stands for at the end.
-use Rattle.std.proofs.Common.{◌≡◌, ℕ, ◌+◌, ◌*◌, ◌^◌, ◌<◌, ◌≤◌, Bool, true, false, cond, List, length, Option, None, All, refl, sym, ap, ◌∙◌, subst}
+use Rattle.std.proofs.Common.{◌≡◌, ℕ, ◌+◌, ◌*◌, ◌^◌, ◌<◌, ◌≤◌, Bool, true, false, cond, List, length, Option, Some, None, All, refl, sym, ap, ◌∙◌, subst}
 use Rattle.std.proofs.Common.{arith}
 use Rattle.std.proofs.lemmas.Bool.{false≢true}
 use Rattle.lert_base.specs.Packet.{Packet, events_of}
@@ -20,20 +20,23 @@ use Rattle.lert_spec.specs.declared.report.Report.{Report}
 use Rattle.lert_spec.specs.Edges.{capacity}
 use Rattle.lert_spec.specs.Limits.{IsValid}
 use Rattle.lert_reports.specs.declared.log_point.LogPoint.{LogPoint}
+use Rattle.lert_cone.specs.declared.refusal.ReplayFault.{ReplayFault}
 use Rattle.lert_cone.specs.declared.refusal.ReplayFault.TheVariants.{Failed, Malformed, Unsound}
 use Rattle.lert_cone.specs.declared.state.ConeState.{ConeState}
-use Rattle.lert_cone.specs.declared.state.ConeState.TheVariants.{Running, Finished, Replaying}
+use Rattle.lert_cone.specs.declared.state.ConeState.TheVariants.{Running, Finished}
 use Rattle.lert_cone.specs.declared.tally.TakeFault.{TakeFault}
 use Rattle.lert_cone.specs.declared.tally.TakeFault.TheVariants.{Failed as TakeFailed, Unsound as TakeUnsound}
 use Rattle.lert_cone.specs.History.{most_payload}
 use Rattle.lert_cone.specs.Listing.{Listing}
 use Rattle.lert_cone.specs.Record.{LogPlace}
 use Rattle.lert_cone.specs.Replay.{IsOnWay, IsPast, IsNext, ReplayLeavesAt}
+use Rattle.lert_cone.specs.Replaying.{Replaying, IsReplaying, readied}
 use Rattle.lert_cone.specs.Replays.{Replays, IsThere, WhyRefused, LeavesBehind, of_take_fault, of_log_fault}
 use Rattle.lert_cone.specs.Room.{room_of}
-use Rattle.lert_cone.specs.Stands.{Standing, StandsFor, IsCone, IsReplaying, WasSound, is_broken, is_finished}
+use Rattle.lert_cone.specs.Stands.{StandsFor, IsCone, WereSoundAs, is_broken, is_finished}
 use Rattle.lert_cone.specs.Tally.{Tallied, IsRecounted}
 use Rattle.lert_cone.specs.Wrote.{Anything, IsShutIfTold, LeavesFile}
+use Rattle.lert_cone.proofs.FaultLaws.{turns_on}
 use Rattle.lert_cone.proofs.GateLaws.{is_next}
 use Rattle.lert_cone.proofs.ReplayLaws.{journal_on_way, whole_on_way}
 use Rattle.lert_cone.proofs.SoundLaws.{turns_back}
@@ -81,7 +84,7 @@ next_there leaves seen history done listing rows reports log n0 gate packet on_w
 
 -- ---- why a record isn't taken
 
-module _ {B : Type 0} (cone : Standing B) (bytes : List ℕ) (gate : ℕ) where
+module _ {B : Type 0} (cone : Replaying B) (bytes : List ℕ) (gate : ℕ) where
   pub refused_keys : (fault : TakeFault) → IsThere cone bytes gate → WhyRefused cone bytes gate (of_take_fault fault)
   refused_keys TakeFailed there = tt
   refused_keys (TakeUnsound file at) there = there
@@ -118,7 +121,22 @@ pub only_failed : (fault : LogFault) → ((at : ℕ) → fault ≡ LogMalformed 
 only_failed LogFailed never = refl
 only_failed (LogMalformed at) never = absurd (never at refl)
 
--- ---- a cone that replays
+-- ---- a cone at its journal's end
+
+-- what it is seen as
+abbrev pub seen_as : {B : Type 0} → B → B → Tallied → ℕ → Option ReplayFault → ℕ → LogPlace → LogPoint → Replaying B
+seen_as bay made tally events stopped gate log last = record {
+  bay = bay;
+  made = made;
+  listing = tally.listing;
+  rows = tally.rows;
+  reports = tally.due.reports;
+  events = events;
+  stopped = stopped;
+  gate = gate;
+  log = log;
+  last = last;
+}
 
 -- the state behind the last packet
 ends_whole : (closed : Bool) → is_broken (cond closed Finished Running) ≡ false
@@ -129,153 +147,89 @@ ends_finished : (closed : Bool) → is_finished (cond closed Finished Running) �
 ends_finished true = refl
 ends_finished false = refl
 
-module _ {B : Type 0} (files : B → Option Files) (leaves : B → Files → Type 0) (faults : B → ℕ) where
-  pub replaying_cone : (mark : B → ℕ) (cone : Standing B) (tally : Tallied) (journal : Log) (room keys_room : ℕ) → cone.state ≡ Replaying → journal.file ≡ 0 →
-      journal.most ≡ most_payload cone.listing.settings
-      → room ≡ room_of cone.listing.settings → keys_room ≡ 4 * cone.listing.settings.packet → cone.events ≤ capacity cone.listing.settings → IsValid cone.listing.settings →
-      faults cone.made ≤ faults cone.bay → Turns Anything (files cone.made) (files cone.bay) → mark cone.bay ≡ mark cone.made
-      → IsReplaying files leaves cone tally room → IsCone files leaves faults mark cone tally journal room keys_room
-  replaying_cone mark cone tally journal room keys_room state_is file most roomy keys_roomy within valid falls turns marked replaying = record {
-    file = file;
-    most = most;
-    roomy = roomy;
-    keys_roomy = keys_roomy;
-    within = within;
-    valid = valid;
-    never_falls = falls;
-    marked = marked;
-    tells = turns;
-    by_bay = λ never. absurd (let other : ⊥ = cc in other);
-    none_over = λ still. absurd (false≢true (sym still ∙ ap is_broken state_is));
-    counted = λ still. absurd (false≢true (sym still ∙ ap is_broken state_is));
-    tallied = λ still. absurd (false≢true (sym still ∙ ap is_broken state_is));
-    closed = λ still. absurd (false≢true (sym still ∙ ap is_broken state_is));
-    near = λ still. absurd (false≢true (sym still ∙ ap is_broken state_is));
-    shut = λ never. absurd (false≢true (sym (ap is_broken never) ∙ ap is_broken state_is));
-    logging = λ never. absurd (false≢true (sym (ap is_broken never) ∙ ap is_broken state_is));
-    log_shut = λ never. absurd (false≢true (sym (ap is_broken never) ∙ ap is_broken state_is));
-    replaying = λ _. replaying;
-  }
+-- one that refused a record isn't one that takes records
+stopped_there : {Fault X : Type 0} (stopped : Option Fault) (fault : Fault) → stopped ≡ Some fault → stopped ≡ None → X
+stopped_there stopped fault is none = absurd (some_or_none fault (sym is ∙ none))
+  where
+    some_or_none : {Fault : Type 0} (fault : Fault) → Some fault ≡ None → ⊥
+    some_or_none fault same = cc
 
-  -- behind its last packet
-  pub ready_cone : (mark : B → ℕ) (bay made : B) (tally : Tallied) (events room keys_room : ℕ) (journal journal_after : Log) (log : LogPlace) (last : LogPoint) (over : Option Packet)
-      (state state_after : ConeState) (end : ℕ)
-      → state ≡ Replaying → state_after ≡ cond last.closed Finished Running → last.n0 ≤ length tally.listing.events → journal.gate ≡ end → journal_after ≡ record {
+module _ {B : Type 0} (files : B → Option Files) (leaves : B → Files → Type 0) (faults mark : B → ℕ) where
+  -- one that refused a record
+  pub stopped_cone : (old new : Replaying B) (tally after : Tallied) (journal journal_after : Log) (room room_after keys_room keys_room_after : ℕ) (fault : ReplayFault)
+      → new.stopped ≡ Some fault → new.listing.settings ≡ old.listing.settings → new.events ≡ old.events → new.made ≡ old.made
+      → journal_after.file ≡ journal.file → journal_after.most ≡ journal.most → room_after ≡ room → keys_room_after ≡ keys_room → faults old.bay ≤ faults new.bay
+      → Turns Anything (files old.bay) (files new.bay) → mark new.bay ≡ mark old.bay
+      → IsReplaying files leaves faults mark old tally journal room keys_room → IsReplaying files leaves faults mark new after journal_after room_after keys_room_after
+  stopped_cone old new tally after journal journal_after room room_after keys_room keys_room_after fault stopped same events_are made_is file_is most_is room_is keys_room_is falls turns marked
+      cone = record {
+        file = file_is ∙ cone.file;
+        most = most_is ∙ cone.most ∙ ap most_payload (sym same);
+        roomy = room_is ∙ cone.roomy ∙ ap room_of (sym same);
+        keys_roomy = keys_room_is ∙ cone.keys_roomy ∙ ap (λ (s : Numbers). 4 * s.packet) (sym same);
+        within = subst (λ (s : Numbers). new.events ≤ capacity s) (sym same) (omega (arith, events_are, cone.within));
+        valid = subst IsValid (sym same) cone.valid;
+        never_falls = omega (arith, ap faults made_is, cone.never_falls, falls);
+        marked = marked ∙ cone.marked ∙ ap mark (sym made_is);
+        tells = turns_on Anything Anything (files new.made) (files old.bay) (files new.bay)
+            (subst (λ (m : B). Turns Anything (files m) (files old.bay)) (sym made_is) cone.tells) turns;
+        taking = stopped_there new.stopped fault stopped;
+      }
+
+  -- a cone that took its last packet
+  pub ready_cone : (cone : Replaying B) (tally : Tallied) (journal journal_after : Log) (room keys_room end : ℕ) (state : ConeState)
+      → cone.stopped ≡ None → state ≡ cond cone.last.closed Finished Running → cone.last.n0 ≤ length cone.listing.events → cone.gate ≡ end → journal_after ≡ record {
         file = 0;
         gate = end;
-        most = most_payload tally.listing.settings;
+        most = most_payload cone.listing.settings;
       }
-      → IsShutIfTold (files bay) (leaves bay) 0 end
-      → IsCone files leaves faults mark (record {
-        bay = bay;
-        made = made;
-        listing = tally.listing;
-        rows = tally.rows;
-        reports = tally.due.reports;
-        events = events;
-        state = state;
-        over = over;
-        gate = journal.gate;
-        log = log;
-        last = last;
-      }) tally journal room keys_room
-      → IsCone files leaves faults mark (record {
-        bay = bay;
-        made = made;
-        listing = tally.listing;
-        rows = tally.rows;
-        reports = tally.due.reports;
-        events = events;
-        state = state_after;
-        over = over;
-        gate = journal_after.gate;
-        log = log;
-        last = last;
-      }) tally journal_after room keys_room
-  ready_cone mark bay made tally events room keys_room journal journal_after log last over state state_after end is_replaying after_is enough gate_is journal_is shut cone =
-      let was = cone.replaying is_replaying in
-      let whole : is_broken state_after ≡ false = ap is_broken after_is ∙ ends_whole last.closed in
+      → IsShutIfTold (files cone.bay) (leaves cone.bay) 0 end → tally.listing ≡ cone.listing → IsReplaying files leaves faults mark cone tally journal room keys_room
+      → IsCone files leaves faults mark (record (readied cone) { state = state; gate = journal_after.gate }) tally journal_after room keys_room
+  ready_cone cone tally journal journal_after room keys_room end state none state_is enough gate_is journal_is shut listing_is replaying =
+      let was = replaying.taking none in
+      let whole : is_broken state ≡ false = ap is_broken state_is ∙ ends_whole cone.last.closed in
       record {
         file = ap (λ (j : Log). j.file) journal_is;
         most = ap (λ (j : Log). j.most) journal_is;
-        roomy = cone.roomy;
-        keys_roomy = cone.keys_roomy;
-        within = cone.within;
-        valid = cone.valid;
-        never_falls = cone.never_falls;
-        marked = cone.marked;
-        tells = cone.tells;
+        roomy = replaying.roomy;
+        keys_roomy = replaying.keys_roomy;
+        within = replaying.within;
+        valid = replaying.valid;
+        never_falls = replaying.never_falls;
+        marked = replaying.marked;
+        tells = replaying.tells;
         by_bay = λ never. absurd (false≢true (sym whole ∙ ap is_broken never));
-        none_over = λ _. was.none_over;
+        none_over = λ _. refl;
         counted = λ _. was.counted;
-        tallied = λ _. was.recounted.behind enough;
-        closed = λ _. was.closed ∙ sym (ap is_finished after_is ∙ ends_finished last.closed);
+        tallied = λ _. was.recounted.behind (subst (λ (l : Listing). cone.last.n0 ≤ length l.events) (sym listing_is) enough);
+        closed = λ _. was.closed ∙ sym (ap is_finished state_is ∙ ends_finished cone.last.closed);
         near = λ _. omega (arith, was.near, gate_is, ap (λ (j : Log). j.gate) journal_is);
-        shut = λ _. subst (λ gate. IsShutIfTold (files bay) (leaves bay) 0 gate) (sym (ap (λ (j : Log). j.gate) journal_is)) shut;
+        shut = λ _. subst (λ gate. IsShutIfTold (files cone.bay) (leaves cone.bay) 0 gate) (sym (ap (λ (j : Log). j.gate) journal_is)) shut;
         logging = λ _. was.logging;
         log_shut = λ _. was.log_shut;
-        replaying = λ never. absurd (false≢true (sym whole ∙ ap is_broken never));
       }
 
-  pub ready_stands : (bay made : B) (tally : Tallied) (events gate gate_after : ℕ) (log : LogPlace) (last : LogPoint) (over : Option Packet) (state state_after : ConeState)
+  pub ready_stands : (bay made : B) (tally : Tallied) (events gate gate_after : ℕ) (log : LogPlace) (last : LogPoint) (stopped : Option ReplayFault) (state : ConeState)
       (history : List Packet)
-      → state_after ≡ cond last.closed Finished Running → gate_after ≡ gate → IsRecounted tally last.n0 → last.n0 ≤ length tally.listing.events → over ≡ None →
-      IsValid tally.listing.settings →
+      → state ≡ cond last.closed Finished Running → gate_after ≡ gate → IsRecounted tally last.n0 → last.n0 ≤ length tally.listing.events → IsValid tally.listing.settings →
       events ≤ capacity tally.listing.settings
       → All (λ packet. 0 < length packet.keys) history → length (events_of history) ≡ events → IfTold (files bay) (leaves bay)
-      → (WasSound files (record {
-        bay = bay;
-        made = made;
-        listing = tally.listing;
-        rows = tally.rows;
-        reports = tally.due.reports;
-        events = events;
-        state = state;
-        over = over;
-        gate = gate;
-        log = log;
-        last = last;
-      })
-      → IfTold (files bay) (λ _. Replays files leaves (record {
-        bay = bay;
-        made = made;
-        listing = tally.listing;
-        rows = tally.rows;
-        reports = tally.due.reports;
-        events = events;
-        state = state;
-        over = over;
-        gate = gate;
-        log = log;
-        last = last;
-      }) history history))
-      → StandsFor files leaves faults (record {
-        bay = bay;
-        made = made;
-        listing = tally.listing;
-        rows = tally.rows;
-        reports = tally.due.reports;
-        events = events;
-        state = state_after;
-        over = over;
-        gate = gate_after;
-        log = log;
-        last = last;
-      }) history
-  ready_stands bay made tally events gate gate_after log last over state state_after history after_is gate_is recounted enough none_over valid within some counted read replays =
-      let whole : is_broken state_after ≡ false = ap is_broken after_is ∙ ends_whole last.closed in
+      → (WereSoundAs files tally.listing.settings tally.listing.cone made
+      → IfTold (files bay) (λ _. Replays files leaves (seen_as bay made tally events stopped gate log last) history history))
+      → StandsFor files leaves faults (record (readied (seen_as bay made tally events stopped gate log last)) { state = state; gate = gate_after }) history
+  ready_stands bay made tally events gate gate_after log last stopped state history state_is gate_is recounted enough valid within some counted read replays =
+      let whole : is_broken state ≡ false = ap is_broken state_is ∙ ends_whole last.closed in
       record {
         some = some;
         counted = counted;
         within = within;
         valid = valid;
-        ready = λ never. absurd (false≢true (sym whole ∙ ap is_broken never));
         whole = λ _ sound seen told.
             let all = replays sound seen told in
             whole_on_way (leaves bay) seen history tally gate_after log last.n0 (recounted.behind enough) (all.on_way seen told)
             (subst (λ g. IsPast history history tally.listing.events g) (sym gate_is) all.past) enough (read seen told);
         broken = λ never. absurd (false≢true (sym whole ∙ never));
-        none_over = λ _. none_over;
+        none_over = λ _. refl;
         by_bay = λ never. absurd (false≢true (sym whole ∙ ap is_broken never));
         by_read = λ file at never. absurd (false≢true (sym whole ∙ ap is_broken never));
       }

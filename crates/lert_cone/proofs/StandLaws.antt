@@ -1,5 +1,5 @@
 -- Which lists a cone stands for: when it is made, through an append and the keys behind it, and when it is finished.
-use Rattle.std.proofs.Common.{◌≡◌, ◌≢◌, ℕ, ◌+◌, ◌*◌, ◌<◌, ◌≤◌, true, false, List, [], ◌++◌, length, Option, None, All, cond, refl, sym, ap, ◌∙◌}
+use Rattle.std.proofs.Common.{◌≡◌, ℕ, ◌+◌, ◌*◌, ◌<◌, ◌≤◌, true, false, List, [], ◌++◌, length, Option, None, All, cond, refl, sym, ap, ◌∙◌}
 use Rattle.std.proofs.Common.{subst, arith, length-append}
 use Rattle.std.specs.Prelude.{replicate}
 use Rattle.std.proofs.lemmas.Bool.{false≢true}
@@ -19,12 +19,12 @@ use Rattle.lert_spec.specs.Edges.{capacity}
 use Rattle.lert_spec.specs.Limits.{IsValid}
 use Rattle.lert_spec.specs.Look.{look, closing}
 use Rattle.lert_cone.specs.declared.state.ConeState.{ConeState}
-use Rattle.lert_cone.specs.declared.state.ConeState.TheVariants.{Running, Finished, BrokenByBay, BrokenByRead, Replaying}
+use Rattle.lert_cone.specs.declared.state.ConeState.TheVariants.{Running, Finished, BrokenByBay, BrokenByRead}
 use Rattle.lert_reports.specs.declared.log_point.LogPoint.{LogPoint}
 use Rattle.lert_cone.specs.History.{most_payload}
 use Rattle.lert_cone.specs.InStep.{IsInStep, IsLogging, AreNew}
 use Rattle.lert_cone.specs.Listing.{Listing, reports_of}
-use Rattle.lert_cone.specs.Marks.{unmarked}
+use Rattle.lert_cone.specs.JournalPlaces.{places_at_start}
 use Rattle.lert_cone.specs.Record.{LogPlace}
 use Rattle.lert_cone.specs.Room.{room_of}
 use Rattle.lert_cone.specs.Sound.{IsSound, IsSoundOver, IsKept}
@@ -32,7 +32,7 @@ use Rattle.lert_cone.specs.Stands.{Standing, StandsFor, IsCone, IsSameCone, IsWh
 use Rattle.lert_cone.specs.Tally.{Tallied, IsCounted}
 use Rattle.lert_cone.specs.Wrote.{Anything, IsShutIfTold}
 use Rattle.lert_cone.proofs.LogLaws.{log_none}
-use Rattle.lert_cone.proofs.MarkLaws.{marked_none, names_none}
+use Rattle.lert_cone.proofs.JournalPlaceLaws.{places_none, names_none}
 use Rattle.lert_cone.proofs.AppendLaws.{whole_of}
 use Rattle.lert_cone.proofs.FaultLaws.{turns_as, turns_on}
 
@@ -48,10 +48,10 @@ reports_finished listing keys ended is = ap (λ b. cond b (closing listing.setti
 module _ {B : Type 0} (files : B → Option Files) (leaves : B → Files → Type 0) (faults : B → ℕ) where
   -- a new one
   new_step : (after : Files → Type 0) (seen : Files) (s : Numbers) (cone : ℕ) (rows : List (List BinAt)) → rows ≡ replicate s.levels [] → AreNew s cone after seen →
-      IsInStep after seen [] (record { settings = s; cone = cone; events = []; closed = false }) rows [] (record { gate = 8; most = most_record s; named = 0; marks = unmarked s })
+      IsInStep after seen [] (record { settings = s; cone = cone; events = []; closed = false }) rows [] (record { gate = 8; most = most_record s; named = 0; places = places_at_start s })
   new_step after seen s cone rows none new =
       subst (λ (rs : List (List BinAt)). IsInStep after seen [] (record { settings = s; cone = cone; events = []; closed = false }) rs []
-      (record { gate = 8; most = most_record s; named = 0; marks = unmarked s }))
+      (record { gate = 8; most = most_record s; named = 0; places = places_at_start s }))
       (sym none)
       (record {
         logged = [];
@@ -64,20 +64,20 @@ module _ {B : Type 0} (files : B → Option Files) (leaves : B → Files → Typ
         log_settled = new.log_settled;
         reports_are = refl;
         begins = names_none s [];
-        marked = marked_none [] (unmarked s) refl;
+        placed = places_none [] (places_at_start s) refl;
         reach = omega arith;
       })
 
   new_whole : (bay : B) (s : Numbers) (cone : ℕ) (tally : Tallied) (gate : ℕ) (log : LogPlace) → tally.listing ≡ record { settings = s; cone = cone; events = []; closed = false } →
       gate ≡ 32
-      → log ≡ record { gate = 8; most = most_record s; named = 0; marks = unmarked s } → tally.rows ≡ replicate s.levels [] → tally.due.reports ≡ [] → IsCounted tally
+      → log ≡ record { gate = 8; most = most_record s; named = 0; places = places_at_start s } → tally.rows ≡ replicate s.levels [] → tally.due.reports ≡ [] → IsCounted tally
       → IfTold (files bay) (λ seen. AreNew s cone (leaves bay) seen) → IfTold (files bay) (leaves bay)
       → IfTold (files bay) (λ seen. IsWhole (leaves bay) seen tally.listing tally.rows tally.due.reports gate log [])
   new_whole bay s cone tally gate log is gate_is log_is rows_are none counted new as_read seen told =
       whole_of (leaves bay) seen [] tally gate log counted
       (subst (λ (l : LogPlace). IsInStep (leaves bay) seen [] tally.listing tally.rows tally.due.reports l) (sym log_is)
-      (subst (λ (reports : List Report). IsInStep (leaves bay) seen [] tally.listing tally.rows reports (record { gate = 8; most = most_record s; named = 0; marks = unmarked s })) (sym none)
-      (subst (λ (l : Listing). IsInStep (leaves bay) seen [] l tally.rows [] (record { gate = 8; most = most_record s; named = 0; marks = unmarked s })) (sym is)
+      (subst (λ (reports : List Report). IsInStep (leaves bay) seen [] tally.listing tally.rows reports (record { gate = 8; most = most_record s; named = 0; places = places_at_start s })) (sym none)
+      (subst (λ (l : Listing). IsInStep (leaves bay) seen [] l tally.rows [] (record { gate = 8; most = most_record s; named = 0; places = places_at_start s })) (sym is)
       (new_step (leaves bay) seen s cone tally.rows rows_are (new seen told)))))
       (as_read seen told) (ap (λ (l : Listing). l.events) is) gate_is
 
@@ -87,7 +87,7 @@ module _ {B : Type 0} (files : B → Option Files) (leaves : B → Files → Typ
     events = [];
     closed = false;
   } → gate ≡ 32
-      → log ≡ record { gate = 8; most = most_record s; named = 0; marks = unmarked s } → tally.rows ≡ replicate s.levels [] → tally.due.reports ≡ [] → IsCounted tally
+      → log ≡ record { gate = 8; most = most_record s; named = 0; places = places_at_start s } → tally.rows ≡ replicate s.levels [] → tally.due.reports ≡ [] → IsCounted tally
       → IfTold (files bay) (λ seen. AreNew s cone (leaves bay) seen) → IfTold (files bay) (leaves bay)
       → StandsFor files leaves faults (record {
         bay = bay;
@@ -107,7 +107,6 @@ module _ {B : Type 0} (files : B → Option Files) (leaves : B → Files → Typ
     counted = refl;
     within = omega arith;
     valid = subst (λ (l : Listing). IsValid l.settings) (sym is) valid;
-    ready = λ never. absurd (false≢true (ap is_broken never));
     whole = λ _ _. new_whole bay s cone tally gate log is gate_is log_is rows_are none counted new as_read;
     broken = λ never. absurd (false≢true never);
     none_over = λ _. refl;
@@ -122,7 +121,7 @@ module _ {B : Type 0} (files : B → Option Files) (leaves : B → Files → Typ
     events = [];
     closed = false;
   } → gate ≡ 32
-      → log ≡ record { gate = 8; most = most_record s; named = 0; marks = unmarked s } → tally.rows ≡ replicate s.levels [] → tally.due.reports ≡ [] → IsCounted tally
+      → log ≡ record { gate = 8; most = most_record s; named = 0; places = places_at_start s } → tally.rows ≡ replicate s.levels [] → tally.due.reports ≡ [] → IsCounted tally
       → IfTold (files bay) (λ seen. AreNew s cone (leaves bay) seen) → IfTold (files bay) (leaves bay)
       → IfTold (files made) (λ first. (history : List Packet) × IsSound tally.listing.settings tally.listing.cone history first)
   new_was_sound bay made s cone tally gate log made_is is gate_is log_is rows_are none counted new as_read first told =
@@ -130,7 +129,7 @@ module _ {B : Type 0} (files : B → Option Files) (leaves : B → Files → Typ
 
   pub new_cone : (mark : B → ℕ) (bay made : B) (s : Numbers) (cone : ℕ) (tally : Tallied) (journal : Log) (log : LogPlace) (last : LogPoint) (room keys_room : ℕ) → IsValid s →
       tally.listing ≡ record { settings = s; cone = cone; events = []; closed = false }
-      → IsCounted tally → journal ≡ record { file = 0; gate = 32; most = most_payload s } → log ≡ record { gate = 8; most = most_record s; named = 0; marks = unmarked s } → room ≡ room_of s →
+      → IsCounted tally → journal ≡ record { file = 0; gate = 32; most = most_payload s } → log ≡ record { gate = 8; most = most_record s; named = 0; places = places_at_start s } → room ≡ room_of s →
       keys_room ≡ 4 * s.packet → made ≡ bay
       → IfTold (files bay) (λ seen. AreNew s cone (leaves bay) seen)
       → IsCone files leaves faults mark (record {
@@ -171,14 +170,13 @@ module _ {B : Type 0} (files : B → Option Files) (leaves : B → Files → Typ
       named = omega (arith, ap (λ (l : LogPlace). l.named) log_is);
       near = omega (arith, ap (λ (l : LogPlace). l.gate) log_is);
       roomy = omega (arith, ap (λ (l : LogPlace). l.most) log_is, room_is);
-      same = ap (λ (l : LogPlace). l.marks.settings) log_is ∙ ap (λ (l : Listing). l.settings) (sym is);
-      passed = ap (λ (l : LogPlace). l.marks.passed) log_is ∙ ap (λ (l : Listing). length l.events) (sym is);
+      same = ap (λ (l : LogPlace). l.places.settings) log_is ∙ ap (λ (l : Listing). l.settings) (sym is);
+      passed = ap (λ (l : LogPlace). l.places.passed) log_is ∙ ap (λ (l : Listing). length l.events) (sym is);
     };
     log_shut = λ _ seen told. record {
       settled = (new seen told).log_settled;
       closed = λ image may. subst (λ g. IsClosed (image 1) g) (sym (ap (λ (l : LogPlace). l.gate) log_is)) ((new seen told).log_there image may).records_stand.closed;
     };
-    replaying = λ never. absurd (false≢true (ap is_broken never));
   }
 
   -- what was so of the files when the cone was made
@@ -198,7 +196,6 @@ module _ {B : Type 0} (files : B → Option Files) (leaves : B → Files → Typ
     counted = counted;
     within = subst (λ (s : Numbers). new.events ≤ capacity s) (sym same.settings) within;
     valid = subst IsValid (sym same.settings) stands.valid;
-    ready = λ never. absurd (false≢true (sym still ∙ ap is_broken never));
     whole = λ _ sound. whole (was_before old new same sound);
     broken = λ never. absurd (false≢true (sym still ∙ never));
     none_over = λ _. none_over;
@@ -207,17 +204,16 @@ module _ {B : Type 0} (files : B → Option Files) (leaves : B → Files → Typ
   }
 
   -- one that broke off in the middle
-  pub stands_broken : (old new : Standing B) (history : List Packet) → IsSameCone old new → is_broken new.state ≡ true → new.state ≢ Replaying → new.events ≡ old.events
+  pub stands_broken : (old new : Standing B) (history : List Packet) → IsSameCone old new → is_broken new.state ≡ true → new.events ≡ old.events
       → (new.state ≡ BrokenByBay → HasRisen (faults new.made) (faults new.bay)) → ((file at : ℕ) → new.state ≡ BrokenByRead file at → WasSound files old → files new.bay ≡ None)
       → (WasSound files old → IfTold (files new.bay) (λ seen. IsKept (leaves new.bay) seen (IsSoundOver new.listing.settings new.listing.cone history new.over))) →
       StandsFor files leaves faults old history
       → StandsFor files leaves faults new history
-  stands_broken old new history same broken ready events_are by_bay by_read kept stands = record {
+  stands_broken old new history same broken events_are by_bay by_read kept stands = record {
     some = stands.some;
     counted = stands.counted ∙ sym events_are;
     within = subst (λ (s : Numbers). new.events ≤ capacity s) (sym same.settings) (omega (arith, events_are, stands.within));
     valid = subst IsValid (sym same.settings) stands.valid;
-    ready = ready;
     whole = λ never. absurd (false≢true (sym never ∙ broken));
     broken = λ _ sound. kept (was_before old new same sound);
     none_over = λ never. absurd (false≢true (sym never ∙ broken));
@@ -281,7 +277,6 @@ module _ {B : Type 0} (files : B → Option Files) (leaves : B → Files → Typ
         shut = λ _. shut;
         logging = λ _. logging;
         log_shut = λ _. log_shut;
-        replaying = λ never. absurd (false≢true (sym (ap is_broken running) ∙ ap is_broken never));
       }
 
   -- the end
@@ -335,19 +330,18 @@ module _ {B : Type 0} (files : B → Option Files) (leaves : B → Files → Typ
     shut = λ never. absurd (false≢true (sym (ap is_finished never) ∙ ap is_finished finished));
     logging = λ never. absurd (false≢true (sym (ap is_finished never) ∙ ap is_finished finished));
     log_shut = λ never. absurd (false≢true (sym (ap is_finished never) ∙ ap is_finished finished));
-    replaying = λ never. absurd (false≢true (sym (ap is_broken finished) ∙ ap is_broken never));
   }
 
   -- one that broke off
   pub broken_cone : (mark : B → ℕ) (old new : Standing B) (tally after : Tallied) (journal journal_after : Log) (room room_after keys_room keys_room_after : ℕ)
       → is_broken new.state ≡ true →
-      new.state ≢ Replaying → new.listing.settings ≡ old.listing.settings → new.events ≡ old.events → new.made ≡ old.made
+      new.listing.settings ≡ old.listing.settings → new.events ≡ old.events → new.made ≡ old.made
       → journal_after.file ≡ journal.file → journal_after.most ≡ journal.most → room_after ≡ room → keys_room_after ≡ keys_room → faults old.bay ≤ faults new.bay
       → Turns Anything (files old.bay) (files new.bay) → mark new.bay ≡ mark old.bay →
       (new.state ≡ BrokenByBay →
       HasRisen (faults new.made) (faults new.bay))
       → IsCone files leaves faults mark old tally journal room keys_room → IsCone files leaves faults mark new after journal_after room_after keys_room_after
-  broken_cone mark old new tally after journal journal_after room room_after keys_room keys_room_after broken ready same events_are made_is file_is most_is room_is keys_room_is falls turns
+  broken_cone mark old new tally after journal journal_after room room_after keys_room keys_room_after broken same events_are made_is file_is most_is room_is keys_room_is falls turns
       marked by_bay cone =
       record {
         file = file_is ∙ cone.file;
@@ -369,5 +363,4 @@ module _ {B : Type 0} (files : B → Option Files) (leaves : B → Files → Typ
         shut = λ never. absurd (false≢true (sym (ap is_broken never) ∙ broken));
         logging = λ never. absurd (false≢true (sym (ap is_broken never) ∙ broken));
         log_shut = λ never. absurd (false≢true (sym (ap is_broken never) ∙ broken));
-        replaying = λ never. absurd (ready never);
       }

@@ -34,7 +34,7 @@ use Rattle.lert_cone.specs.Framed.{last_flush, flushed}
 use Rattle.lert_cone.specs.History.{most_payload, end_of}
 use Rattle.lert_cone.specs.InStep.{IsPartway}
 use Rattle.lert_cone.specs.Logged.{IsLogOf}
-use Rattle.lert_cone.specs.Marks.{NamesRecord, last_mark}
+use Rattle.lert_cone.specs.JournalPlaces.{NamesRecord, last_place}
 use Rattle.lert_cone.specs.Sound.{IsJournal, IsSound, IsSoundAs, HoldFrames, HoldsDirectory, but_last}
 use Rattle.lert_cone.proofs.FramedLaws.{flushed_bins}
 use Rattle.lert_cone.proofs.FlushLaws.{last_flush_within}
@@ -112,7 +112,7 @@ to_frames s events file level (bin ∷ row) holds =
 
 module _ (s : Numbers) (cone : ℕ) (history : List Packet) (events : List ℕ) (rows : List (List BinAt)) (closed : Bool) (logged : List LogRecord) (gate : ℕ)
     (valid : IsValid s) (at : IsAt s (length events) rows) (partway : IsPartway s history events []) (whole : closed ≡ true → events ≡ events_of history)
-    (log_of : IsLogOf s cone events rows closed logged) (begins : NamesRecord s history (last_n0 logged) (last_mark logged)) where
+    (log_of : IsLogOf s cone events rows closed logged) (begins : NamesRecord s history (last_n0 logged) (last_place logged)) where
   -- how many events the last record was written after
   n0_running : closed ≡ false → last_n0 logged ≡ last_flush s (length events)
   n0_running running = log_of.n0_is ∙ ap (λ t. cond t (length events) (last_flush s (length events))) running

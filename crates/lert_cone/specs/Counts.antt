@@ -43,7 +43,7 @@ pub record Flushes {B : Type 0} (bays : Bays B) (start : Dues) (m : ℕ) (bay ba
 
 -- The totals come to the reports that the event at position m brings, which level 0 has, its tail being this one: the levels
 -- are flushed where an edge moves, and the oldest bin of level 0 is dropped.
-pub record Brings {B : Type 0} (bays : Bays B) (start : Dues) (m tail : ℕ) (bay bay_after : B) (zero zero_after : Young) (levels levels_after : OnDisk) (due : Dues) (result : Result
+pub record GivesTotals {B : Type 0} (bays : Bays B) (start : Dues) (m tail : ℕ) (bay bay_after : B) (zero zero_after : Young) (levels levels_after : OnDisk) (due : Dues) (result : Result
     (Unit {0}) FlushFault) : Type 0 where
   pub young_settings : zero_after.settings ≡ zero.settings
   pub settings : levels_after.settings ≡ levels.settings

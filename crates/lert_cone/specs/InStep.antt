@@ -14,7 +14,7 @@ use Rattle.lert_spec.specs.Edges.{edge}
 use Rattle.lert_cone.specs.Framed.{last_flush}
 use Rattle.lert_cone.specs.Listing.{Listing, reports_of}
 use Rattle.lert_cone.specs.Logged.{IsLogOf}
-use Rattle.lert_cone.specs.Marks.{AreMarked, NamesRecord, last_mark}
+use Rattle.lert_cone.specs.JournalPlaces.{ArePlacesIn, NamesRecord, last_place}
 use Rattle.lert_cone.specs.Record.{LogPlace}
 use Rattle.lert_cone.specs.Sound.{IsJournal, but_last}
 use Rattle.lert_cone.specs.Tally.{Tallied}
@@ -34,9 +34,9 @@ pub record IsInStep (leaves : Files → Type 0) (seen : Files) (history : List P
   pub journal_settled : IsWhollySettled leaves seen JOURNAL
   pub log_settled : IsWhollySettled leaves seen LOG
   pub reports_are : reports ≡ reports_of listing
-  pub begins : NamesRecord listing.settings history (last_n0 logged) (last_mark logged)
-  pub marked : AreMarked history log.marks
-  pub reach : log.marks.from ≤ edge listing.settings 0 (length listing.events) + 1
+  pub begins : NamesRecord listing.settings history (last_n0 logged) (last_place logged)
+  pub placed : ArePlacesIn history log.places
+  pub reach : log.places.from ≤ edge listing.settings 0 (length listing.events) + 1
 
 -- these keys and then these begin those of the packets, and no flush of an earlier packet than the last one is left
 pub record IsPartway (s : Numbers) (history : List Packet) (events more : List ℕ) : Type 0 where
@@ -45,14 +45,14 @@ pub record IsPartway (s : Numbers) (history : List Packet) (events more : List �
   pub late : last_flush s (length (events_of (but_last history))) ≤ last_flush s (length events)
 
 -- what is so of a cone's log before its next record: the records name none but the cone's reports, a key takes a bounded
--- number of bytes of the log, and the buffer has room for a record. The marks are of these settings, after all keys
+-- number of bytes of the log, and the buffer has room for a record. The places are of these settings, after all keys
 pub record IsLogging (tally : Tallied) (log : LogPlace) (room : ℕ) : Type 0 where
   pub most : log.most ≡ most_record tally.listing.settings
   pub named : log.named ≤ length tally.due.reports
   pub near : log.gate ≤ 2 ^ 62 + 134217728 * length tally.listing.events
   pub roomy : log.most + 5 ≤ room
-  pub same : log.marks.settings ≡ tally.listing.settings
-  pub passed : log.marks.passed ≡ length tally.listing.events
+  pub same : log.places.settings ≡ tally.listing.settings
+  pub passed : log.places.passed ≡ length tally.listing.events
 
 -- the files as they are made: in every image the journal has no packet and the log no record, and both are settled
 pub record AreNew (s : Numbers) (cone : ℕ) (leaves : Files → Type 0) (seen : Files) : Type 0 where

@@ -16,7 +16,7 @@ use Rattle.lert_spec.specs.declared.numbers.Numbers.{Numbers}
 use Rattle.lert_spec.specs.Edges.{edge, capacity}
 use Rattle.lert_cone.specs.Framed.{HoldsSome}
 use Rattle.lert_cone.specs.Logged.{frames_of}
-use Rattle.lert_cone.specs.Stands.{Standing}
+use Rattle.lert_cone.specs.Replaying.{Replaying}
 
 -- ---- the frames that a log names
 
@@ -104,6 +104,6 @@ abbrev pub KeepsLogOf : {B T E : Type 0} → Bays B → Numbers → LogHead → 
 KeepsLogOf bays s old new before after result =
     IfTold (bays.files before) (λ seen. (records : List LogRecord) → IsHeadOf s records old (seen LOG) → StaysLogged bays s records seen old new before after result)
 
--- what a cone that replays goes on with
-abbrev pub head_of : {B : Type 0} → Standing B → LogHead
+-- what a cone whose journal is read again goes on with
+abbrev pub head_of : {B : Type 0} → Replaying B → LogHead
 head_of cone = record { rows = cone.rows; events = max cone.last.n0 (length cone.listing.events); gate = cone.log.gate }

@@ -8,10 +8,11 @@ pub mod KeepsLog
 pub mod Listing
 pub mod Locked
 pub mod Logged
-pub mod Marks
+pub mod JournalPlaces
 pub mod Reads
 pub mod Record
 pub mod Replay
+pub mod Replaying
 pub mod Replays
 pub mod Room
 pub mod Short

@@ -8,7 +8,7 @@ use Rattle.lert_cone.specs.declared.acked.Acked.{Acked}
 use Rattle.lert_base.specs.declared.cone_fault.ConeFault.{ConeFault}
 use Rattle.lert_base.specs.declared.cone_fault.ConeFault.TheVariants.{CapacityFull}
 use Rattle.lert_cone.specs.declared.state.ConeState.{ConeState}
-use Rattle.lert_cone.specs.declared.state.ConeState.TheVariants.{Running, Finished, BrokenByBay, BrokenByRead, Replaying}
+use Rattle.lert_cone.specs.declared.state.ConeState.TheVariants.{Running, Finished, BrokenByBay, BrokenByRead}
 use Rattle.lert_cone.specs.Stands.{Terms, WereSound}
 
 -- it may refuse every packet from now on
@@ -17,7 +17,6 @@ is_stopped Running = false
 is_stopped Finished = true
 is_stopped BrokenByBay = true
 is_stopped (BrokenByRead file at) = true
-is_stopped Replaying = true
 
 -- the reply of a cone with these terms to a packet behind a list: the positions of its first and its last key, and how many
 -- reports stand with it where the bay told its files as the cone was made, since no call changes whether it tells them

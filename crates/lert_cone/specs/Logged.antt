@@ -7,20 +7,20 @@ use Rattle.lert_reports.specs.LogText.{LogRecord}
 use Rattle.lert_spec.specs.declared.numbers.Numbers.{Numbers}
 use Rattle.lert_spec.specs.declared.report.Report.{Report}
 use Rattle.lert_spec.specs.Look.{look, closing}
-use Rattle.lert_cone.specs.declared.marks.Mark.{Mark}
+use Rattle.lert_cone.specs.declared.journal_places.JournalPlace.{JournalPlace}
 use Rattle.lert_cone.specs.Framed.{last_flush, flushed}
 
 -- the frames of each level's bins, oldest first
 abbrev pub frames_of : List (List BinAt) → List (List ℕ)
 frames_of rows = map (λ row. map (λ bin. bin.frame) row) rows
 
--- the record that stands next behind these, and names this mark: with those of the reports that they don't list
-abbrev pub next_record : LogKind → ℕ → Mark → List (List BinAt) → List LogRecord → List Report → LogRecord
-next_record kind n0 mark rows records reports = record {
+-- the record that stands next behind these, and names this place: with those of the reports that they don't list
+abbrev pub next_record : LogKind → ℕ → JournalPlace → List (List BinAt) → List LogRecord → List Report → LogRecord
+next_record kind n0 place rows records reports = record {
   kind = kind;
   n0 = n0;
-  offset = mark.gate;
-  first = mark.first;
+  offset = place.gate;
+  first = place.first;
   directory = frames_of rows;
   reports = drop (length (listed_in records)) reports;
 }

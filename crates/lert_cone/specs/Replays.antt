@@ -1,4 +1,4 @@
--- A cone that is given the packets of its journal again, and what the record at a gate makes of it.
+-- What the record at a gate makes of a cone whose journal is read again.
 use Rattle.std.specs.Prelude.{◌≡◌, ℕ, ◌+◌, ◌≤◌, max, List, [], ◌∷◌, ◌++◌, length, Option, Some, None, Result, Ok, Err}
 use Rattle.lert_base.specs.Packet.{Packet}
 use Rattle.lert_bay.specs.Files.{Files, IfTold}
@@ -14,38 +14,36 @@ use Rattle.lert_levels.specs.declared.rows.bin_at.BinAt.{BinAt}
 use Rattle.lert_spec.specs.declared.report.Report.{Report}
 use Rattle.lert_cone.specs.declared.refusal.ReplayFault.{ReplayFault}
 use Rattle.lert_cone.specs.declared.refusal.ReplayFault.TheVariants.{Failed, Malformed, Unsound}
-use Rattle.lert_cone.specs.declared.state.ConeState.{ConeState}
-use Rattle.lert_cone.specs.declared.state.ConeState.TheVariants.{BrokenByBay, BrokenByRead, Replaying}
 use Rattle.lert_cone.specs.declared.tally.TakeFault.{TakeFault}
 use Rattle.lert_cone.specs.declared.tally.TakeFault.TheVariants.{Failed as TakeFailed, Unsound as TakeUnsound}
 use Rattle.lert_cone.specs.Framed.{last_flush}
 use Rattle.lert_cone.specs.History.{most_payload}
 use Rattle.lert_cone.specs.Record.{LogPlace}
 use Rattle.lert_cone.specs.Replay.{IsOnWay, IsPast, MayFollow, ReplayLeavesAt}
-use Rattle.lert_cone.specs.Stands.{Standing}
+use Rattle.lert_cone.specs.Replaying.{Replaying}
 use Rattle.lert_cone.specs.Wrote.{IsShutIfTold}
 
 -- the cone has the keys of the first packets of its journal, which is that of a history, and where its bay tells its files, these and
 -- its memory are on their way through it
-pub record Replays {B : Type 0} (files : B → Option Files) (leaves : B → Files → Type 0) (cone : Standing B) (history done : List Packet) : Type 0 where
-  pub state_is : cone.state ≡ Replaying
+pub record Replays {B : Type 0} (files : B → Option Files) (leaves : B → Files → Type 0) (cone : Replaying B) (history done : List Packet) : Type 0 where
+  pub taking : cone.stopped ≡ None
   pub past : IsPast history done cone.listing.events cone.gate
   pub on_way : IfTold (files cone.bay) (λ seen. IsOnWay (leaves cone.bay) seen history cone.listing cone.rows cone.reports cone.log cone.last.n0)
 
 -- a packet that this cone's journal may hold stands in a file at a gate
-abbrev pub HoldsNext : {B : Type 0} → Standing B → List ℕ → ℕ → Packet → Type 0
+abbrev pub HoldsNext : {B : Type 0} → Replaying B → List ℕ → ℕ → Packet → Type 0
 HoldsNext cone bytes gate packet = HoldsPacket cone.listing.settings cone.listing.cone (most_payload cone.listing.settings) bytes gate packet
 
 -- and may stand behind the keys that the cone has
-abbrev pub MayTake : {B : Type 0} → Standing B → Packet → Type 0
+abbrev pub MayTake : {B : Type 0} → Replaying B → Packet → Type 0
 MayTake cone packet = MayFollow cone.listing.settings cone.last.n0 cone.last.closed (length cone.listing.events) packet
 
 -- the place at which what stands at a gate leaves the format, behind the keys that the cone has
-abbrev pub LeavesBehind : {B : Type 0} → Standing B → List ℕ → ℕ → ℕ → Type 0
+abbrev pub LeavesBehind : {B : Type 0} → Replaying B → List ℕ → ℕ → ℕ → Type 0
 LeavesBehind cone bytes gate at = ReplayLeavesAt cone.listing.settings cone.listing.cone cone.last.n0 cone.last.closed (length cone.listing.events) bytes gate at
 
 -- a cone with the keys of a packet more, and what that makes of the rest
-abbrev pub with_packet : {B : Type 0} → Standing B → Packet → ℕ → B → List (List BinAt) → List Report → LogPlace → Standing B
+abbrev pub with_packet : {B : Type 0} → Replaying B → Packet → ℕ → B → List (List BinAt) → List Report → LogPlace → Replaying B
 with_packet cone packet gate bay rows reports log = record cone {
   bay = bay;
   listing = record cone.listing { events = cone.listing.events ++ packet.keys };
@@ -57,7 +55,7 @@ with_packet cone packet gate bay rows reports log = record cone {
 }
 
 -- a packet was taken that stands at a gate, where the files are told
-pub record HasTaken {B : Type 0} (files : B → Option Files) (old new : Standing B) (gate next : ℕ) : Type 0 where
+pub record HasTaken {B : Type 0} (files : B → Option Files) (old new : Replaying B) (gate next : ℕ) : Type 0 where
   pub packet : Packet
   pub stands : IfTold (files old.bay) (λ seen. HoldsNext old (seen JOURNAL) gate packet)
   pub journaled : IsJournaled old.listing.settings old.listing.cone packet
@@ -66,7 +64,7 @@ pub record HasTaken {B : Type 0} (files : B → Option Files) (old new : Standin
   pub is : new ≡ with_packet old packet next new.bay new.rows new.reports new.log
 
 -- a closed gate was found, where the files are told, behind enough keys, and nothing else changed
-pub record HasEnded {B : Type 0} (files : B → Option Files) (leaves : B → Files → Type 0) (old new : Standing B) (gate : ℕ) : Type 0 where
+pub record HasEnded {B : Type 0} (files : B → Option Files) (leaves : B → Files → Type 0) (old new : Replaying B) (gate : ℕ) : Type 0 where
   pub enough : old.last.n0 ≤ length old.listing.events
   pub stands : IfTold (files old.bay) (λ seen. IsClosed (seen JOURNAL) gate)
   pub shut : IsShutIfTold (files new.bay) (leaves new.bay) JOURNAL gate
@@ -76,7 +74,7 @@ pub record HasEnded {B : Type 0} (files : B → Option Files) (leaves : B → Fi
 
 -- No flush comes with what stands at a gate of told files: behind the keys of a packet there that the cone may take the last flush
 -- position is n0 at most, or one of the keys so far.
-abbrev pub BringsNoFlush : {B : Type 0} → Standing B → List ℕ → ℕ → Type 0
+abbrev pub BringsNoFlush : {B : Type 0} → Replaying B → List ℕ → ℕ → Type 0
 BringsNoFlush cone bytes gate = (packet : Packet) → HoldsNext cone bytes gate packet → MayTake cone packet →
     last_flush cone.listing.settings (length cone.listing.events + length packet.keys) ≤ max cone.last.n0 (length cone.listing.events)
 
@@ -88,26 +86,26 @@ pub record IsUnwritten {B : Type 0} (bays : Bays B) (before after : B) : Type 0 
   pub moments : (image : Files) → bays.left_since after (bays.moment before) image → bays.leaves before image
 
 -- a packet stands at a gate that the cone may take
-pub record IsThere {B : Type 0} (cone : Standing B) (bytes : List ℕ) (gate : ℕ) : Type 0 where
+pub record IsThere {B : Type 0} (cone : Replaying B) (bytes : List ℕ) (gate : ℕ) : Type 0 where
   pub packet : Packet
   pub stands : HoldsNext cone bytes gate packet
   pub follows : MayTake cone packet
 
 -- what stands at a gate of told files where a record isn't taken: a place at which the format is left; or a packet, of which
 -- the keys weren't all taken
-abbrev pub WhyRefused : {B : Type 0} → Standing B → List ℕ → ℕ → ReplayFault → Type 0
+abbrev pub WhyRefused : {B : Type 0} → Replaying B → List ℕ → ℕ → ReplayFault → Type 0
 WhyRefused cone bytes gate Failed = Unit {0}
 WhyRefused cone bytes gate (Malformed at) = LeavesBehind cone bytes gate at
 WhyRefused cone bytes gate (Unsound file at) = IsThere cone bytes gate
 
 -- what becomes of a cone on its way through the journal of a history, of whose first packets it has the keys: it took one more,
 -- or it has those of all; or a call of its bay failed
-abbrev pub GoesOn : {B : Type 0} → (B → Option Files) → (B → Files → Type 0) → Standing B → List Packet → List Packet → Result (Option ℕ) ReplayFault → Type 0
+abbrev pub GoesOn : {B : Type 0} → (B → Option Files) → (B → Files → Type 0) → Replaying B → List Packet → List Packet → Result (Option ℕ) ReplayFault → Type 0
 GoesOn files leaves new history done (Ok (Some next)) = (packet : Packet) × Replays files leaves new history (done ++ packet ∷ [])
 GoesOn files leaves new history done (Ok None) = (done ≡ history) × Replays files leaves new history done
 GoesOn files leaves new history done (Err fault) = fault ≡ Failed
 
--- why a record isn't taken, and the state that this leaves
+-- why a record isn't taken
 abbrev pub of_take_fault : TakeFault → ReplayFault
 of_take_fault TakeFailed = Failed
 of_take_fault (TakeUnsound file at) = Unsound file at
@@ -115,8 +113,3 @@ of_take_fault (TakeUnsound file at) = Unsound file at
 abbrev pub of_log_fault : LogFault → ReplayFault
 of_log_fault LogFailed = Failed
 of_log_fault (LogMalformed at) = Malformed at
-
-abbrev pub broken_after : ReplayFault → ConeState
-broken_after Failed = BrokenByBay
-broken_after (Malformed at) = BrokenByRead JOURNAL at
-broken_after (Unsound file at) = BrokenByRead file at

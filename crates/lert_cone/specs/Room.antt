@@ -12,7 +12,7 @@ use Rattle.lert_spec.specs.Limits.{IsValid}
 use Rattle.lert_spec.specs.Mix.{cone_of}
 use Rattle.lert_reports.specs.declared.log_point.LogPoint.{LogPoint}
 use Rattle.lert_cone.specs.History.{most_payload}
-use Rattle.lert_cone.specs.Marks.{MayName}
+use Rattle.lert_cone.specs.JournalPlaces.{MayName}
 
 -- the bytes of the greatest text that is appended, a packet's or a log record's: its length, its payload and the next gate
 abbrev pub room_of : Numbers → ℕ

@@ -19,7 +19,7 @@ use Rattle.lert_spec.specs.Edges.{capacity}
 use Rattle.lert_spec.specs.Look.{look, closing}
 use Rattle.lert_cone.specs.Framed.{last_flush}
 use Rattle.lert_cone.specs.History.{most_payload, end_of}
-use Rattle.lert_cone.specs.Marks.{NamesRecord, last_mark}
+use Rattle.lert_cone.specs.JournalPlaces.{NamesRecord, last_place}
 
 -- ---- the journal
 
@@ -72,7 +72,7 @@ pub record IsSound (s : Numbers) (cone : ℕ) (history : List Packet) (files : F
   pub frames : HoldsDirectory s (take (last_n0 logged) (events_of history)) (last_directory s logged) (files FRAMES)
   pub reports_are : listed_in logged ≡ (if is_closed logged then closing s (events_of history) else look s (take (last_n0 logged) (events_of history)))
   pub closed_behind : is_closed logged ≡ true → last_n0 logged ≡ length (events_of history)
-  pub begins : NamesRecord s history (last_n0 logged) (last_mark logged)
+  pub begins : NamesRecord s history (last_n0 logged) (last_place logged)
 
 -- sound, and its last record is a closing one or not: a closing one stands behind all events, and where there is none the
 -- last one stands at the last flush position

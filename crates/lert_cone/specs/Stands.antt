@@ -1,5 +1,5 @@
 -- What a cone is seen as, and which lists of packets it stands for.
-use Rattle.std.specs.Prelude.{◌≡◌, ◌≢◌, ℕ, ◌+◌, ◌*◌, ◌^◌, ◌<◌, ◌≤◌, Bool, true, false, List, [], ◌∷◌, ◌++◌, length, All, Option, None, option_map}
+use Rattle.std.specs.Prelude.{◌≡◌, ℕ, ◌+◌, ◌*◌, ◌^◌, ◌<◌, ◌≤◌, Bool, true, false, List, [], ◌∷◌, ◌++◌, length, All, Option, None, option_map}
 use Rattle.std.specs.declared.snapshot.Snapshot.{Snapshot}
 use Rattle.lert_base.specs.declared.entry.Entry.{Entry}
 use Rattle.lert_base.specs.Entries.{packet_of}
@@ -7,7 +7,6 @@ use Rattle.lert_base.specs.Packet.{Packet, events_of}
 use Rattle.lert_bay.specs.Files.{Files, IfTold, Turns}
 use Rattle.lert_bay.specs.declared.bay.TheConstants.{JOURNAL, LOG}
 use Rattle.lert_gatelog.specs.Gated.{Log}
-use Rattle.lert_gatelog.specs.Kept.{IsWhollySettled}
 use Rattle.lert_io.specs.Fault.{HasRisen}
 use Rattle.lert_levels.specs.declared.rows.bin_at.BinAt.{BinAt}
 use Rattle.lert_spec.specs.declared.numbers.Numbers.{Numbers}
@@ -16,7 +15,7 @@ use Rattle.lert_spec.specs.Edges.{capacity}
 use Rattle.lert_spec.specs.Limits.{IsValid}
 use Rattle.lert_spec.specs.Look.{look}
 use Rattle.lert_cone.specs.declared.state.ConeState.{ConeState}
-use Rattle.lert_cone.specs.declared.state.ConeState.TheVariants.{Running, Finished, BrokenByBay, BrokenByRead, Replaying}
+use Rattle.lert_cone.specs.declared.state.ConeState.TheVariants.{Running, Finished, BrokenByBay, BrokenByRead}
 use Rattle.lert_reports.specs.declared.log_point.LogPoint.{LogPoint}
 use Rattle.lert_cone.specs.declared.acked.Acked.{Acked}
 use Rattle.lert_base.specs.declared.cone_fault.ConeFault.{ConeFault}
@@ -27,25 +26,23 @@ use Rattle.lert_cone.specs.Listing.{Listing}
 use Rattle.lert_cone.specs.Record.{LogPlace}
 use Rattle.lert_cone.specs.Room.{room_of}
 use Rattle.lert_cone.specs.Sound.{IsSound, IsSoundAs, IsSoundOver, IsKept, IsKeptWhole}
-use Rattle.lert_cone.specs.Tally.{Tallied, IsCounted, IsRecounted}
+use Rattle.lert_cone.specs.Tally.{Tallied, IsCounted}
 use Rattle.lert_cone.specs.Wrote.{Anything, IsShutIfTold}
 use Rattle.lert_cone.specs.declared.tally.TakeFault.{TakeFault}
 use Rattle.lert_cone.specs.declared.tally.TakeFault.TheVariants.{Failed as TakeFailed, Unsound as TakeUnsound}
 
--- it takes no packet and doesn't end: a call broke off in the middle, and none writes any more, or its packets aren't all read yet
+-- a call broke off in the middle, and none writes any more
 abbrev pub is_broken : ConeState → Bool
 is_broken Running = false
 is_broken Finished = false
 is_broken BrokenByBay = true
 is_broken (BrokenByRead file at) = true
-is_broken Replaying = true
 
 abbrev pub is_finished : ConeState → Bool
 is_finished Running = false
 is_finished Finished = true
 is_finished BrokenByBay = false
 is_finished (BrokenByRead file at) = false
-is_finished Replaying = false
 
 -- a call was refused before its first step
 abbrev pub is_refusal : ConeFault → Bool
@@ -91,25 +88,37 @@ pub record IsSameCone {B : Type 0} (old new : Standing B) : Type 0 where
   pub made : new.made ≡ old.made
   pub last : new.last ≡ old.last
 
--- What a cone shows of itself under a lock, and no packet changes: its settings, its number, whether it is finished, and its bay
--- as it was when the cone was made. Whether that told its files, its count of faults and its mark are read off it
+-- What a cone shows of itself under a lock, and no packet changes: its settings, its number, its bay as it was when the cone was
+-- made, off which it is read whether that told its files, whether the cone is finished, and that bay's count of faults and its mark
 pub record Terms (B : Type 0) : Type 0 where
   pub settings : Numbers
   pub cone : ℕ
-  pub finished : Bool
   pub made : B
+  pub finished : Bool
+  pub faults : ℕ
+  pub mark : ℕ
 
-abbrev pub terms_of : {B : Type 0} → Standing B → Terms B
-terms_of cone = record { settings = cone.listing.settings; cone = cone.listing.cone; finished = is_finished cone.state; made = cone.made }
+abbrev pub terms_of : {B : Type 0} → (B → ℕ) → (B → ℕ) → Standing B → Terms B
+terms_of faults mark cone = record {
+  settings = cone.listing.settings;
+  cone = cone.listing.cone;
+  made = cone.made;
+  finished = is_finished cone.state;
+  faults = faults cone.made;
+  mark = mark cone.made;
+}
 
--- when a cone of these terms was made, its files were sound for a list, where its bay told them. There may be such a list or not,
--- which is no value that a program can keep; so it is said of the terms
+-- as a bay was when a cone was made over it, its files were sound for a list, where it told them. There may be such a list or not,
+-- which is no value that a program can keep
+abbrev pub WereSoundAs : {B : Type 0} → (B → Option Files) → Numbers → ℕ → B → Type 0
+WereSoundAs files s cone made = IfTold (files made) (λ first. (history : List Packet) × IsSound s cone history first)
+
+-- so by the terms of a cone, and of a cone itself
 abbrev pub WereSound : {B : Type 0} → (B → Option Files) → Terms B → Type 0
-WereSound files terms = IfTold (files terms.made) (λ first. (history : List Packet) × IsSound terms.settings terms.cone history first)
+WereSound files terms = WereSoundAs files terms.settings terms.cone terms.made
 
--- so of a cone, by its terms
 abbrev pub WasSound : {B : Type 0} → (B → Option Files) → Standing B → Type 0
-WasSound files cone = WereSound files (terms_of cone)
+WasSound files cone = WereSoundAs files cone.listing.settings cone.listing.cone cone.made
 
 -- A cone that isn't broken stands for a list, where its bay tells its files. As a read gives them, and in every image, they
 -- are sound for it, with a closing record exactly where the cone is finished, and with the last record of a running one
@@ -123,7 +132,7 @@ pub record IsWhole (leaves : Files → Type 0) (seen : Files) (listing : Listing
     pub in_step : IsInStep leaves seen history listing rows reports log
 
 -- A cone stands for a list of packets. Each has a key, and together they have as many as the cone acknowledged, which are
--- no more than it takes, and all are read. Where its bay tells its files, they are sound for the list; of a broken cone for
+-- no more than it takes. Where its bay tells its files, they are sound for the list; of a broken cone for
 -- the list or for the list and the packet that was left over. It is broken by its bay only where the bay's count of faults
 -- rose since the cone was made, and by a read only where the bay doesn't tell its files. Where the bay told files that were
 -- sound for no list when the cone was made, nothing is said of them, as of files that aren't told.
@@ -132,7 +141,6 @@ pub record StandsFor {B : Type 0} (files : B → Option Files) (leaves : B → F
   pub counted : length (events_of history) ≡ cone.events
   pub within : cone.events ≤ capacity cone.listing.settings
   pub valid : IsValid cone.listing.settings
-  pub ready : cone.state ≢ Replaying
   pub whole : is_broken cone.state ≡ false → WasSound files cone → IfTold (files cone.bay)
       (λ seen. IsWhole (leaves cone.bay) seen cone.listing cone.rows cone.reports cone.gate cone.log history)
   pub broken : is_broken cone.state ≡ true → WasSound files cone → IfTold (files cone.bay) (λ seen.
@@ -140,19 +148,6 @@ pub record StandsFor {B : Type 0} (files : B → Option Files) (leaves : B → F
   pub none_over : is_broken cone.state ≡ false → cone.over ≡ None
   pub by_bay : cone.state ≡ BrokenByBay → HasRisen (faults cone.made) (faults cone.bay)
   pub by_read : (file at : ℕ) → cone.state ≡ BrokenByRead file at → WasSound files cone → files cone.bay ≡ None
-
--- what is so of a cone that replays, of its counts and of the room of its buffer: nothing is left over, its counts are those of
--- its keys, up to the place of the log's last record as far as level 0 goes, and a key takes at most 21 bytes of its journal.
--- The journal and the log are settled, and the log's gate is closed in every image
-pub record IsReplaying {B : Type 0} (files : B → Option Files) (leaves : B → Files → Type 0) (cone : Standing B) (tally : Tallied) (room : ℕ) : Type 0 where
-  pub none_over : cone.over ≡ None
-  pub counted : length cone.listing.events ≡ cone.events
-  pub recounted : IsRecounted tally cone.last.n0
-  pub closed : cone.listing.closed ≡ cone.last.closed
-  pub near : cone.gate ≤ 2 ^ 62 + 21 * cone.events
-  pub journal_settled : IfTold (files cone.bay) (λ seen. IsWhollySettled (leaves cone.bay) seen JOURNAL)
-  pub logging : IsLogging tally cone.log room
-  pub log_shut : IsShutIfTold (files cone.bay) (leaves cone.bay) LOG cone.log.gate
 
 -- what is so of every cone, of its journal's place and of the rooms of its buffer and of its list of keys. Its bay is the one
 -- that it was made with, which tells its files exactly where it did then. A cone that isn't broken has nothing left over, its
@@ -178,7 +173,6 @@ pub record IsCone {B : Type 0} (files : B → Option Files) (leaves : B → File
   pub shut : cone.state ≡ Running → IsShutIfTold (files cone.bay) (leaves cone.bay) JOURNAL cone.gate
   pub logging : cone.state ≡ Running → IsLogging tally cone.log room
   pub log_shut : cone.state ≡ Running → IsShutIfTold (files cone.bay) (leaves cone.bay) LOG cone.log.gate
-  pub replaying : cone.state ≡ Replaying → IsReplaying files leaves cone tally room
 
 -- the reply of a cone to a packet behind a list: the positions of its first and its last key, and, where its bay tells its
 -- files, how many reports stand with it

@@ -9,14 +9,14 @@ use Rattle.lert_gatelog.specs.Gated.{Log, next_gate}
 use Rattle.lert_journal.specs.Payload.{IsJournaled, payload_of}
 use Rattle.lert_spec.specs.Edges.{capacity}
 use Rattle.lert_spec.specs.Mix.{cone_of}
-use Rattle.lert_cone.specs.declared.marks.Mark.{Mark}
+use Rattle.lert_cone.specs.declared.journal_places.JournalPlace.{JournalPlace}
 use Rattle.lert_cone.specs.declared.tally.TakeFault.{TakeFault}
 use Rattle.lert_cone.specs.declared.tally.TakeFault.TheVariants.{Failed, Unsound}
 use Rattle.lert_cone.specs.Framed.{HoldsSome, last_flush}
 use Rattle.lert_cone.specs.History.{most_payload}
 use Rattle.lert_cone.specs.InStep.{IsInStep, IsLogging, IsPartway}
 use Rattle.lert_cone.specs.KeepsLog.{LogHead, KeepsLogOf}
-use Rattle.lert_cone.specs.Marks.{AreOfRecord}
+use Rattle.lert_cone.specs.JournalPlaces.{AreOfRecord}
 use Rattle.lert_cone.specs.Record.{LogPlace}
 use Rattle.lert_cone.specs.Replay.{IsOnWay}
 use Rattle.lert_cone.specs.Sound.{IsSound, IsSoundOver}
@@ -55,9 +55,9 @@ pub record CanTake {B : Type 0} (bays : Bays B) (keys : List ℕ) (at : Workplac
 abbrev pub AreInStep : {B : Type 0} → Bays B → Workplace B → Files → List Packet → Type 0
 AreInStep bays at seen history = IsInStep (bays.leaves at.bay) seen history at.counts.listing at.counts.rows at.counts.due.reports at.log
 
--- the next keys, so many, are those of the journal's record at a mark
-abbrev pub AreNext : {B : Type 0} → List Packet → Mark → Workplace B → List ℕ → Type 0
-AreNext history mark at keys = AreOfRecord history mark (length at.counts.listing.events) (length at.counts.listing.events + length keys)
+-- the next keys, so many, are those of the journal's record at a place
+abbrev pub AreNext : {B : Type 0} → List Packet → JournalPlace → Workplace B → List ℕ → Type 0
+AreNext history place at keys = AreOfRecord history place (length at.counts.listing.events) (length at.counts.listing.events + length keys)
 
 -- and the journal is that of these packets, up to its gate
 abbrev pub IsWholeAt : {B : Type 0} → Bays B → Workplace B → Log → Files → List Packet → Type 0
@@ -71,21 +71,21 @@ pub record KeepsJournal {B : Type 0} (bays : Bays B) (old new : Workplace B) (re
   pub most : new.log.most ≡ old.log.most
   pub kept : KeepsBay bays old.bay new.bay (IsErrOf result Failed)
 
--- Keys are taken, of the journal's record at a mark. Where the bay tells its files, and these went together with memory, for a
+-- Keys are taken, of the journal's record at a place. Where the bay tells its files, and these went together with memory, for a
 -- list of which that record holds the keys, they do so again, and they are sound in each image of each moment; no frame is found
 -- malformed then, nor where the frames hold the bins of some events, whatever these are, as they do again. The log keeps its records,
 -- also where the files are sound for no list. Where no flush position lies among the keys no call of the bay is made.
-pub record TakesKeys {B : Type 0} (bays : Bays B) (mark : Mark) (keys : List ℕ) (old new : Workplace B) (result : Result (Unit {0}) TakeFault) : Type 0 where
+pub record TakesKeys {B : Type 0} (bays : Bays B) (place : JournalPlace) (keys : List ℕ) (old new : Workplace B) (result : Result (Unit {0}) TakeFault) : Type 0 where
   pub listing : new.counts.listing ≡ record old.counts.listing { events = new.counts.listing.events }
   pub taken : OnOk result (new.counts.listing.events ≡ old.counts.listing.events ++ keys)
   pub counted : OnOk result (IsCounted new.counts)
   pub can_log : OnOk result (CanLog bays new)
-  pub in_step : IfTold (bays.files old.bay) (λ seen. (history : List Packet) → AreNext history mark old keys → AreInStep bays old seen history →
+  pub in_step : IfTold (bays.files old.bay) (λ seen. (history : List Packet) → AreNext history place old keys → AreInStep bays old seen history →
       OnOk result (IfTold (bays.files new.bay) (λ after. AreInStep bays new after history)))
-  pub each_moment : IfTold (bays.files old.bay) (λ seen. (history : List Packet) → AreNext history mark old keys →
+  pub each_moment : IfTold (bays.files old.bay) (λ seen. (history : List Packet) → AreNext history place old keys →
       IsPartway old.counts.listing.settings history old.counts.listing.events keys → AreInStep bays old seen history →
       (image : Files) → bays.left_since new.bay (bays.moment old.bay) image → IsSound old.counts.listing.settings old.counts.listing.cone history image)
-  pub sound : IfTold (bays.files old.bay) (λ seen. (history : List Packet) → AreNext history mark old keys → AreInStep bays old seen history →
+  pub sound : IfTold (bays.files old.bay) (λ seen. (history : List Packet) → AreNext history place old keys → AreInStep bays old seen history →
       (file at : ℕ) → result ≢ Err (Unsound file at))
   pub framed : IfTold (bays.files old.bay) (λ seen. HoldsSome old.counts.listing.settings (length old.counts.listing.events) old.counts.rows (seen FRAMES) →
       OnOk result (IfTold (bays.files new.bay) (λ after. HoldsSome new.counts.listing.settings (length new.counts.listing.events) new.counts.rows (after FRAMES))))
@@ -139,24 +139,24 @@ pub record CanReplay {B : Type 0} (bays : Bays B) (n0 : ℕ) (keys : List ℕ) (
   pub recounted : IsRecounted at.counts n0
   pub can_log : CanLog bays at
 
--- They are taken, of the journal's record at a mark. Where the bay tells its files, and these and memory were on their way through
+-- They are taken, of the journal's record at a place. Where the bay tells its files, and these and memory were on their way through
 -- a journal that has these keys next, in that record, they are so behind them, the files are sound for its packets in each image
 -- of each moment, and no frame is found malformed; nor is one where the frames hold the bins of some events. The log keeps its records,
 -- also where the files are sound for no list. Where no flush position behind n0 lies among the keys no call of the bay is made.
-pub record ReplaysKeys {B : Type 0} (bays : Bays B) (n0 : ℕ) (mark : Mark) (keys : List ℕ) (old new : Workplace B) (result : Result (Unit {0}) TakeFault) : Type 0 where
+pub record ReplaysKeys {B : Type 0} (bays : Bays B) (n0 : ℕ) (place : JournalPlace) (keys : List ℕ) (old new : Workplace B) (result : Result (Unit {0}) TakeFault) : Type 0 where
   pub listing : new.counts.listing ≡ record old.counts.listing { events = new.counts.listing.events }
   pub taken : OnOk result (new.counts.listing.events ≡ old.counts.listing.events ++ keys)
   pub recounted : OnOk result (IsRecounted new.counts n0)
   pub can_log : OnOk result (CanLog bays new)
   pub on_way : IfTold (bays.files old.bay) (λ seen. (history : List Packet) (rest : List ℕ) → events_of history ≡ old.counts.listing.events ++ (keys ++ rest) →
-      AreNext history mark old keys →
+      AreNext history place old keys →
       IsOnWay (bays.leaves old.bay) seen history old.counts.listing old.counts.rows old.counts.due.reports old.log n0 →
       OnOk result (IfTold (bays.files new.bay) (λ after. IsOnWay (bays.leaves new.bay) after history new.counts.listing new.counts.rows new.counts.due.reports new.log n0)))
   pub sound : IfTold (bays.files old.bay) (λ seen. (history : List Packet) (rest : List ℕ) → events_of history ≡ old.counts.listing.events ++ (keys ++ rest) →
-      AreNext history mark old keys →
+      AreNext history place old keys →
       IsOnWay (bays.leaves old.bay) seen history old.counts.listing old.counts.rows old.counts.due.reports old.log n0 → (file at : ℕ) → result ≢ Err (Unsound file at))
   pub each_moment : IfTold (bays.files old.bay) (λ seen. (history : List Packet) (rest : List ℕ) → events_of history ≡ old.counts.listing.events ++ (keys ++ rest) →
-      AreNext history mark old keys →
+      AreNext history place old keys →
       IsOnWay (bays.leaves old.bay) seen history old.counts.listing old.counts.rows old.counts.due.reports old.log n0 →
       (image : Files) → bays.left_since new.bay (bays.moment old.bay) image → IsSound old.counts.listing.settings old.counts.listing.cone history image)
   pub unflushed : last_flush old.counts.listing.settings (length old.counts.listing.events + length keys) ≤ max n0 (length old.counts.listing.events) → new.bay ≡ old.bay

@@ -16,7 +16,7 @@ ghost use Rattle.lert_spec.specs.Look.{look, closing};
 ghost use Rattle.lert_spec.specs.Timely.{IsTimely, IsTimelySoFar};
 ghost use Rattle.lert_cone.specs.History.{most_payload};
 ghost use Rattle.lert_cone.specs.InStep.{AreNew};
-ghost use Rattle.lert_cone.specs.Marks.{unmarked};
+ghost use Rattle.lert_cone.specs.JournalPlaces.{places_at_start};
 ghost use Rattle.lert_cone.specs.Room.{IsRoom};
 ghost use Rattle.lert_cone.specs.Sound.{AreEmpty, FramesStay, IsSound, IsSoundClosed, IsSoundOver, IsKept};
 ghost use Rattle.lert_cone.specs.Stands.{StandsFor, WasSound, Answers, IsSameCone, is_broken, is_finished, is_refusal, broken_by};
@@ -40,9 +40,10 @@ use std::snapshot::Snapshot;
 
 mod end;
 mod held;
-mod replay;
+mod replaying;
 mod terms;
 
+pub use replaying::ReplayingCone;
 pub use terms::ConeTerms;
 
 /// A cone that acknowledges a packet only when its record is on the disk.
@@ -120,7 +121,7 @@ impl<B: Bay, T: CountTable> Cone<B, T> {
           state = ConeState.Running;
           over = None;
           gate = 32;
-          log = record { gate = 8; most = most_record room.settings; named = 0; marks = unmarked room.settings };
+          log = record { gate = 8; most = most_record room.settings; named = 0; places = places_at_start room.settings };
           last = record { n0 = 0; offset = 32; first = 1; closed = false; log_end = 8 };
         }) }
         ensures was_sound { IfOk result (λ c. WasSound B.files c) }
@@ -316,7 +317,6 @@ impl<B: Bay, T: CountTable> Cone<B, T> {
             ConeState::Finished => Err(ConeFault::Closed),
             ConeState::BrokenByBay => Err(ConeFault::Broken),
             ConeState::BrokenByRead { .. } => Err(ConeFault::Broken),
-            ConeState::Replaying => Err(ConeFault::Broken),
         }
     }
 }
@@ -329,7 +329,7 @@ fn begin<B: Bay>(
 ) -> Result<(GateLog, ReportLog), CreateFault>
     requires named { cone < 2 ^ settings.now.cone_bits }
     ensures journal { IfOk result (λ logs. logs.0 ≡ record { file = JOURNAL; gate = 32; most = most_payload settings.now }) }
-    ensures log { IfOk result (λ logs. logs.1 ≡ record { gate = 8; most = most_record settings.now; named = 0; marks = unmarked settings.now }) }
+    ensures log { IfOk result (λ logs. logs.1 ≡ record { gate = 8; most = most_record settings.now; named = 0; places = places_at_start settings.now }) }
     ensures begun { OnOk result (IfTold (B.files bay.new) (λ seen. AreNew settings.now cone (B.leaves bay.new) seen)) }
     ensures fresh { IfTold (B.files bay.old) (λ seen. OnOk result (AreEmpty seen)) }
     ensures not_fresh { IfTold (B.files bay.old) (λ seen. IsErrOf result CreateFault.NotFresh → AreEmpty seen → ⊥) }

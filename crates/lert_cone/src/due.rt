@@ -121,7 +121,7 @@ impl<T: CountTable> Due<T> {
         &self.store
     }
 
-    /// Whether a report found no room since the totals began. The reports then fill it.
+    /// Whether a report was due since the totals began that the report room doesn't take. The reports then fill it.
     pub fn is_full(&self) -> bool
         ensures value { result ≡ self.now.is_full }
         ensures full { IsTrue result → length self.now.reports ≡ self.now.settings.room }
@@ -129,7 +129,7 @@ impl<T: CountTable> Due<T> {
         self.is_full
     }
 
-    // Takes the total of a tail, a report where it is due and there is room.
+    // Takes the total of a tail, a report where it is due and the report room takes it.
     fn take_total(&mut self, piece: &Piece)
         requires { piece.now.tail < 2 ^ (64 - self.old.settings.cone_bits) }
         ensures { self.new ≡ with_total self.old piece.now }

@@ -6,7 +6,7 @@ ghost use Rattle.lert_bay.specs.Kept.{KeepsBay, OnlyReads};
 ghost use Rattle.lert_bay.specs.declared.bay.TheConstants.{JOURNAL};
 ghost use Rattle.lert_cone.specs.History.{most_payload};
 ghost use Rattle.lert_reports.specs.Log.{most_record};
-ghost use Rattle.lert_cone.specs.Marks.{unmarked};
+ghost use Rattle.lert_cone.specs.JournalPlaces.{places_at_start};
 ghost use Rattle.lert_cone.specs.Sound.{AreEmpty, FramesStay};
 ghost use Rattle.lert_cone.specs.InStep.{AreNew};
 
@@ -63,7 +63,7 @@ pub fn write_headers<B: Bay>(
     requires named { cone < 2 ^ settings.now.cone_bits }
     requires fresh { IfTold (B.files bay.old) (λ seen. AreEmpty seen) }
     ensures journal { IfOk result (λ logs. logs.0 ≡ record { file = JOURNAL; gate = 32; most = most_payload settings.now }) }
-    ensures log { IfOk result (λ logs. logs.1 ≡ record { gate = 8; most = most_record settings.now; named = 0; marks = unmarked settings.now }) }
+    ensures log { IfOk result (λ logs. logs.1 ≡ record { gate = 8; most = most_record settings.now; named = 0; places = places_at_start settings.now }) }
     ensures begun { OnOk result (IfTold (B.files bay.new) (λ seen. AreNew settings.now cone (B.leaves bay.new) seen)) }
     ensures frames { Turns FramesStay (B.files bay.old) (B.files bay.new) }
     ensures kept { KeepsBay B.Bay bay.old bay.new (IsErr result) }

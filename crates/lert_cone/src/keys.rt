@@ -8,7 +8,7 @@ ghost use Rattle.lert_cone.specs.Appends.{AppendsRecord};
 ghost use Rattle.lert_cone.specs.Takes.{CanLog, CanReplay, CanTake, CanTakePacket, ReplaysKeys, TakesEnd, TakesKeys, TakesPacket};
 ghost use Rattle.lert_cone.specs.Tally.{IsCounted, IsRecounted};
 
-use crate::marks::Mark;
+use crate::journal_places::JournalPlace;
 use crate::report_log::ReportLog;
 use crate::tally::{TakeFault, Tally};
 use lert_base::{CountTable, Entry};
@@ -42,51 +42,51 @@ pub fn take_packet<B: Bay, T: CountTable>(
         (record { bay = bay.new; counts = tally.new; log = log.new; room = length buffer.new }) journal.old journal.new result }
 {
     let keys = keys_of(entry);
-    let mark = Mark {
+    let place = JournalPlace {
         gate: journal.gate(),
         first: tally.len() + 1,
     };
     // The journal before the keys are counted: a flush among them writes a record that counts on the packet.
     append_entry(journal, bay, entry, buffer)?;
-    take_keys(tally, log, bay, mark, keys, buffer)
+    take_keys(tally, log, bay, place, keys, buffer)
 }
 
-// Takes keys of the journal's record at `mark`, one after another.
+// Takes keys of the journal's record at `place`, one after another.
 fn take_keys<B: Bay, T: CountTable>(
     tally: &mut Tally<B, T>,
     log: &mut ReportLog,
     bay: &mut B,
-    mark: Mark,
+    place: JournalPlace,
     keys: &[u64],
     buffer: &mut [u8],
 ) -> Result<(), TakeFault>
     requires { CanTake B.Bay keys.now (record { bay = bay.old; counts = tally.old; log = log.old; room = length buffer.old }) }
-    ensures { TakesKeys B.Bay mark keys.now (record { bay = bay.old; counts = tally.old; log = log.old; room = length buffer.old })
+    ensures { TakesKeys B.Bay place keys.now (record { bay = bay.old; counts = tally.old; log = log.old; room = length buffer.old })
         (record { bay = bay.new; counts = tally.new; log = log.new; room = length buffer.new }) result }
 {
     for key in keys {
-        take_key(tally, log, bay, mark, *key, buffer)?;
+        take_key(tally, log, bay, place, *key, buffer)?;
     }
     Ok(())
 }
 
-// Takes a key of the journal's record at `mark`. At a flush position a record stands behind the flush, which names what the
+// Takes a key of the journal's record at `place`. At a flush position a record stands behind the flush, which names what the
 // levels and the reports are then, and where the journal's record begins that holds the first key of level 0.
 fn take_key<B: Bay, T: CountTable>(
     tally: &mut Tally<B, T>,
     log: &mut ReportLog,
     bay: &mut B,
-    mark: Mark,
+    place: JournalPlace,
     key: u64,
     buffer: &mut [u8],
 ) -> Result<(), TakeFault>
     requires { CanTake B.Bay (key ∷ []) (record { bay = bay.old; counts = tally.old; log = log.old; room = length buffer.old }) }
-    ensures { TakesKeys B.Bay mark (key ∷ []) (record { bay = bay.old; counts = tally.old; log = log.old; room = length buffer.old })
+    ensures { TakesKeys B.Bay place (key ∷ []) (record { bay = bay.old; counts = tally.old; log = log.old; room = length buffer.old })
         (record { bay = bay.new; counts = tally.new; log = log.new; room = length buffer.new }) result }
 {
     tally.take(bay, key)?;
     // Before the record, which may name this key's own.
-    log.pass(tally.len(), mark);
+    log.pass(tally.len(), place);
     if !tally.is_flushed() {
         return Ok(());
     }
@@ -114,30 +114,30 @@ fn write_record<B: Bay, T: CountTable>(
     log.append(bay, kind, n0, tally.directory(), reports, buffer)
 }
 
-/// Takes keys that are read from the journal's record at `mark`: those up to `n0`, the place of the log's last record, are only
+/// Takes keys that are read from the journal's record at `place`: those up to `n0`, where the log's last record was written, are only
 /// counted again, and those behind it are taken.
 pub fn replay_keys<B: Bay, T: CountTable>(
     tally: &mut Tally<B, T>,
     log: &mut ReportLog,
     bay: &mut B,
     n0: u64,
-    mark: Mark,
+    place: JournalPlace,
     keys: &[u64],
     buffer: &mut [u8],
 ) -> Result<(), TakeFault>
     requires { CanReplay B.Bay n0 keys.now (record { bay = bay.old; counts = tally.old; log = log.old; room = length buffer.old }) }
-    ensures { ReplaysKeys B.Bay n0 mark keys.now (record { bay = bay.old; counts = tally.old; log = log.old; room = length buffer.old })
+    ensures { ReplaysKeys B.Bay n0 place keys.now (record { bay = bay.old; counts = tally.old; log = log.old; room = length buffer.old })
         (record { bay = bay.new; counts = tally.new; log = log.new; room = length buffer.new }) result }
 {
     let count = n0.saturating_sub(tally.len()).min(keys.len() as u64);
     let (again, ahead) = keys.split_at(count as usize);
     // Up to n0 the log has flushes and reports already, so these keys are only counted.
     count_again(tally, n0, again);
-    log.pass(tally.len(), mark);
+    log.pass(tally.len(), place);
     if ahead.is_empty() {
         return Ok(());
     }
-    take_keys(tally, log, bay, mark, ahead, buffer)
+    take_keys(tally, log, bay, place, ahead, buffer)
 }
 
 // Counts keys again, none of which is behind n0.

@@ -5,7 +5,7 @@
 //! that the definition makes of the keys, so they are in time.
 //!
 //! `Tally` counts the keys over level 0 and the levels on the bay, and `Due` takes the totals of a flush as reports.
-//! `ReportLog` writes the records of the log: one behind each flush, and one at the end. `Marks` keeps which record of the
+//! `ReportLog` writes the records of the log: one behind each flush, and one at the end. `JournalPlaces` keeps which record of the
 //! journal each is to name. The command that runs a trace through all cones stands on this crate.
 #![tactic(auto)]
 
@@ -13,8 +13,8 @@ mod acked;
 mod cone;
 mod due;
 mod headers;
+mod journal_places;
 mod keys;
-mod marks;
 mod packets;
 mod refusal;
 mod report_log;
@@ -24,7 +24,7 @@ mod tally;
 mod unread;
 
 pub use acked::Acked;
-pub use cone::{Cone, ConeTerms};
+pub use cone::{Cone, ConeTerms, ReplayingCone};
 pub use headers::{greatest_payload, is_fresh};
 pub use lert_base::ConeFault;
 pub use lert_reports::LogPoint;

@@ -22,7 +22,7 @@ impl From<TakeFault> for ConeFault {
     }
 }
 
-/// Why a cone doesn't take a record of the journal that it replays. It is broken then, and is good for its bay alone.
+/// Why a cone whose journal is read again doesn't take a record. It takes none any more then, and is good for its bay alone.
 #[derive(Clone, Copy, Debug, PartialEq, Eq)]
 pub enum ReplayFault {
     /// A call of the bay failed.

@@ -7,10 +7,10 @@ ghost use Rattle.lert_gatelog.specs.Gated.{IsClosed};
 ghost use Rattle.lert_gatelog.specs.Kept.{InEach};
 ghost use Rattle.lert_spec.specs.Edges.{capacity};
 ghost use Rattle.lert_cone.specs.Appends.{AppendsRecord};
-ghost use Rattle.lert_cone.specs.Marks.{marked_from, unmarked, HasPassed};
+ghost use Rattle.lert_cone.specs.JournalPlaces.{places_from, places_at_start, HasPassed};
 ghost use Rattle.lert_cone.specs.Record.{payload_len};
 
-use crate::marks::{Mark, Marks};
+use crate::journal_places::{JournalPlace, JournalPlaces};
 use lert_base::{Report, Settings};
 use lert_bay::{Bay, LOG};
 use lert_gatelog::GateLog;
@@ -18,13 +18,13 @@ use lert_io::Failed;
 use lert_reports::{LogKind, write_log};
 use std::marker::Model;
 
-/// A log at its closed gate, how many reports its records name, and the marks of the journal's records that the next one may
+/// A log at its closed gate, how many reports its records name, and the places in the journal that the next one may
 /// name. Seen as that, with the greatest length of a payload.
 #[derive(Drop)]
 pub struct ReportLog {
     log: GateLog,
     named: usize,
-    marks: Marks,
+    places: JournalPlaces,
 }
 
 impl Model for ReportLog {
@@ -34,7 +34,7 @@ impl Model for ReportLog {
 
     ghost Value = { LogPlace };
 
-    ghost view = { λ l. record { gate = l.log.gate; most = l.log.most; named = l.named; marks = l.marks } };
+    ghost view = { λ l. record { gate = l.log.gate; most = l.log.most; named = l.named; places = l.places } };
 
     ghost invariant = { λ l. l.log.file ≡ LOG };
 }
@@ -43,24 +43,24 @@ impl ReportLog {
     /// The log of a cone of these settings at its first gate: no record names a report yet, and no key is passed.
     pub fn new(log: GateLog, settings: &Settings) -> ReportLog
         requires { log.file ≡ LOG }
-        ensures { result ≡ record { gate = log.gate; most = log.most; named = 0; marks = unmarked settings.now } }
+        ensures { result ≡ record { gate = log.gate; most = log.most; named = 0; places = places_at_start settings.now } }
     {
         ReportLog {
             log,
             named: 0,
-            marks: Marks::new(settings, 0),
+            places: JournalPlaces::new(settings, 0),
         }
     }
 
     /// The log at a closed gate, whose records name so many reports. So many keys are passed, unseen. Nothing is read.
     pub fn at(settings: &Settings, gate: u64, most: u32, named: usize, passed: u64) -> ReportLog
         requires { passed ≤ capacity settings.now }
-        ensures { result ≡ record { gate = gate; most = most; named = named; marks = marked_from settings.now passed } }
+        ensures { result ≡ record { gate = gate; most = most; named = named; places = places_from settings.now passed } }
     {
         ReportLog {
             log: GateLog::at_gate(LOG, gate, most),
             named,
-            marks: Marks::new(settings, passed),
+            places: JournalPlaces::new(settings, passed),
         }
     }
 
@@ -71,14 +71,14 @@ impl ReportLog {
         self.log.gate()
     }
 
-    /// Passes the keys up to position `last`, which are those of the journal's record at `mark`.
-    pub fn pass(&mut self, last: u64, mark: Mark)
-        requires forward { self.old.marks.passed ≤ last }
-        requires within { last ≤ capacity self.old.marks.settings }
-        ensures rest { self.new ≡ record self.old { marks = self.new.marks } }
-        ensures passed { HasPassed last mark self.old.marks self.new.marks }
+    /// Passes the keys up to position `last`, which are those of the journal's record at `place`.
+    pub fn pass(&mut self, last: u64, place: JournalPlace)
+        requires forward { self.old.places.passed ≤ last }
+        requires within { last ≤ capacity self.old.places.settings }
+        ensures rest { self.new ≡ record self.old { places = self.new.places } }
+        ensures passed { HasPassed last place self.old.places self.new.places }
     {
-        self.marks.pass(last, mark);
+        self.places.pass(last, place);
     }
 
     /// Appends a record behind `n0` events: it names the journal's record that holds the first key of level 0, the frames of the
@@ -103,8 +103,8 @@ impl ReportLog {
         // Its clause bounds the payload's length.
         let _ = self.log.gate();
         let new = &reports[self.named..];
-        let mark = self.marks.oldest();
-        let len = write_log(kind, n0, mark.gate, mark.first, directory, new, buffer);
+        let place = self.places.oldest();
+        let len = write_log(kind, n0, place.gate, place.first, directory, new, buffer);
         self.log.append(bay, &buffer[..len])?;
         // Behind the append: one that failed names these reports again.
         self.named = reports.len();

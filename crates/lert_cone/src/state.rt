@@ -9,9 +9,7 @@ pub enum ConeState {
     Finished,
     /// A call of its bay failed in the middle of a packet or of the end. It writes no more.
     BrokenByBay,
-    /// A frame left its format at byte `at` of its file, or one report more than there is room for was needed, which is
+    /// A frame left its format at byte `at` of its file, or one report more than the report room takes was due, which is
     /// said as place 0 of the log. It writes no more.
     BrokenByRead { file: u8, at: u64 },
-    /// It takes the packets of a journal that is read again, and no others.
-    Replaying,
 }

@@ -10,17 +10,19 @@ ghost use Rattle.lert_levels.specs.rows.Rows.{IsAt, AreRows, directory_text};
 
 use crate::due::Due;
 use crate::unread::Unread;
-use flush::{flush_behind, flush_from};
+use flush::give_totals;
 use lert_base::{CountTable, Settings};
 use lert_bay::{Bay, FRAMES, LOG};
 use lert_io::{Failed, Seen};
 use lert_levels::{FlushFault, Levels, Zero};
 use lert_mixer::tail_of;
 use lert_reports::ReportStore;
+use next_flush::{flush_behind, flush_from};
 use std::marker::{Brand, Model};
-use totals::{begin, bring, is_full, scan_into};
+use totals::{begin, is_full, scan_into};
 
 mod flush;
+mod next_flush;
 mod recount;
 mod totals;
 
@@ -29,7 +31,7 @@ mod totals;
 pub enum TakeFault {
     /// A call of the bay failed.
     Failed,
-    /// A frame left its format at this byte of its file, or a report more than there is room for would be needed.
+    /// A frame left its format at this byte of its file, or one report more than the report room takes was due.
     Unsound { file: u8, at: u64 },
 }
 
@@ -231,7 +233,7 @@ impl<B: Bay, T: CountTable> Tally<B, T> {
         // Into level 0 first: a flush at this position counts the key.
         self.zero.add(tail, m);
         begin(&mut self.due, m);
-        bring::<B, T, Brand>(
+        give_totals::<B, T, Brand>(
             &mut self.zero,
             &mut self.levels,
             bay,

@@ -89,7 +89,6 @@ module _ {S B : Type 0} (remaining : S → Option (List ℕ)) (s_faults s_mark :
         by_state state.Finished same = absurd (let over = sym back.unfinished ∙ ap is_finished same in cc)
         by_state state.BrokenByBay same = absurd (none-some (status.BayFault number) (sym here ∙ ap (state_fault number) same))
         by_state (state.BrokenByRead file at) same = absurd (none-some (status.Malformed number file at) (sym here ∙ ap (state_fault number) same))
-        by_state state.Replaying same = absurd (back.stands.ready same)
 
     all_ran : (by : ℕ) → by < workers → ends by ≡ end.Ran
     all_ran by below = by_end (ends by) refl

@@ -261,7 +261,7 @@ module _ {S H : Type 0} (remaining : S → Option (List ℕ)) (faults mark : S �
           ))
 
 module _ {S B R : Type 0} (remaining : S → Option (List ℕ)) (s_faults s_mark : S → ℕ) (files : B → Option Files) (leaves : B → Files → Type 0) (b_faults b_mark : B → ℕ)
-    (held : HeldOf (Standing B) (Terms B) R ConeFault) (is_held : IsConeHeld files leaves b_faults held) (fleet : FleetSight (Standing B)) (s : Numbers) (workers count : ℕ)
+    (held : HeldOf (Standing B) (Terms B) R ConeFault) (is_held : IsConeHeld files leaves b_faults b_mark held) (fleet : FleetSight (Standing B)) (s : Numbers) (workers count : ℕ)
     (opened laters : List S)
     (olds mids news : List (Working S (Standing B))) (size : length olds ≡ workers) (count_is : count ≡ length opened) (are : AreReady fleet s count opened olds)
     (ran : EachTwo (HasRun remaining s_faults s_mark fleet) olds mids) (taken : WereTaken count mids news laters)

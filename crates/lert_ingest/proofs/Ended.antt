@@ -24,8 +24,8 @@ use Rattle.lert_ingest.specs.Bays.{IsLater}
 use Rattle.lert_ingest.specs.Cones.{IsNew}
 
 -- what a cone is under a lock
-pub record IsConeHeld {B R : Type 0} (files : B → Option Files) (leaves : B → Files → Type 0) (faults : B → ℕ) (held : HeldOf (Standing B) (Terms B) R ConeFault) : Type 0 where
-  pub terms_are : (cone : Standing B) → held.terms cone ≡ terms_of cone
+pub record IsConeHeld {B R : Type 0} (files : B → Option Files) (leaves : B → Files → Type 0) (faults mark : B → ℕ) (held : HeldOf (Standing B) (Terms B) R ConeFault) : Type 0 where
+  pub terms_are : (cone : Standing B) → held.terms cone ≡ terms_of faults mark cone
   pub stands : (cone : Standing B) (history : List Packet) → held.stands_for cone history → StandsFor files leaves faults cone history
   pub stood : (cone : Standing B) (history : List Packet) → StandsFor files leaves faults cone history → held.stands_for cone history
   pub stopped_is : (cone : Standing B) → IsTrue (held.stopped cone) → cone.state ≢ Running
@@ -34,7 +34,7 @@ pub record IsConeHeld {B R : Type 0} (files : B → Option Files) (leaves : B �
       (fault ≡ CapacityFull (length (events_of history)) (length packet.keys)) × (capacity terms.settings < length (events_of history) + length packet.keys)
 
 module _ {B R : Type 0} (files : B → Option Files) (leaves : B → Files → Type 0) (faults mark : B → ℕ) (held : HeldOf (Standing B) (Terms B) R ConeFault)
-    (is_held : IsConeHeld files leaves faults held) (s : Numbers) (workers number : ℕ) (added : ℕ → List Packet) (turned : ℕ → List (Packet × ConeFault))
+    (is_held : IsConeHeld files leaves faults mark held) (s : Numbers) (workers number : ℕ) (added : ℕ → List Packet) (turned : ℕ → List (Packet × ConeFault))
     (first closed : Standing B)
     (new : IsNew files leaves faults s number first)
     (lock : LockSight (Standing B)) (first_is : lock.first ≡ first) (numbers_are : lock.numbers ≡ workers) (pass : Sight (Standing B) ConeFault)
@@ -43,15 +43,17 @@ module _ {B R : Type 0} (files : B → Option Files) (leaves : B → Files → T
   stood_first : held.stands_for lock.first []
   stood_first = subst (λ (c : Standing B). held.stands_for c []) (sym first_is) (is_held.stood first [] new.stands)
 
-  same_terms : terms_of closed ≡ terms_of first
+  same_terms : terms_of faults mark closed ≡ terms_of faults mark first
   same_terms = sym (is_held.terms_are closed) ∙ (closes.terms_are ∙ (ap held.terms first_is ∙ is_held.terms_are first))
 
-  first_terms : terms_of first ≡ record { settings = s; cone = number; finished = false; made = first.made }
-  first_terms =
-      ap (λ (l : Listing). record { settings = l.settings; cone = l.cone; finished = is_finished first.state; made = first.made }) new.listing_is
-      ∙ ap (λ b. record { settings = s; cone = number; finished = b; made = first.made }) (ap is_finished new.state_is)
+  -- those of a cone that takes packets
+  abbrev running : Numbers → ℕ → Bool → Terms B
+  running t n finished = record { settings = t; cone = n; made = first.made; finished = finished; faults = faults first.made; mark = mark first.made }
 
-  terms_here : terms_of closed ≡ record { settings = s; cone = number; finished = false; made = first.made }
+  first_terms : terms_of faults mark first ≡ running s number false
+  first_terms = ap (λ (l : Listing). running l.settings l.cone (is_finished first.state)) new.listing_is ∙ ap (running s number) (ap is_finished new.state_is)
+
+  terms_here : terms_of faults mark closed ≡ running s number false
   terms_here = same_terms ∙ first_terms
 
   -- what the pass of all shows as refused is shown of its number
@@ -91,7 +93,7 @@ module _ {B R : Type 0} (files : B → Option Files) (leaves : B → Files → T
       by_case (inl stopped) = inl (is_held.stopped_is closed stopped)
       by_case (inr rule) =
           let why = is_held.refuses (held.terms lock.first) rule.0 e f (rule.2 [] stood_first) in
-          let terms : held.terms lock.first ≡ record { settings = s; cone = number; finished = false; made = first.made } =
+          let terms : held.terms lock.first ≡ running s number false =
           ap held.terms first_is ∙ (is_held.terms_are first ∙ first_terms) in
           inr (record {
             past = rule.0;

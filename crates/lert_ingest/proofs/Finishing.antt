@@ -71,7 +71,7 @@ module _ {S H : Type 0} (fleet : FleetSight H) (workers : ℕ) (items news : Lis
       (joins (subst (EachShows brought turned) (sym same) shows))
 
 module _ {S B R : Type 0} (remaining : S → Option (List ℕ)) (s_faults s_mark : S → ℕ) (files : B → Option Files) (leaves : B → Files → Type 0) (b_faults b_mark : B → ℕ)
-    (held : HeldOf (Standing B) (Terms B) R ConeFault) (is_held : IsConeHeld files leaves b_faults held) (fleet : FleetSight (Standing B)) (s : Numbers) (workers count : ℕ)
+    (held : HeldOf (Standing B) (Terms B) R ConeFault) (is_held : IsConeHeld files leaves b_faults b_mark held) (fleet : FleetSight (Standing B)) (s : Numbers) (workers count : ℕ)
     (opened : List S)
     (olds : List (Working S (Standing B))) (size : length olds ≡ workers) (count_is : count ≡ length opened) (are : AreReady fleet s count opened olds)
     (new : AreNew files leaves b_faults s (firsts_of fleet)) (numbers : (cone : ℕ) (lock : LockSight (Standing B)) → slice_get fleet cone ≡ Some lock → lock.numbers ≡ workers)
@@ -95,7 +95,7 @@ module _ {S B R : Type 0} (remaining : S → Option (List ℕ)) (s_faults s_mark
           IsJournaled (held.terms lock.first).settings (held.terms lock.first).cone packet
       fit cone lock lock_is packet journaled =
           let first = new cone lock.first (mapped fleet cone lock lock_is) in
-          let terms : held.terms lock.first ≡ terms_of lock.first = is_held.terms_are lock.first in
+          let terms : held.terms lock.first ≡ terms_of b_faults b_mark lock.first = is_held.terms_are lock.first in
           subst (λ (t : Terms B). IsJournaled t.settings t.cone packet) (sym terms)
           (subst (λ (l : Listing). IsJournaled l.settings l.cone packet) (sym first.listing_is) journaled)
         where

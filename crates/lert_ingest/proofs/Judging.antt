@@ -175,7 +175,6 @@ module _ {S B : Type 0} (remaining : S → Option (List ℕ)) (s_faults s_mark :
         by_state state.BrokenByBay is = absurd (let rose = subst (λ (m : B). HasRisen (b_faults m) (b_faults c.closed.bay)) c.back.made_is (c.back.stands.by_bay is) in
             let up = rose faultless.below_last in let same = faultless.same in omega (arith, up, same))
         by_state (state.BrokenByRead file at) is = absurd (none-some seen (sym (c.back.stands.by_read file at is c.back.sound) ∙ told))
-        by_state state.Replaying is = absurd (c.back.stands.ready is)
 
     -- each cone may take more, where a full cone is answered
     running_all : 6 ≤ rank one → (cone : ℕ) (c : IsCone cone) → c.closed.state ≡ state.Running
@@ -186,7 +185,6 @@ module _ {S B : Type 0} (remaining : S → Option (List ℕ)) (s_faults s_mark :
         by_state state.Finished is = absurd (let over = sym c.back.unfinished ∙ ap is_finished is in cc)
         by_state state.BrokenByBay is = absurd (let low = rank_below cone c state.BrokenByBay is (status.BayFault cone) refl in omega (arith, above, low))
         by_state (state.BrokenByRead file at) is = absurd (let low = rank_below cone c (state.BrokenByRead file at) is (status.Malformed cone file at) refl in omega (arith, above, low))
-        by_state state.Replaying is = absurd (c.back.stands.ready is)
 
     open_partly : 1 ≤ rank one → (open_trace : ℕ → ℕ → Type 0)
         → ((cone trace : ℕ) → IsCone cone → open_trace cone trace → HasNoRest s trace (added cone (trace % workers))) →
@@ -345,7 +343,6 @@ module _ {S B : Type 0} (remaining : S → Option (List ℕ)) (s_faults s_mark :
           }),
           are_partly,
         )
-    by_state cone c state.Replaying is none = absurd (none-some one none)
 
     -- all that the answer shows
     pub stop_shows : StopShows remaining s_faults files b_faults s workers opened laters (bays_of firsts) (bays_of backs) one

@@ -81,7 +81,6 @@ state_fault cone state.Running = None
 state_fault cone state.Finished = None
 state_fault cone state.BrokenByBay = Some (status.BayFault cone)
 state_fault cone (state.BrokenByRead file at) = Some (status.Malformed cone file at)
-state_fault cone state.Replaying = None
 
 -- the fault of a cone of a list
 abbrev pub fault_of : {B : Type 0} → ℕ → Option (Standing B) → Option Status

@@ -136,7 +136,7 @@ fn full_fault(cone: u32, fault: ConeFault) -> Option<Status>
     }
 }
 
-// The fault of the state of a cone. A cone that came back from its lock is neither finished nor replays.
+// The fault of the state of a cone. A cone that came back from its lock isn't finished.
 fn state_fault(cone: u32, state: ConeState) -> Option<Status>
     ensures { result ≡ state_fault cone state }
 {
@@ -145,6 +145,5 @@ fn state_fault(cone: u32, state: ConeState) -> Option<Status>
         ConeState::Finished => None,
         ConeState::BrokenByBay => Some(Status::BayFault { cone }),
         ConeState::BrokenByRead { file, at } => Some(Status::Malformed { cone, file, at }),
-        ConeState::Replaying => None,
     }
 }

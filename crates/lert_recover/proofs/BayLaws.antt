@@ -5,6 +5,7 @@ use Rattle.lert_bay.specs.Files.{Files}
 use Rattle.lert_bay.specs.Kept.{Bays, CallsBay}
 use Rattle.lert_bay.proofs.KeptLaws.{IsLawful, calls_on}
 use Rattle.lert_cone.specs.declared.state.ConeState.TheVariants.{Finished, Running}
+use Rattle.lert_cone.specs.Replaying.{Replaying, readied}
 use Rattle.lert_cone.specs.Stands.{IsSameCone, Standing}
 use Rattle.lert_spec.specs.declared.numbers.Numbers.{Numbers}
 use Rattle.lert_files.specs.declared.fault.ReopenFault.{ReopenFault}
@@ -38,10 +39,10 @@ module _ {B E : Type 0} (bays : Bays B) (lawful : IsLawful bays) (bay_in : E →
   quiet_before quiet (Ok now) behind = quiet_on bays lawful before bay now.bay First ⊥ quiet behind
   quiet_before quiet (Err refused) behind = quiet_on bays lawful before bay (bay_in refused) First ⊥ quiet behind
 
-module _ {B E : Type 0} (start : Standing B) where
+module _ {B E : Type 0} (start : Replaying B) where
   -- what a cone is that was made and replayed its journal
   pub own_of : (s : Numbers) (cone : ℕ) → start.listing.settings ≡ s → start.listing.cone ≡ cone → start.listing.closed ≡ start.last.closed → (result : Result (Standing B) E) →
-      IfOk result (λ now. IsSameCone start now) →
+      IfOk result (λ now. IsSameCone (readied start) now) →
       IfOk result (λ now. now.events ≡ length now.listing.events) →
       IfOk result (λ now. (now.listing.closed ≡ start.listing.closed) × (now.state ≡ if start.last.closed then Finished else Running)) →
       IfOk result (λ now. (now.listing.settings ≡ s) × (now.listing.cone ≡ cone) × (now.events ≡ length now.listing.events) ×
@@ -52,7 +53,7 @@ module _ {B E : Type 0} (start : Standing B) where
 
   -- and what its bay was when it was made
   pub made_of : (files : B → Option Files) (faults mark : B → ℕ) (before : B) → files start.made ≡ files before → faults before ≤ faults start.made →
-      mark start.made ≡ mark before → (result : Result (Standing B) E) → IfOk result (λ now. IsSameCone start now) →
+      mark start.made ≡ mark before → (result : Result (Standing B) E) → IfOk result (λ now. IsSameCone (readied start) now) →
       IfOk result (λ now. (files now.made ≡ files before) × (faults before ≤ faults now.made) × (mark now.made ≡ mark before))
   made_of files faults mark before files_are later mark_is (Ok now) same =
       (ap files same.made ∙ files_are, subst (λ (bay : B). faults before ≤ faults bay) (sym same.made) later, ap mark same.made ∙ mark_is)

@@ -7,7 +7,7 @@ use Rattle.std.proofs.lemmas.List.{take_at}
 use Rattle.std.proofs.lemmas.List.Elements.{All-cons, All-head, All-nil, All-tail}
 use Rattle.lert_base.specs.Packet.{Packet, events_of}
 use Rattle.lert_bay.specs.Files.{Files}
-use Rattle.lert_cone.specs.declared.marks.Mark.{Mark}
+use Rattle.lert_cone.specs.declared.journal_places.JournalPlace.{JournalPlace}
 use Rattle.lert_cone.specs.Framed.{last_flush}
 use Rattle.lert_cone.specs.History.{end_of, most_payload}
 use Rattle.lert_cone.specs.Sound.{IsSound, but_last}
@@ -116,7 +116,7 @@ module _ (s : Numbers) (valid : IsValid s) where
                 valid.limits.packet_from,
               ))
           | inr absent ↦ (
-              let offset_is = ap (λ (m : Mark). m.gate) (sound.begins.none (omega (arith, absent))) in
+              let offset_is = ap (λ (m : JournalPlace). m.gate) (sound.begins.none (omega (arith, absent))) in
               let behind = near history each n0 sound.n0_least [] history refl (omega (arith, absent, edge_within s 0 n0)) in
               omega (arith, behind, offset_is))
         ]

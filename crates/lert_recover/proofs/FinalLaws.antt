@@ -7,7 +7,7 @@ use Rattle.lert_base.specs.declared.kept.Kept.{Kept}
 use Rattle.lert_base.specs.Packet.{Packet, events_of}
 use Rattle.lert_bay.specs.declared.bay.TheConstants.{JOURNAL, LOG}
 use Rattle.lert_bay.specs.Files.{Files}
-use Rattle.lert_cone.specs.Marks.{IsMarkOf, last_mark}
+use Rattle.lert_cone.specs.JournalPlaces.{IsPlaceIn, last_place}
 use Rattle.lert_cone.specs.Sound.{IsSound, IsJournal}
 use Rattle.lert_cone.specs.Unread.{unread}
 use Rattle.lert_cone.proofs.UnreadLaws.{length_unread, unread_is}
@@ -25,7 +25,7 @@ use Rattle.lert_files.specs.Opened.{AreOpened}
 use Rattle.lert_recover.specs.Replayed.{AreInFormat, FirstLeaves, Before_records, In_records, HasReplayed, JournalEnds, JournalLeavesAt}
 use Rattle.lert_recover.specs.Reopened.{IsReadOn, IsReopened, IsReopenRefused, Of_call, Of_place, Of_header, Of_sight, IsUnsoundAt}
 use Rattle.lert_files.proofs.OpenedLaws.{IsOutside, left_or_other, no_other, one_header, one_place, opened_or_left}
-use Rattle.lert_cone.proofs.AdoptLaws.{mark_of}
+use Rattle.lert_cone.proofs.AdoptLaws.{place_named}
 use Rattle.lert_recover.proofs.ReplayedLaws.{all_keys, ends_from_start, ends_here, ends_or_leaves, one_journal_place}
 
 module _ (s : Numbers) (cone : ℕ) (valid : IsValid s) (named : cone < 2 ^ s.cone_bits) (below : cone < 2 ^ 32) (seen : Files) where
@@ -48,17 +48,17 @@ module _ (s : Numbers) (cone : ℕ) (valid : IsValid s) (named : cone < 2 ^ s.co
 
   -- ---- one of the three, and one place
 
-  -- keys that were had of a whole journal are its own, where the mark is one of its packets
+  -- keys that were had of a whole journal are its own, where the place is one of its packets
   pub read_whole : (events : List ℕ) (gate : ℕ) (history : List Packet) (records : List LogRecord) → IsJournal s cone history (seen JOURNAL) →
-      IsMarkOf history (last_mark records) →
+      IsPlaceIn history (last_place records) →
       HasReplayed s cone (last_n0 records) (is_closed records) (seen JOURNAL) (Unread records) (last_offset records) gate events → IsClosed (seen JOURNAL) gate →
       events ≡ events_of history
-  read_whole events gate history records journal mark has shut =
-      let count : last_first records - 1 ≡ length (events_of mark.done) = omega (arith, mark.first_is) in
-      let before : Unread records ≡ events_of mark.done =
-      ap (λ n. unread s cone n (Some seen)) count ∙ unread_is s cone valid named history mark.done mark.rest seen (Some seen) journal mark.is refl in
-      all_keys s cone (last_n0 records) (is_closed records) (seen JOURNAL) history journal mark.done mark.rest (Unread records) events (last_offset records) gate mark.is before
-      mark.gate_is has shut
+  read_whole events gate history records journal place has shut =
+      let count : last_first records - 1 ≡ length (events_of place.done) = omega (arith, place.first_is) in
+      let before : Unread records ≡ events_of place.done =
+      ap (λ n. unread s cone n (Some seen)) count ∙ unread_is s cone valid named history place.done place.rest seen (Some seen) journal place.is refl in
+      all_keys s cone (last_n0 records) (is_closed records) (seen JOURNAL) history journal place.done place.rest (Unread records) events (last_offset records) gate place.is before
+      place.gate_is has shut
 
   module _ (closed : Bool) (events : List ℕ) (gate : ℕ) (reopened : IsReopened s cone seen closed events gate) where
     ends : JournalEnds s cone (last_n0 reopened.records) (is_closed reopened.records) (seen JOURNAL) (last_first reopened.records - 1) (last_offset reopened.records)
@@ -82,15 +82,15 @@ module _ (s : Numbers) (cone : ℕ) (valid : IsValid s) (named : cone < 2 ^ s.co
     }
 
     pub reopened_whole : (history : List Packet) (records : List LogRecord) (log_end : ℕ) → IsJournal s cone history (seen JOURNAL) → HasLog s cone (seen LOG) records log_end →
-        IsMarkOf history (last_mark records) → events ≡ events_of history
-    reopened_whole history records log_end journal log mark =
+        IsPlaceIn history (last_place records) → events ≡ events_of history
+    reopened_whole history records log_end journal log place =
         let same = (one_log s cone valid (seen LOG) records reopened.records log_end reopened.log_end log reopened.opened.log).0 in
-        read_whole events gate history reopened.records journal (subst (λ (rs : List LogRecord). IsMarkOf history (last_mark rs)) same mark) reopened.replayed reopened.shut
+        read_whole events gate history reopened.records journal (subst (λ (rs : List LogRecord). IsPlaceIn history (last_place rs)) same place) reopened.replayed reopened.shut
 
     -- are those of a list for which the files are sound
     pub reopened_events : (history : List Packet) → IsSound s cone history seen → events ≡ events_of history
     reopened_events history sound =
-        reopened_whole history sound.logged sound.log_end sound.journal sound.log (mark_of s history (last_n0 sound.logged) (last_mark sound.logged) sound.begins)
+        reopened_whole history sound.logged sound.log_end sound.journal sound.log (place_named s history (last_n0 sound.logged) (last_place sound.logged) sound.begins)
 
     pub reopened_closed : (history : List Packet) (sound : IsSound s cone history seen) → closed ≡ is_closed sound.logged
     reopened_closed history sound =
@@ -191,10 +191,10 @@ module _ (s : Numbers) (cone : ℕ) (valid : IsValid s) (named : cone < 2 ^ s.co
     journal_told (Err refused) told = tt
 
     pub whole_told : (result : Result K E) → Told result → (history : List Packet) → IsJournal s cone history (seen JOURNAL) → (records : List LogRecord) (log_end : ℕ) →
-        HasLog s cone (seen LOG) records log_end → IsMarkOf history (last_mark records) → IfOk result (λ now. events_in now ≡ events_of history)
-    whole_told (Ok now) told history journal records log_end log mark =
-        reopened_whole (closed_in now) (events_in now) (gate_in now) told history records log_end journal log mark
-    whole_told (Err refused) told history journal records log_end log mark = tt
+        HasLog s cone (seen LOG) records log_end → IsPlaceIn history (last_place records) → IfOk result (λ now. events_in now ≡ events_of history)
+    whole_told (Ok now) told history journal records log_end log place =
+        reopened_whole (closed_in now) (events_in now) (gate_in now) told history records log_end journal log place
+    whole_told (Err refused) told history journal records log_end log place = tt
 
     -- the cone is closed exactly where the log is
     pub closed_told : (result : Result K E) → Told result →

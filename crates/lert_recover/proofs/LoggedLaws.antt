@@ -11,14 +11,15 @@ use Rattle.lert_reports.proofs.LogOnce.{one_log}
 use Rattle.lert_spec.specs.declared.numbers.Numbers.{Numbers}
 use Rattle.lert_spec.specs.Limits.{IsValid}
 use Rattle.lert_cone.specs.KeepsLog.{IsHeadOf, KeepsLog, KeepsLogOf, LogHead, head_of}
-use Rattle.lert_cone.specs.Stands.{IsSameCone, Standing}
+use Rattle.lert_cone.specs.Replaying.{IsSameReplay, Replaying}
+use Rattle.lert_cone.specs.Stands.{Standing}
 use Rattle.lert_cone.proofs.KeepsLogSteps.{log_as, log_on}
 use Rattle.lert_recover.specs.Replayed.{IsJournalSame}
 use Rattle.lert_recover.specs.Unharmed.{KeepsLogFrom, KeepsLogIn}
 
-module _ {B : Type 0} (bays : Bays B) (lawful : IsLawful bays) (start : Standing B) where
+module _ {B : Type 0} (bays : Bays B) (lawful : IsLawful bays) (start : Replaying B) where
   -- behind what was replayed, one call more
-  pub logged_on : {T E U F : Type 0} (old new : Standing B) (result : Result T E) (answer : Result U F) (First Other : Type 0) → IsSameCone start old →
+  pub logged_on : {T E U F : Type 0} (old new : Replaying B) (result : Result T E) (answer : Result U F) (First Other : Type 0) → IsSameReplay start old →
       IsJournalSame (bays.files start.bay) (bays.files old.bay) → CallsBay bays start.bay old.bay First → CallsBay bays old.bay new.bay Other →
       ((P : LogHead → Type 0) → OnOk result (P (head_of new)) → OnOk answer (P (head_of new))) →
       KeepsLogOf {T = Unit {0}} {E = Unit {0}} bays start.listing.settings (head_of start) (head_of old) start.bay old.bay (Ok tt) →
@@ -30,7 +31,7 @@ module _ {B : Type 0} (bays : Bays B) (lawful : IsLawful bays) (start : Standing
       (subst (λ (s : Numbers). KeepsLogOf bays s (head_of old) (head_of new) old.bay new.bay result) same.settings after))
 
   -- as the bay reads behind all of them, and behind calls that read alone
-  pub logged_from : {T E : Type 0} (end : Standing B) (last : B) (result : Result T E) → KeepsLogOf bays start.listing.settings (head_of start) (head_of end) start.bay end.bay result →
+  pub logged_from : {T E : Type 0} (end : Replaying B) (last : B) (result : Result T E) → KeepsLogOf bays start.listing.settings (head_of start) (head_of end) start.bay end.bay result →
       bays.files last ≡ bays.files end.bay → KeepsLogFrom bays start last
   logged_from end last result did same seen told records is now told_now = ((did seen told records is).read now (sym same ∙ told_now)).0
 

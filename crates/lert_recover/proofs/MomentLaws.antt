@@ -6,7 +6,8 @@ use Rattle.lert_bay.specs.Files.{Files}
 use Rattle.lert_bay.specs.Kept.{Bays, CallsBay, ReadsBay}
 use Rattle.lert_bay.proofs.KeptLaws.{IsLawful}
 use Rattle.lert_cone.specs.Sound.{IsSound, StaysSound}
-use Rattle.lert_cone.specs.Stands.{IsSameCone, Standing}
+use Rattle.lert_cone.specs.Replaying.{IsSameReplay, Replaying}
+use Rattle.lert_cone.specs.Stands.{Standing}
 use Rattle.lert_cone.proofs.Calls.{now_since}
 use Rattle.lert_cone.proofs.ReplayCalls.{stays_by, stays_on}
 use Rattle.lert_files.specs.Opened.{WritesNothing}
@@ -47,7 +48,7 @@ module _ {B : Type 0} (bays : Bays B) (lawful : IsLawful bays) (history : List P
         (λ image since. stays.each_moment image (now_since bays lawful before between kept.time.later image (reads.moments image since))))
 
   -- one packet more is replayed
-  pub stays_replayed : (start old : Standing B) (after : B) (First Second : Type 0) → IsSameCone start old → CallsBay bays start.bay old.bay First →
+  pub stays_replayed : (start old : Replaying B) (after : B) (First Second : Type 0) → IsSameReplay start old → CallsBay bays start.bay old.bay First →
       CallsBay bays old.bay after Second → StaysSound bays start.listing.settings start.listing.cone history start.bay old.bay →
       StaysSound bays old.listing.settings old.listing.cone history old.bay after →
       StaysSound bays start.listing.settings start.listing.cone history start.bay after
@@ -56,7 +57,7 @@ module _ {B : Type 0} (bays : Bays B) (lawful : IsLawful bays) (history : List P
       (stays_as bays start.listing.settings old.listing.settings start.listing.cone old.listing.cone history old.bay after same.settings same.cone two)
 
   -- a cone is made behind calls that wrote nothing, and its journal is replayed
-  pub stays_made : {E : Type 0} (bay_in : E → B) (Failed : E → Type 0) (s : Numbers) (cone : ℕ) (start : Standing B) (before : B) → start.listing.settings ≡ s →
+  pub stays_made : {E : Type 0} (bay_in : E → B) (Failed : E → Type 0) (s : Numbers) (cone : ℕ) (start : Replaying B) (before : B) → start.listing.settings ≡ s →
       start.listing.cone ≡ cone → WritesNothing bays before start.bay ⊥ → (seen : Files) → bays.files before ≡ Some seen →
       AreSound (bays.leaves before) s cone history → (result : Result (Standing B) E) →
       MatchResult result (λ now. CallsBay bays start.bay now.bay ⊥) (λ refused. CallsBay bays start.bay (bay_in refused) (Failed refused)) →

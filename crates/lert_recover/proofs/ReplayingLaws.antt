@@ -9,9 +9,9 @@ use Rattle.lert_cone.specs.Framed.{HoldsSome, last_flush}
 use Rattle.lert_cone.specs.History.{most_payload}
 use Rattle.lert_cone.specs.Listing.{Listing}
 use Rattle.lert_cone.specs.Replay.{MayFollow, ReplayLeavesAt}
+use Rattle.lert_cone.specs.Replaying.{Replaying, IsSameReplay}
 use Rattle.lert_cone.specs.Replays.{BringsNoFlush, HasTaken, IsUnwritten}
 use Rattle.lert_cone.specs.Sound.{IsSound}
-use Rattle.lert_cone.specs.Stands.{IsSameCone, Standing}
 use Rattle.lert_files.specs.Opened.{WritesNothing}
 use Rattle.lert_gatelog.specs.Gated.{IsClosed, IsOpen, next_gate}
 use Rattle.lert_journal.specs.Journal.{HoldsPacket}
@@ -49,11 +49,11 @@ framed_none files s n0 rows events few seen there told told_there some =
     one_told : (one other : Files) → Some one ≡ Some other → one ≡ other
     one_told one other is = cc
 
-pub same_none : {B : Type 0} (start : Standing B) → IsSameCone start start
+pub same_none : {B : Type 0} (start : Replaying B) → IsSameReplay start start
 same_none start = record { settings = refl; cone = refl; made = refl; last = refl }
 
-module _ {B : Type 0} (files : B → Option Files) (start old new : Standing B) where
-  pub same_on : IsSameCone start old → IsSameCone old new → IsSameCone start new
+module _ {B : Type 0} (files : B → Option Files) (start old new : Replaying B) where
+  pub same_on : IsSameReplay start old → IsSameReplay old new → IsSameReplay start new
   same_on one two = record {
     settings = two.settings ∙ one.settings;
     cone = two.cone ∙ one.cone;
@@ -61,7 +61,7 @@ module _ {B : Type 0} (files : B → Option Files) (start old new : Standing B) 
     last = two.last ∙ one.last;
   }
 
-  module _ (seen : Files) (told : files start.bay ≡ Some seen) (same : IsSameCone start old) (journal : IsJournalSame (files start.bay) (files old.bay)) (first gate : ℕ) where
+  module _ (seen : Files) (told : files start.bay ≡ Some seen) (same : IsSameReplay start old) (journal : IsJournalSame (files start.bay) (files old.bay)) (first gate : ℕ) where
     abbrev Read : ℕ → List ℕ → Type 0
     Read end events = HasReplayed start.listing.settings start.listing.cone start.last.n0 start.last.closed (seen JOURNAL) start.listing.events first end events
 
@@ -132,8 +132,8 @@ pub fewer_left : (most count keys : ℕ) → 0 < keys → count + keys ≤ most 
 fewer_left most count keys some within = omega (arith, some, within)
 
 -- what one packet more makes of a cone's counts and its gate
-pub record HasGrown {B : Type 0} (start old new : Standing B) (next : ℕ) : Type 0 where
-  pub state : new.state ≡ old.state
+pub record HasGrown {B : Type 0} (start old new : Replaying B) (next : ℕ) : Type 0 where
+  pub taking : new.stopped ≡ old.stopped
   pub closed : new.listing.closed ≡ old.listing.closed
   pub gate_is : new.gate ≡ next
   pub counted : new.events ≡ length new.listing.events
@@ -141,18 +141,18 @@ pub record HasGrown {B : Type 0} (start old new : Standing B) (next : ℕ) : Typ
   pub near : next ≤ 2 ^ 46 + 65536 * length new.listing.events
   pub fewer : capacity start.listing.settings - length new.listing.events < capacity start.listing.settings - length old.listing.events
 
-pub has_grown : {B : Type 0} (files : B → Option Files) (start old new : Standing B) (gate next : ℕ) → IsSameCone start old → old.events ≡ length old.listing.events →
+pub has_grown : {B : Type 0} (files : B → Option Files) (start old new : Replaying B) (gate next : ℕ) → IsSameReplay start old → old.events ≡ length old.listing.events →
     gate ≤ 2 ^ 46 + 65536 * length old.listing.events → HasTaken files old new gate next → next ≤ gate + 65536 → HasGrown start old new next
 has_grown {B = B} files start old new gate next same counted near took forward =
     let n = length old.listing.events in
     let keys = took.packet.keys in
-    let count : length new.listing.events ≡ n + length keys = ap (λ (k : Standing B). length k.listing.events) took.is ∙ length-append old.listing.events keys in
+    let count : length new.listing.events ≡ n + length keys = ap (λ (k : Replaying B). length k.listing.events) took.is ∙ length-append old.listing.events keys in
     let within : n + length keys ≤ capacity start.listing.settings = subst (λ (s : Numbers). n + length keys ≤ capacity s) same.settings took.follows.within in
     record {
-      state = ap (λ (k : Standing B). k.state) took.is;
-      closed = ap (λ (k : Standing B). k.listing.closed) took.is;
-      gate_is = ap (λ (k : Standing B). k.gate) took.is;
-      counted = omega (arith, ap (λ (k : Standing B). k.events) took.is, counted, count);
+      taking = ap (λ (k : Replaying B). k.stopped) took.is;
+      closed = ap (λ (k : Replaying B). k.listing.closed) took.is;
+      gate_is = ap (λ (k : Replaying B). k.gate) took.is;
+      counted = omega (arith, ap (λ (k : Replaying B). k.events) took.is, counted, count);
       within = omega (arith, within, count);
       near = omega (arith, near, forward, took.journaled.some, count);
       fewer = subst (λ (m : ℕ). capacity start.listing.settings - m < capacity start.listing.settings - n) (sym count)
@@ -160,7 +160,7 @@ has_grown {B = B} files start old new gate next same counted near took forward =
     }
 
 -- what is told of soundness in the words of the cone as it is, in those of the cone as it was
-pub sound_on : {B : Type 0} (start old : Standing B) (told : Option Files) (h : List Packet) → IsSameCone start old →
+pub sound_on : {B : Type 0} (start old : Replaying B) (told : Option Files) (h : List Packet) → IsSameReplay start old →
     IfTold told (IsSound old.listing.settings old.listing.cone h) → IfTold told (IsSound start.listing.settings start.listing.cone h)
 sound_on start old told h same sound seen is =
     subst (λ (s : Numbers). IsSound s start.listing.cone h seen) same.settings

@@ -5,8 +5,9 @@ use Rattle.lert_bay.specs.Files.{Files}
 use Rattle.lert_cone.specs.declared.refusal.ReplayFault.{ReplayFault}
 use Rattle.lert_cone.specs.declared.refusal.ReplayFault.TheVariants.{Failed as ReplayFailed, Malformed as ReplayMalformed, Unsound as ReplayUnsound}
 use Rattle.lert_cone.specs.Replay.{ReplayLeavesAt}
+use Rattle.lert_cone.specs.Replaying.{Replaying, IsSameReplay}
 use Rattle.lert_cone.specs.Sound.{IsSound}
-use Rattle.lert_cone.specs.Stands.{IsSameCone, Standing, WasSound}
+use Rattle.lert_cone.specs.Stands.{WereSoundAs}
 use Rattle.lert_cone.specs.Tally.{Shows}
 use Rattle.lert_levels.specs.declared.rows.bin_at.BinAt.{BinAt}
 use Rattle.lert_spec.specs.declared.numbers.Numbers.{Numbers}
@@ -53,7 +54,8 @@ outside_of s cone n0 closed bytes n gate fault (ReplayMalformed at) why failed =
 outside_of s cone n0 closed bytes n gate fault (ReplayUnsound file at) why failed = absurd (failed_or_unsound file at failed)
 
 -- what was so when the cone was made
-pub was_before : {B : Type 0} (files : B → Option Files) (start now : Standing B) → IsSameCone start now → WasSound files now → WasSound files start
+pub was_before : {B : Type 0} (files : B → Option Files) (start now : Replaying B) → IsSameReplay start now → WereSoundAs files now.listing.settings now.listing.cone now.made →
+    WereSoundAs files start.listing.settings start.listing.cone start.made
 was_before files start now same was first told =
     let sound = was first (ap files same.made ∙ told) in (
       sound.0,

@@ -42,8 +42,7 @@ pub record IsReadOn (s : Numbers) (cone : ℕ) (seen : Files) (events : List ℕ
   pub shut : IsClosed (seen JOURNAL) gate
   pub enough : last_n0 records ≤ length events
 
--- Files that are in their format to their end, and sound for no list. The one place that is told of them is the start of the
--- log: the store has all the reports that it takes, and one more is due.
+-- Files that are in their format to their end, and sound for no list. The one place that is told of them is the start of the log.
 pub record IsUnsoundAt (s : Numbers) (cone : ℕ) (seen : Files) (file at : ℕ) : Type 0 where
   pub whole : AreInFormat s cone seen
   pub none : (history : List Packet) → IsSound s cone history seen → ⊥

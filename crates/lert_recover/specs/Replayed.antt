@@ -6,8 +6,8 @@ use Rattle.lert_bay.specs.Files.{Files, Turns}
 use Rattle.lert_cone.specs.Framed.{last_flush}
 use Rattle.lert_cone.specs.History.{most_payload, end_of}
 use Rattle.lert_cone.specs.Replay.{MayFollow, ReplayLeavesAt}
+use Rattle.lert_cone.specs.Replaying.{Replaying}
 use Rattle.lert_cone.specs.Replays.{Replays}
-use Rattle.lert_cone.specs.Stands.{Standing}
 use Rattle.lert_gatelog.specs.Gated.{IsClosed, Records, next_gate}
 use Rattle.lert_journal.specs.Journal.{HoldsPacket}
 use Rattle.lert_journal.specs.Payload.{payload_of}
@@ -72,7 +72,7 @@ FlushesNothing s n0 bytes n gate = (packets : List Packet) (end : ℕ) → Recor
 -- ---- while packets are replayed
 
 -- a cone is on its way through the packets of a list, wherever on it
-abbrev pub ReplaysSome : {B : Type 0} → (B → Option Files) → (B → Files → Type 0) → Standing B → List Packet → Type 0
+abbrev pub ReplaysSome : {B : Type 0} → (B → Option Files) → (B → Files → Type 0) → Replaying B → List Packet → Type 0
 ReplaysSome files leaves cone history = (done : List Packet) × Replays files leaves cone history done
 
 -- the journal reads as before

@@ -5,7 +5,7 @@ use Rattle.lert_bay.specs.declared.bay.TheConstants.{JOURNAL, LOG}
 use Rattle.lert_bay.specs.Files.{Files, IfTold}
 use Rattle.lert_bay.specs.Kept.{Bays}
 use Rattle.lert_cone.specs.KeepsLog.{IsHeadOf, KeepsLog, head_of}
-use Rattle.lert_cone.specs.Stands.{Standing}
+use Rattle.lert_cone.specs.Replaying.{Replaying}
 use Rattle.lert_files.specs.Headed.{HasOther}
 use Rattle.lert_files.specs.Opened.{LeaveAt, WritesNothing}
 use Rattle.lert_recover.specs.Replayed.{FlushesNothing}
@@ -34,6 +34,6 @@ pub record IsUnharmed {B : Type 0} (bays : Bays B) (s : Numbers) (cone : ℕ) (b
   pub log : KeepsLogIn bays s cone before after
 
 -- what becomes of the bay of a cone that is on its way through a journal: the log keeps the records with which the cone went on
-abbrev pub KeepsLogFrom : {B : Type 0} → Bays B → Standing B → B → Type 0
+abbrev pub KeepsLogFrom : {B : Type 0} → Bays B → Replaying B → B → Type 0
 KeepsLogFrom bays cone after = IfTold (bays.files cone.bay) (λ seen. (records : List LogRecord) → IsHeadOf cone.listing.settings records (head_of cone) (seen LOG) →
     IfTold (bays.files after) (KeepsLog cone.listing.settings records cone.log.gate seen))

@@ -1,16 +1,17 @@
 //! A cone over the files of a stopped run.
 
-ghost use Rattle.std.specs.Prelude.{◌≡◌, ◌⊎◌, ℕ, ◌+◌, ◌-◌, ◌<◌, ◌≤◌, ◌^◌, ◌++◌, List, All, length, if◌then◌else◌, MatchResult, IfOk, IfErr, IsErrAnd};
+ghost use Rattle.std.specs.Prelude.{◌≡◌, ◌⊎◌, ℕ, ◌+◌, ◌-◌, ◌<◌, ◌≤◌, ◌^◌, ◌++◌, List, All, None, length, if◌then◌else◌, MatchResult, IfOk, IfErr, IsErrAnd};
 ghost use Rattle.lert_base.specs.declared.kept.Kept.{Kept as KeptOf};
 ghost use Rattle.lert_base.specs.Packet.{Packet, events_of};
 ghost use Rattle.lert_bay.specs.declared.bay.TheConstants.{JOURNAL, LOG, FRAMES};
 ghost use Rattle.lert_bay.specs.Files.{Files, IfTold};
 ghost use Rattle.lert_bay.specs.Kept.{CallsBay};
 ghost use Rattle.lert_cone.specs.Framed.{HoldsSome};
-ghost use Rattle.lert_cone.specs.Marks.{IsMarkOf, last_mark};
+ghost use Rattle.lert_cone.specs.JournalPlaces.{IsPlaceIn, last_place};
+ghost use Rattle.lert_cone.specs.Replaying.{readied};
 ghost use Rattle.lert_cone.specs.Room.{IsRoom};
 ghost use Rattle.lert_cone.specs.Sound.{IsSound, IsJournal, StaysSound};
-ghost use Rattle.lert_cone.specs.Stands.{IsSameCone, StandsFor, WasSound};
+ghost use Rattle.lert_cone.specs.Stands.{IsSameCone, StandsFor, WereSoundAs};
 ghost use Rattle.lert_cone.specs.Wrote.{IsShutIfTold};
 ghost use Rattle.lert_gatelog.specs.Gated.{IsClosed};
 ghost use Rattle.lert_files.specs.Headed.{HasOther};
@@ -31,7 +32,7 @@ use crate::journal_rest::why_stopped;
 use crate::replay::replay_all;
 use lert_base::{CountTable, Settings};
 use lert_bay::Bay;
-use lert_cone::{Cone, ConeRoom, ConeState, LogPoint};
+use lert_cone::{Cone, ConeRoom, ConeState, LogPoint, ReplayingCone};
 use lert_files::{ReopenFault, read_files};
 
 /// A cone that wasn't reopened. Its journal reads as before, files that were sound for a list are sound for it, and files of other
@@ -82,7 +83,7 @@ pub fn reopen<B: Bay, T: CountTable>(
     // the keys that aren't read. Where that is a record of the whole journal, they are all keys of the journal.
     ensures journal { IfTold (B.files bay) (λ seen. IfOk result (λ now. IsReadOn room.settings cone seen now.listing.events now.gate)) }
     ensures journal_whole { IfTold (B.files bay) (λ seen. (h : List Packet) → IsJournal room.settings cone h (seen JOURNAL) →
-        (records : List LogRecord) (log_end : ℕ) → HasLog room.settings cone (seen LOG) records log_end → IsMarkOf h (last_mark records) →
+        (records : List LogRecord) (log_end : ℕ) → HasLog room.settings cone (seen LOG) records log_end → IsPlaceIn h (last_place records) →
         IfOk result (λ now. now.listing.events ≡ events_of h)) }
 
     // Of sound files it reads no more of the journal than some bytes for each key of level 0, whatever it answers and however long
@@ -91,8 +92,8 @@ pub fn reopen<B: Bay, T: CountTable>(
         (λ now. B.handed_out now.bay JOURNAL ≤ B.handed_out bay JOURNAL + most_read room.settings)
         (λ refused. B.handed_out refused.bay JOURNAL ≤ B.handed_out bay JOURNAL + most_read room.settings)) }
 
-    // A place is the first one at which they leave their format. Files that leave it nowhere and are sound for no list are refused
-    // for their log alone, at its start, where one report more would be due than the store takes.
+    // A place is the first one at which they leave their format. Files that leave it nowhere may be refused only where they are sound
+    // for no list, and then for their log, at its start.
     ensures malformed { IfTold (B.files bay) (λ seen. IfErr result (λ refused. (file at : ℕ) → refused.fault ≡ ReopenFault.Malformed file at →
         FirstLeaves room.settings cone seen file at ⊎ IsUnsoundAt room.settings cone seen file at)) }
     ensures other { IfTold (B.files bay) (λ seen. IfErr result (λ refused. (kept : KeptOf) → refused.fault ≡ ReopenFault.OtherSettings kept →
@@ -178,7 +179,7 @@ fn reopen_in_order<B: Bay, T: CountTable>(
             let settings = room.settings;
             // The journal last: levels and reports stand for its first n0 events, and level 0 is counted again from the record on that
             // holds its first one.
-            let begun = Cone::adopt(room, cone, bay, end);
+            let begun = ReplayingCone::adopt(room, cone, bay, end);
             replay_journal(&settings, cone, &end, begun)
         }
         Err(fault) => Err(ReopenRefused { fault, bay }),
@@ -190,11 +191,11 @@ fn replay_journal<B: Bay, T: CountTable>(
     settings: &Settings,
     number: u32,
     last: &LogPoint,
-    mut cone: Cone<B, T>,
+    mut cone: ReplayingCone<B, T>,
 ) -> Result<Cone<B, T>, ReopenRefused<B>>
     requires own { (cone.listing.settings ≡ settings.now) × (cone.listing.cone ≡ number) × (cone.last ≡ last.now) }
     requires place { last.now.n0 ≤ capacity settings.now }
-    requires replaying { cone.state ≡ ConeState.Replaying }
+    requires taking { cone.stopped ≡ None }
     requires valid { IsValid cone.listing.settings }
     requires begun { (cone.gate ≡ last.now.offset) × (cone.events ≡ length cone.listing.events) }
     requires few { cone.events ≤ last.now.n0 }
@@ -207,11 +208,11 @@ fn replay_journal<B: Bay, T: CountTable>(
     ensures fails { IfTold (B.files cone.bay) (λ _. IfErr result (λ refused. (h : List Packet) → ReplaysSome B.files B.leaves cone h →
         refused.fault ≡ ReopenFault.Failed)) }
     ensures stands { IfOk result (λ now. (h : List Packet) → All (λ packet. 0 < length packet.keys) h → length (events_of h) ≡ now.events →
-        (WasSound B.files cone → IfTold (B.files cone.bay) (λ _. ReplaysSome B.files B.leaves cone h)) → StandsFor B.files B.leaves B.faults now h) }
+        (WereSoundAs B.files cone.listing.settings cone.listing.cone cone.made → IfTold (B.files cone.bay) (λ _. ReplaysSome B.files B.leaves cone h)) → StandsFor B.files B.leaves B.faults now h) }
     ensures passed { IfOk result (λ now. cone.last.n0 ≤ length now.listing.events) }
     ensures counted { IfOk result (λ now. now.events ≡ length now.listing.events) }
     ensures state { IfOk result (λ now. (now.listing.closed ≡ cone.listing.closed) × (now.state ≡ if cone.last.closed then ConeState.Finished else ConeState.Running)) }
-    ensures same_cone { IfOk result (λ now. IsSameCone cone now) }
+    ensures same_cone { IfOk result (λ now. IsSameCone (readied cone) now) }
     ensures reads { MatchResult result (λ now. IsJournalSame (B.files cone.bay) (B.files now.bay)) (λ refused. IsJournalSame (B.files cone.bay) (B.files refused.bay)) }
     ensures kept { MatchResult result (λ now. CallsBay B.Bay cone.bay now.bay ⊥) (λ refused. CallsBay B.Bay cone.bay refused.bay (refused.fault ≡ ReopenFault.Failed)) }
     ensures stays_sound { IfTold (B.files cone.bay) (λ _. IfErr result (λ refused. (h : List Packet) → ReplaysSome B.files B.leaves cone h →
@@ -230,8 +231,7 @@ fn replay_journal<B: Bay, T: CountTable>(
     match replay_all(&mut cone, last.offset) {
         Ok(end) => {
             // Ready only at the journal's closed gate, where the next packet goes.
-            cone.ready(end);
-            Ok(cone)
+            Ok(cone.ready(end))
         }
         Err(stop) => {
             let mut bay = cone.into_bay();

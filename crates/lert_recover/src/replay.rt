@@ -1,6 +1,6 @@
 //! The packets of a journal, replayed one after the other.
 
-ghost use Rattle.std.specs.Prelude.{◌≡◌, ℕ, ◌+◌, ◌*◌, ◌≤◌, ◌^◌, List, length, MatchResult, OnOk, IfOk, IfErr, IsErrAnd};
+ghost use Rattle.std.specs.Prelude.{◌≡◌, ℕ, ◌+◌, ◌*◌, ◌≤◌, ◌^◌, List, length, None, MatchResult, OnOk, IfOk, IfErr, IsErrAnd};
 ghost use Rattle.lert_base.specs.Packet.{Packet};
 ghost use Rattle.lert_bay.specs.declared.bay.TheConstants.{JOURNAL, LOG, FRAMES};
 ghost use Rattle.lert_bay.specs.Files.{Files, IfTold, Turns};
@@ -8,9 +8,9 @@ ghost use Rattle.lert_bay.specs.Kept.{CallsBay};
 ghost use Rattle.lert_cone.specs.Framed.{HoldsSome};
 ghost use Rattle.lert_cone.specs.KeepsLog.{KeepsLogOf, head_of};
 ghost use Rattle.lert_cone.specs.Replay.{ReplayLeavesAt};
+ghost use Rattle.lert_cone.specs.Replaying.{IsSameReplay};
 ghost use Rattle.lert_cone.specs.Replays.{Replays};
 ghost use Rattle.lert_cone.specs.Sound.{IsSound, StaysSound};
-ghost use Rattle.lert_cone.specs.Stands.{IsSameCone};
 ghost use Rattle.lert_cone.specs.Wrote.{IsShutIfTold};
 ghost use Rattle.lert_files.specs.Opened.{WritesNothing};
 ghost use Rattle.lert_gatelog.specs.Gated.{IsClosed};
@@ -21,7 +21,7 @@ ghost use Rattle.lert_spec.specs.Limits.{IsValid};
 
 use lert_base::CountTable;
 use lert_bay::Bay;
-use lert_cone::{Cone, ConeState, ReplayFault};
+use lert_cone::{ReplayFault, ReplayingCone};
 
 /// Where a replay stopped: at a gate, behind so many keys, and why.
 #[derive(Clone, Copy)]
@@ -32,8 +32,11 @@ pub struct Stop {
 }
 
 /// Replays the packets of a cone's journal from this gate on, at which the cone waits, up to a closed gate, which is the answer.
-pub fn replay_all<B: Bay, T: CountTable>(cone: &mut Cone<B, T>, first: u64) -> Result<u64, Stop>
-    requires replaying { cone.old.state ≡ ConeState.Replaying }
+pub fn replay_all<B: Bay, T: CountTable>(
+    cone: &mut ReplayingCone<B, T>,
+    first: u64,
+) -> Result<u64, Stop>
+    requires taking { cone.old.stopped ≡ None }
     requires valid { IsValid cone.old.listing.settings }
     requires begun { (cone.old.gate ≡ first) × (cone.old.events ≡ length cone.old.listing.events) }
     requires few { (cone.old.events ≤ cone.old.last.n0) × (cone.old.last.n0 ≤ capacity cone.old.listing.settings) }
@@ -78,12 +81,12 @@ pub fn replay_all<B: Bay, T: CountTable>(cone: &mut Cone<B, T>, first: u64) -> R
 
     // Told or not, it has at least the keys that the log speaks of, and waits at the gate.
     ensures passed { OnOk result (cone.old.last.n0 ≤ length cone.new.listing.events) }
-    ensures replaying { OnOk result (cone.new.state ≡ ConeState.Replaying) }
+    ensures taking { OnOk result (cone.new.stopped ≡ None) }
     ensures gate { IfOk result (λ end. cone.new.gate ≡ end) }
     ensures shut { IfOk result (λ end. IsShutIfTold (B.files cone.new.bay) (B.leaves cone.new.bay) 0 end) }
     ensures counted { OnOk result (cone.new.events ≡ length cone.new.listing.events) }
     ensures closed { OnOk result (cone.new.listing.closed ≡ cone.old.listing.closed) }
-    ensures same_cone { IsSameCone cone.old cone.new }
+    ensures same_cone { IsSameReplay cone.old cone.new }
     ensures near { IfErr result (λ stop. (stop.gate ≤ 2 ^ 46 + 65536 * stop.events) × (stop.events ≤ capacity cone.old.listing.settings)) }
     ensures journal { IsJournalSame (B.files cone.old.bay) (B.files cone.new.bay) }
     ensures kept { CallsBay B.Bay cone.old.bay cone.new.bay (IsErrAnd result (λ stop. stop.fault ≡ ReplayFault.Failed)) }

@@ -4,7 +4,7 @@
 //! for; each other status says why there is no such text. It changes no journal, leaves files sound that were so, and leaves
 //! files of other settings as they were. The top call stands on it.
 
-mod recover;
+mod directory;
 mod reopened_cones;
 
-pub use recover::recover_to;
+pub use directory::recover_to;

@@ -18,7 +18,7 @@ impl<B: Bay, T: CountTable> Held for Cone<B, T> {
 
     type Refusal = ConeFault;
 
-    ghost terms = { λ c. terms_of c };
+    ghost terms = { λ c. terms_of B.faults B.mark c };
 
     ghost stands_for = { λ c h. StandsFor B.files B.leaves B.faults c h };
 

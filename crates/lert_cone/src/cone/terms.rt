@@ -10,15 +10,15 @@ use lert_bay::Bay;
 use std::marker::Model;
 use std::snapshot::Snapshot;
 
-/// What no packet changes of a cone: its numbers, its own number, whether it is finished, and its bay as it was when the cone
-/// was made. The last is for contracts alone, and has no bytes: whether the bay told its files, its count of faults and its
-/// mark are read off it.
+/// What no packet changes of a cone: its numbers, its own number, its bay as it was when the cone was made, and whether the cone is
+/// finished. The bay is for contracts alone, and has no bytes: it tells whether it told its files, and its count of faults and its
+/// mark then are seen among the terms.
 #[derive(Drop)]
 pub struct ConeTerms<B: Bay> {
     pub numbers: Numbers,
     pub cone: u32,
-    pub finished: bool,
     pub made: Snapshot<Snapshot<B>>,
+    pub finished: bool,
 }
 
 impl<B: Bay> Model for ConeTerms<B> {
@@ -26,19 +26,26 @@ impl<B: Bay> Model for ConeTerms<B> {
 
     ghost Value = { Terms B };
 
-    ghost view = { λ t. record { settings = t.numbers; cone = t.cone; finished = t.finished; made = t.made.value.value } };
+    ghost view = { λ t. record {
+      settings = t.numbers;
+      cone = t.cone;
+      made = t.made.value.value;
+      finished = t.finished;
+      faults = B.faults t.made.value.value;
+      mark = B.mark t.made.value.value;
+    } };
 }
 
 impl<B: Bay, T: CountTable> Cone<B, T> {
     /// What it shows under a lock. Takes no memory.
     pub fn terms(&self) -> ConeTerms<B>
-        ensures value { result ≡ terms_of self.now }
+        ensures value { result ≡ terms_of B.faults B.mark self.now }
     {
         ConeTerms {
             numbers: self.tally.settings().numbers(),
             cone: self.tally.cone(),
-            finished: is_finished(self.state),
             made: Snapshot::of(&self.made),
+            finished: is_finished(self.state),
         }
     }
 }
@@ -52,6 +59,5 @@ fn is_finished(state: ConeState) -> bool
         ConeState::Finished => true,
         ConeState::BrokenByBay => false,
         ConeState::BrokenByRead { .. } => false,
-        ConeState::Replaying => false,
     }
 }

@@ -6,7 +6,7 @@ use Rattle.lert_bay.specs.Kept.{Bays}
 use Rattle.lert_spec.specs.declared.numbers.Numbers.{Numbers}
 use Rattle.lert_spec.specs.Edges.{capacity}
 use Rattle.lert_cone.specs.Listing.{Listing}
-use Rattle.lert_cone.specs.Marks.{HasPassed}
+use Rattle.lert_cone.specs.JournalPlaces.{HasPassed}
 use Rattle.lert_cone.specs.Record.{LogPlace}
 use Rattle.lert_cone.specs.Takes.{CanTake, ReplaysKeys, TakesKeys}
 use Rattle.lert_bay.proofs.KeptLaws.{IsLawful}
@@ -67,16 +67,16 @@ returns-then-is_empty g c =
       events = c.args.tally.now.listing.events ++ keys;
       closed = c.args.tally.now.listing.closed;
     }) c.split_at.ensures.front in
-    let over : HasPassed (length c.count_again.new.tally.listing.events) c.args.mark c.args.log.now.marks c.pass.new.self.marks =
-    subst (λ n. HasPassed n c.args.mark c.args.log.now.marks c.pass.new.self.marks) c.len-2.ensures c.pass.ensures.passed in
+    let over : HasPassed (length c.count_again.new.tally.listing.events) c.args.place c.args.log.now.places c.pass.new.self.places =
+    subst (λ n. HasPassed n c.args.place c.args.log.now.places c.pass.new.self.places) c.len-2.ensures c.pass.ensures.passed in
     let none : length c.split_at.result.1.now ≡ 0 = eqb-true (length c.split_at.result.1.now) 0 (sym c.is_empty.ensures ∙ c.if-is_empty.true) in
-    subst (λ (l : LogPlace). ReplaysKeys (bays g) c.args.n0 c.args.mark c.args.keys.now
+    subst (λ (l : LogPlace). ReplaysKeys (bays g) c.args.n0 c.args.place c.args.keys.now
     (record { bay = c.args.bay.now; counts = c.args.tally.now; log = c.args.log.now; room = length c.args.buffer.now })
     (record { bay = c.args.bay.now; counts = c.count_again.new.tally; log = l; room = length c.args.buffer.now }) (Ok tt)) (sym c.pass.ensures.rest)
-    (all_again (bays g) (lawful g) c.args.mark
+    (all_again (bays g) (lawful g) c.args.place
     (record { bay = c.args.bay.now; counts = c.args.tally.now; log = c.args.log.now; room = length c.args.buffer.now })
     c.args.n0 c.min-count.result c.args.keys.now c.requires c.count_again.new.tally count_is listing_is c.count_again.ensures.rows c.count_again.ensures.due c.count_again.ensures.recounted
-    c.pass.new.self.marks over
+    c.pass.new.self.places over
     (ap (length {A = ℕ}) (sym c.split_at.ensures.back) ∙ none))
 
 pub take_keys-requires : goal.take_keys-requires
@@ -89,18 +89,18 @@ take_keys-requires g c =
       events = c.args.tally.now.listing.events ++ keys;
       closed = c.args.tally.now.listing.closed;
     }) c.split_at.ensures.front in
-    let over : HasPassed (length c.count_again.new.tally.listing.events) c.args.mark c.args.log.now.marks c.pass.new.self.marks =
-    subst (λ n. HasPassed n c.args.mark c.args.log.now.marks c.pass.new.self.marks) c.len-2.ensures c.pass.ensures.passed in
+    let over : HasPassed (length c.count_again.new.tally.listing.events) c.args.place c.args.log.now.places c.pass.new.self.places =
+    subst (λ n. HasPassed n c.args.place c.args.log.now.places c.pass.new.self.places) c.len-2.ensures c.pass.ensures.passed in
     let some : 0 < length c.split_at.result.1.now = omega (arith, eqb-false (length c.split_at.result.1.now) 0 (sym c.is_empty.ensures ∙ c.if-is_empty.false)) in
     let some_left : 0 < length (drop c.min-count.result c.args.keys.now) = omega (arith, some, ap (length {A = ℕ}) c.split_at.ensures.back) in
     subst (λ (keys : List ℕ). CanTake (bays g) keys (record { bay = c.args.bay.now; counts = c.count_again.new.tally; log = c.pass.new.self; room = length c.args.buffer.now }))
     (sym c.split_at.ensures.back)
     (subst (λ (l : LogPlace). CanTake (bays g) (drop c.min-count.result c.args.keys.now)
     (record { bay = c.args.bay.now; counts = c.count_again.new.tally; log = l; room = length c.args.buffer.now })) (sym c.pass.ensures.rest)
-    (can_take_ahead (bays g) (lawful g) c.args.mark
+    (can_take_ahead (bays g) (lawful g) c.args.place
     (record { bay = c.args.bay.now; counts = c.args.tally.now; log = c.args.log.now; room = length c.args.buffer.now })
     c.args.n0 c.min-count.result c.args.keys.now c.requires c.count_again.new.tally count_is listing_is c.count_again.ensures.rows c.count_again.ensures.due c.count_again.ensures.recounted
-    c.pass.new.self.marks over some_left))
+    c.pass.new.self.places over some_left))
 
 pub returns : goal.returns
 returns g c =
@@ -112,19 +112,19 @@ returns g c =
       events = c.args.tally.now.listing.events ++ keys;
       closed = c.args.tally.now.listing.closed;
     }) c.split_at.ensures.front in
-    let over : HasPassed (length c.count_again.new.tally.listing.events) c.args.mark c.args.log.now.marks c.pass.new.self.marks =
-    subst (λ n. HasPassed n c.args.mark c.args.log.now.marks c.pass.new.self.marks) c.len-2.ensures c.pass.ensures.passed in
+    let over : HasPassed (length c.count_again.new.tally.listing.events) c.args.place c.args.log.now.places c.pass.new.self.places =
+    subst (λ n. HasPassed n c.args.place c.args.log.now.places c.pass.new.self.places) c.len-2.ensures c.pass.ensures.passed in
     let some : 0 < length c.split_at.result.1.now = omega (arith, eqb-false (length c.split_at.result.1.now) 0 (sym c.is_empty.ensures ∙ c.if-is_empty.false)) in
     let some_left : 0 < length (drop c.min-count.result c.args.keys.now) = omega (arith, some, ap (length {A = ℕ}) c.split_at.ensures.back) in
-    others_ahead (bays g) (lawful g) c.args.mark
+    others_ahead (bays g) (lawful g) c.args.place
     (record { bay = c.args.bay.now; counts = c.args.tally.now; log = c.args.log.now; room = length c.args.buffer.now })
     c.args.n0 c.min-count.result c.args.keys.now c.requires c.count_again.new.tally count_is listing_is c.count_again.ensures.rows c.count_again.ensures.due c.count_again.ensures.recounted
-    c.pass.new.self.marks over some_left
+    c.pass.new.self.places over some_left
     (record { bay = c.take_keys.new.bay; counts = c.take_keys.new.tally; log = c.take_keys.new.log; room = length c.take_keys.new.buffer }) c.take_keys.result
-    (subst (λ (l : LogPlace). TakesKeys (bays g) c.args.mark (drop c.min-count.result c.args.keys.now)
+    (subst (λ (l : LogPlace). TakesKeys (bays g) c.args.place (drop c.min-count.result c.args.keys.now)
     (record { bay = c.args.bay.now; counts = c.count_again.new.tally; log = l; room = length c.args.buffer.now })
     (record { bay = c.take_keys.new.bay; counts = c.take_keys.new.tally; log = c.take_keys.new.log; room = length c.take_keys.new.buffer }) c.take_keys.result) c.pass.ensures.rest
-    (subst (λ (keys : List ℕ). TakesKeys (bays g) c.args.mark keys
+    (subst (λ (keys : List ℕ). TakesKeys (bays g) c.args.place keys
     (record { bay = c.args.bay.now; counts = c.count_again.new.tally; log = c.pass.new.self; room = length c.args.buffer.now })
     (record { bay = c.take_keys.new.bay; counts = c.take_keys.new.tally; log = c.take_keys.new.log; room = length c.take_keys.new.buffer }) c.take_keys.result) c.split_at.ensures.back
     c.take_keys.ensures))

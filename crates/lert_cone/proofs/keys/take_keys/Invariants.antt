@@ -15,5 +15,5 @@ invariant-loop-key g l =
       left_since = g.B.Bay.left_since;
       handed_out = g.B.Bay.handed_out;
     })
-    l.mark (take l.key-index l.fn.keys) (record { bay = l.fn.bay; counts = l.fn.tally; log = l.fn.log; room = length l.fn.buffer })
+    l.place (take l.key-index l.fn.keys) (record { bay = l.fn.bay; counts = l.fn.tally; log = l.fn.log; room = length l.fn.buffer })
     (record { bay = l.bay; counts = l.tally; log = l.log; room = length l.buffer }) (Ok tt)

@@ -35,10 +35,10 @@ returns-clause-journal g c seen told =
     (λ (refused : ReopenRefused g.row.B.Denot). refused.fault) c.reopen_in_order.result (c.reopen_in_order.ensures.told seen told)
 
 pub returns-clause-journal_whole : goal.returns-clause-journal_whole
-returns-clause-journal_whole g c seen told h journal records log_end log mark =
+returns-clause-journal_whole g c seen told h journal records log_end log place =
     whole_told c.args.room.settings c.args.cone c.requires.room.valid c.requires.named c.ranges.cone.fits seen
     (λ (now : Standing g.row.B.Denot). now.listing.closed) (λ (now : Standing g.row.B.Denot). now.listing.events) (λ (now : Standing g.row.B.Denot). now.gate)
-    (λ (refused : ReopenRefused g.row.B.Denot). refused.fault) c.reopen_in_order.result (c.reopen_in_order.ensures.told seen told) h journal records log_end log mark
+    (λ (refused : ReopenRefused g.row.B.Denot). refused.fault) c.reopen_in_order.result (c.reopen_in_order.ensures.told seen told) h journal records log_end log place
 
 pub returns-clause-closed : goal.returns-clause-closed
 returns-clause-closed g c seen told =

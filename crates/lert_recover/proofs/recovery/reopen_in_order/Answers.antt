@@ -11,8 +11,9 @@ use Rattle.lert_bay.proofs.KeptLaws.{IsLawful, calls_as}
 use Rattle.lert_gatelog.specs.Gated.{IsClosed}
 use Rattle.lert_cone.specs.declared.state.ConeState.TheVariants.{Finished, Running}
 use Rattle.lert_cone.specs.Framed.{HoldsSome}
+use Rattle.lert_cone.specs.Replaying.{Replaying}
 use Rattle.lert_cone.specs.Sound.{IsSound}
-use Rattle.lert_cone.specs.Stands.{Standing, StandsFor, WasSound}
+use Rattle.lert_cone.specs.Stands.{Standing, StandsFor, WereSoundAs}
 use Rattle.lert_cone.specs.Wrote.{IsShutIfTold}
 use Rattle.lert_cone.proofs.TotalLaws.{edge_within}
 use Rattle.lert_cone.proofs.UnreadLaws.{length_unread}
@@ -112,11 +113,11 @@ adopt-begun-requires-clause-frames g c seen told from to named =
 pub replay_journal-requires : goal.replay_journal-requires
 replay_journal-requires g c =
     let made = c.adopt-begun.ensures.made in
-    let settings_are = ap (λ (k : Standing g.row.B.Denot). k.listing.settings) made in
+    let settings_are = ap (λ (k : Replaying g.row.B.Denot). k.listing.settings) made in
     let end = c.in-Ok.end in
     let point = c.in-Ok.ensures.point in
-    let events_are = ap (λ (k : Standing g.row.B.Denot). k.events) made in
-    let count = ap (λ (k : Standing g.row.B.Denot). length k.listing.events) made
+    let events_are = ap (λ (k : Replaying g.row.B.Denot). k.events) made in
+    let count = ap (λ (k : Replaying g.row.B.Denot). length k.listing.events) made
     ∙ length_unread c.args.room.settings c.args.cone (end.first - 1) (g.B.Bay.files c.read_files.new.bay) in
     let shut : IsShutIfTold (g.B.Bay.files c.read_files.new.bay) (g.B.Bay.leaves c.read_files.new.bay) LOG end.log_end =
     λ seen told.
@@ -124,13 +125,13 @@ replay_journal-requires g c =
     let opened = (c.in-Ok.ensures.opened seen before).2 in
     log_shut (g.B.Bay.leaves c.read_files.new.bay) seen (c.in-Ok.ensures.durable seen before) end.log_end opened.log.records_stand.closed in
     record {
-      own = (settings_are, ap (λ (k : Standing g.row.B.Denot). k.listing.cone) made, ap (λ (k : Standing g.row.B.Denot). k.last) made);
+      own = (settings_are, ap (λ (k : Replaying g.row.B.Denot). k.listing.cone) made, ap (λ (k : Replaying g.row.B.Denot). k.last) made);
       place = c.in-Ok.ensures.point.within;
-      replaying = ap (λ (k : Standing g.row.B.Denot). k.state) made;
+      taking = ap (λ (k : Replaying g.row.B.Denot). k.stopped) made;
       valid = subst IsValid (sym settings_are) c.requires.room.valid;
-      begun = (ap (λ (k : Standing g.row.B.Denot). k.gate) made, events_are ∙ sym count);
+      begun = (ap (λ (k : Replaying g.row.B.Denot). k.gate) made, events_are ∙ sym count);
       few = omega (arith, events_are, point.first_from, point.first_to, edge_within c.args.room.settings 0 end.n0);
-      log_shut = subst (λ (k : Standing g.row.B.Denot). IsShutIfTold (g.B.Bay.files k.bay) (g.B.Bay.leaves k.bay) LOG k.log.gate) (sym made) shut;
+      log_shut = subst (λ (k : Replaying g.row.B.Denot). IsShutIfTold (g.B.Bay.files k.bay) (g.B.Bay.leaves k.bay) LOG k.log.gate) (sym made) shut;
       near = point.offset_to;
     }
 
@@ -173,8 +174,8 @@ returns-in-Ok g c =
     let start = c.adopt-begun.result in
     let read = c.in-Ok.ensures in
     let made = c.adopt-begun.ensures.made in
-    let bay_is = ap (λ (k : Standing g.row.B.Denot). k.bay) made in
-    let made_is = ap (λ (k : Standing g.row.B.Denot). k.made) made in
+    let bay_is = ap (λ (k : Replaying g.row.B.Denot). k.bay) made in
+    let made_is = ap (λ (k : Replaying g.row.B.Denot). k.made) made in
     let result = c.replay_journal.result in
     let replayed = c.replay_journal.ensures in
     let quiet : WritesNothing (bays g) c.args.bay c.read_files.new.bay ⊥ =
@@ -201,16 +202,16 @@ returns-in-Ok g c =
           let after = c.read_files.ensures.quiet.seen ∙ told in
           let opened = c.in-Ok.ensures.opened seen told in
           let result = c.replay_journal.result in
-          let journal = subst (λ (k : Standing g.row.B.Denot). (now : Files) → files k.bay ≡ Some now → HoldsSome k.listing.settings k.last.n0 k.rows (now FRAMES) →
+          let journal = subst (λ (k : Replaying g.row.B.Denot). (now : Files) → files k.bay ≡ Some now → HoldsSome k.listing.settings k.last.n0 k.rows (now FRAMES) →
           MatchResult result
           (λ (cone : Standing g.row.B.Denot). HasReplayed k.listing.settings k.listing.cone k.last.n0 k.last.closed (now JOURNAL) k.listing.events c.in-Ok.end.offset cone.gate
           cone.listing.events × IsClosed (now JOURNAL) cone.gate)
           (λ (refused : ReopenRefused g.row.B.Denot). IsStopped k.listing.settings k.listing.cone k.last.n0 k.last.closed (now JOURNAL) (length k.listing.events) c.in-Ok.end.offset
           refused.fault))
           c.adopt-begun.ensures.made c.replay_journal.ensures.told in
-          let passed = subst (λ (k : Standing g.row.B.Denot). IfOk result (λ (cone : Standing g.row.B.Denot). k.last.n0 ≤ length cone.listing.events)) c.adopt-begun.ensures.made
+          let passed = subst (λ (k : Replaying g.row.B.Denot). IfOk result (λ (cone : Standing g.row.B.Denot). k.last.n0 ≤ length cone.listing.events)) c.adopt-begun.ensures.made
           c.replay_journal.ensures.passed in
-          let closed = subst (λ (k : Standing g.row.B.Denot). IfOk result (λ (cone : Standing g.row.B.Denot). cone.listing.closed ≡ k.listing.closed)) c.adopt-begun.ensures.made
+          let closed = subst (λ (k : Replaying g.row.B.Denot). IfOk result (λ (cone : Standing g.row.B.Denot). cone.listing.closed ≡ k.listing.closed)) c.adopt-begun.ensures.made
           (ok_on (λ (cone : Standing g.row.B.Denot). (cone.listing.closed ≡ c.adopt-begun.result.listing.closed) ×
           (cone.state ≡ if c.adopt-begun.result.last.closed then Finished else Running))
           (λ (cone : Standing g.row.B.Denot). cone.listing.closed ≡ c.adopt-begun.result.listing.closed)
@@ -231,22 +232,22 @@ returns-in-Ok g c =
           let start = c.adopt-begun.result in
           let end = c.in-Ok.end in
           let on_way : (h : List Packet) → ((seen : Files) → files c.args.bay ≡ Some seen → (other : List Packet) → IsSound s cone other seen → IsSound s cone h seen) →
-          WasSound files start → (seen : Files) → files start.bay ≡ Some seen → ReplaysSome files leaves start h =
+          WereSoundAs files start.listing.settings start.listing.cone start.made → (seen : Files) → files start.bay ≡ Some seen → ReplaysSome files leaves start h =
           λ h same was seen told.
-          let after = sym (ap (λ (k : Standing g.row.B.Denot). files k.bay) c.adopt-begun.ensures.made) ∙ told in
+          let after = sym (ap (λ (k : Replaying g.row.B.Denot). files k.bay) c.adopt-begun.ensures.made) ∙ told in
           let before = sym c.read_files.ensures.quiet.seen ∙ after in
           let opened = c.in-Ok.ensures.opened seen before in
-          let first = was seen (ap (λ (k : Standing g.row.B.Denot). files k.made) c.adopt-begun.ensures.made ∙ after) in
-          let own = subst (λ (k : Standing g.row.B.Denot). IsSound k.listing.settings k.listing.cone first.0 seen) c.adopt-begun.ensures.made first.1 in
+          let first = was seen (ap (λ (k : Replaying g.row.B.Denot). files k.made) c.adopt-begun.ensures.made ∙ after) in
+          let own = subst (λ (k : Replaying g.row.B.Denot). IsSound k.listing.settings k.listing.cone first.0 seen) c.adopt-begun.ensures.made first.1 in
           c.adopt-begun.ensures.replays seen after opened.0 opened.2.log
           (last_of s cone end.n0 end.offset end.first end.closed c.read_files.new.store.reports c.read_files.new.levels.rows opened.0 opened.1 opened.2.named)
           h (same seen before first.0 own) in
           stands_on (λ h. All (λ (packet : Packet). 0 < length packet.keys) h) (λ h (now : Standing g.row.B.Denot). length (events_of h) ≡ now.events)
-          (λ h. WasSound files start → (seen : Files) → files start.bay ≡ Some seen → ReplaysSome files leaves start h)
+          (λ h. WereSoundAs files start.listing.settings start.listing.cone start.made → (seen : Files) → files start.bay ≡ Some seen → ReplaysSome files leaves start h)
           (λ h. (seen : Files) → files c.args.bay ≡ Some seen → (other : List Packet) → IsSound s cone other seen → IsSound s cone h seen)
           (λ (now : Standing g.row.B.Denot) h. StandsFor files leaves g.B.Faulty.faults now h) c.replay_journal.result on_way c.replay_journal.ensures.stands;
-      own = own_of start s cone (ap (λ (k : Standing g.row.B.Denot). k.listing.settings) made) (ap (λ (k : Standing g.row.B.Denot). k.listing.cone) made)
-          (ap (λ (k : Standing g.row.B.Denot). k.listing.closed) made ∙ sym (ap (λ (k : Standing g.row.B.Denot). k.last.closed) made)) result replayed.same_cone replayed.counted
+      own = own_of start s cone (ap (λ (k : Replaying g.row.B.Denot). k.listing.settings) made) (ap (λ (k : Replaying g.row.B.Denot). k.listing.cone) made)
+          (ap (λ (k : Replaying g.row.B.Denot). k.listing.closed) made ∙ sym (ap (λ (k : Replaying g.row.B.Denot). k.last.closed) made)) result replayed.same_cone replayed.counted
           replayed.state;
       made = made_of start files faults mark c.args.bay (ap files made_is ∙ read.quiet.seen)
           (subst (λ (bay : g.row.B.Denot). faults c.args.bay ≤ faults bay) (sym made_is) read.quiet.kept.never_falls)
@@ -255,13 +256,13 @@ returns-in-Ok g c =
       kept = says.kept;
       stays_sound = λ seen told h sound.
           IfErr-weaker result _ _ (λ refused all now is.
-          subst (λ (t : Numbers). IsSound t cone h now) (ap (λ (k : Standing g.row.B.Denot). k.listing.settings) made)
-          (subst (λ (n : ℕ). IsSound start.listing.settings n h now) (ap (λ (k : Standing g.row.B.Denot). k.listing.cone) made)
+          subst (λ (t : Numbers). IsSound t cone h now) (ap (λ (k : Replaying g.row.B.Denot). k.listing.settings) made)
+          (subst (λ (n : ℕ). IsSound start.listing.settings n h now) (ap (λ (k : Replaying g.row.B.Denot). k.listing.cone) made)
           (all h (begun seen told h sound) now is)))
           (replayed.stays_sound seen (there seen told));
       each_moment = λ seen told h each.
           stays_made (bays g) (lawful g) h bay_in (λ (refused : ReopenRefused g.row.B.Denot). refused.fault ≡ Failed) s cone start c.args.bay
-          (ap (λ (k : Standing g.row.B.Denot). k.listing.settings) made) (ap (λ (k : Standing g.row.B.Denot). k.listing.cone) made) before seen told each result replayed.kept
+          (ap (λ (k : Replaying g.row.B.Denot). k.listing.settings) made) (ap (λ (k : Replaying g.row.B.Denot). k.listing.cone) made) before seen told each result replayed.kept
           (replayed.each_moment seen (there seen told) h (begun seen told h (each seen ((lawful g).as_read c.args.bay seen told))));
       unharmed =
           unharmed_opened (bays g) s c.args.cone c.args.bay c.requires.room.valid c.ranges.cone.fits
@@ -269,19 +270,19 @@ returns-in-Ok g c =
           (λ seen told nothing.
           let opened = c.in-Ok.ensures.opened seen told in
           let end = c.in-Ok.end in
-          let n0_is = ap (λ (k : Standing g.row.B.Denot). k.last.n0) made ∙ opened.1.n0_is in
-          let count_is = ap (λ (k : Standing g.row.B.Denot). length k.listing.events) made
+          let n0_is = ap (λ (k : Replaying g.row.B.Denot). k.last.n0) made ∙ opened.1.n0_is in
+          let count_is = ap (λ (k : Replaying g.row.B.Denot). length k.listing.events) made
           ∙ (length_unread s cone (end.first - 1) (files c.read_files.new.bay) ∙ ap (λ (n : ℕ). n - 1) opened.1.first_is) in
           let none : FlushesNothing start.listing.settings start.last.n0 (seen JOURNAL) (length start.listing.events) end.offset =
           subst (λ (t : Numbers). FlushesNothing t start.last.n0 (seen JOURNAL) (length start.listing.events) end.offset)
-          (sym (ap (λ (k : Standing g.row.B.Denot). k.listing.settings) made))
+          (sym (ap (λ (k : Replaying g.row.B.Denot). k.listing.settings) made))
           (subst (λ (n : ℕ). FlushesNothing s n (seen JOURNAL) (length start.listing.events) end.offset) (sym n0_is)
           (subst (λ (n : ℕ). FlushesNothing s (last_n0 opened.0) (seen JOURNAL) n end.offset) (sym count_is)
           (subst (λ (gate : ℕ). FlushesNothing s (last_n0 opened.0) (seen JOURNAL) (last_first opened.0 - 1) gate) (sym opened.1.offset_is)
           (nothing opened.0 end.log_end opened.2.log)))) in
           quiet_before (bays g) (lawful g) bay_in c.args.bay start.bay ⊥ before result (replayed.unflushed seen (there seen told) none))
-          (logs_in (bays g) (lawful g) start s cone c.requires.room.valid c.args.bay c.in-Ok.end.log_end (ap (λ (k : Standing g.row.B.Denot). k.listing.settings) made)
-          (ap (λ (k : Standing g.row.B.Denot). k.log.gate) made) there
+          (logs_in (bays g) (lawful g) start s cone c.requires.room.valid c.args.bay c.in-Ok.end.log_end (ap (λ (k : Replaying g.row.B.Denot). k.listing.settings) made)
+          (ap (λ (k : Replaying g.row.B.Denot). k.log.gate) made) there
           (λ seen told.
           let opened = c.in-Ok.ensures.opened seen told in
           let end = c.in-Ok.end in (
@@ -295,7 +296,7 @@ returns-in-Ok g c =
           let handed = g.B.Bay.handed_out in
           let opened = c.in-Ok.ensures.opened seen told in
           read_before (λ (bay : g.row.B.Denot). handed bay JOURNAL) bay_in s cone c.requires.room.valid seen h sound opened.0 c.in-Ok.end.log_end opened.2.log c.in-Ok.end.offset
-          opened.1.offset_is start.listing.settings (ap (λ (k : Standing g.row.B.Denot). k.listing.settings) made) c.args.bay start.bay
+          opened.1.offset_is start.listing.settings (ap (λ (k : Replaying g.row.B.Denot). k.listing.settings) made) c.args.bay start.bay
           (subst (λ (bay : g.row.B.Denot). handed bay JOURNAL ≤ handed c.args.bay JOURNAL + 32) (sym bay_is) read.handed) result
           (replayed.rest seen (there seen told) h (begun seen told h sound));
     }

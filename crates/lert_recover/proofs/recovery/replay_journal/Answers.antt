@@ -10,14 +10,15 @@ use Rattle.lert_spec.specs.Edges.{capacity}
 use Rattle.lert_reports.specs.declared.log_point.LogPoint.{LogPoint}
 use Rattle.lert_cone.specs.declared.state.ConeState.TheVariants.{Finished, Running}
 use Rattle.lert_cone.specs.Sound.{StaysSound}
-use Rattle.lert_cone.specs.Stands.{Standing}
+use Rattle.lert_cone.specs.Replaying.{readied}
+use Rattle.lert_cone.specs.Stands.{IsSameCone, Standing, WasSound}
 use Rattle.lert_cone.proofs.SoundLaws.{turns_back}
 use Rattle.lert_gatelog.specs.Gated.{IsClosed}
 use Rattle.lert_files.specs.Opened.{WritesNothing}
 use Rattle.lert_files.proofs.QuietLaws.{quiet_on, quiet_reading}
 use Rattle.lert_recover.specs.Replayed.{HasReplayed, IsJournalSame, ReadsRest}
 use Rattle.lert_recover.specs.Reopened.{IsWhy}
-use Rattle.lert_recover.proofs.ReplayingLaws.{journal_on, journal_same, same_on}
+use Rattle.lert_recover.proofs.ReplayingLaws.{journal_on, journal_same}
 use Rattle.lert_recover.proofs.LoggedLaws.{logged_from}
 use Rattle.lert_recover.proofs.MomentLaws.{stays_read}
 use Rattle.lert_recover.proofs.StopLaws.{outside_of, stopped_of, was_before}
@@ -42,7 +43,7 @@ pub replay_all-requires : goal.replay_all-requires
 replay_all-requires g c =
     let n0_is = ap (λ (last : LogPoint). last.n0) c.requires.own.2 in
     record {
-      replaying = c.requires.replaying;
+      taking = c.requires.taking;
       valid = c.requires.valid;
       begun = c.requires.begun;
       few = (
@@ -57,7 +58,7 @@ pub ready-requires : goal.ready-requires
 ready-requires g c =
     let all = c.in-Ok.ensures in
     record {
-      replaying = all.replaying;
+      taking = all.taking;
       passed = omega (arith, all.passed, ap (λ (last : LogPoint). last.n0) all.same_cone.last);
       gate = all.gate;
       shut = all.shut;
@@ -77,7 +78,7 @@ returns-in-Ok g c =
     let files = g.B.Bay.files in
     let handed = g.B.Bay.handed_out in
     let start = c.args.cone in
-    let now = c.ready.new.self in
+    let now = c.ready.result in
     let all = c.in-Ok.ensures in
     let value = c.ready.ensures.value in
     let bay_is = ap (λ (k : Standing g.row.B.Denot). k.bay) value in
@@ -89,7 +90,7 @@ returns-in-Ok g c =
           let events_are = ap (λ (k : Standing g.row.B.Denot). k.listing.events) c.ready.ensures.value in
           let gate_is = ap (λ (k : Standing g.row.B.Denot). k.gate) c.ready.ensures.value ∙ c.in-Ok.ensures.gate in (
             subst (λ (events : List ℕ). HasReplayed start.listing.settings start.listing.cone start.last.n0 start.last.closed (seen JOURNAL) start.listing.events
-                c.args.last.now.offset c.ready.new.self.gate events) (sym events_are)
+                c.args.last.now.offset c.ready.result.gate events) (sym events_are)
                 (subst (λ (gate : ℕ). HasReplayed start.listing.settings start.listing.cone start.last.n0 start.last.closed
                 (seen JOURNAL) start.listing.events c.args.last.now.offset gate c.replay_all.new.cone.listing.events) (sym gate_is) read.0),
             subst (λ (gate : ℕ). IsClosed (seen JOURNAL) gate) (sym gate_is) read.1,
@@ -102,20 +103,14 @@ returns-in-Ok g c =
           c.ready.ensures.stands_for h some (count ∙ ap (λ (k : Standing g.row.B.Denot). k.events) c.ready.ensures.value)
           (λ was now told.
           let back = turns_back (λ old new. new JOURNAL ≡ old JOURNAL) (files start.bay) (files end.bay) c.replay_all.ensures.journal now told in
-          c.in-Ok.ensures.replays back.0 back.1 h (begun (was_before files start end c.replay_all.ensures.same_cone was) back.0 back.1));
+          c.in-Ok.ensures.replays back.0 back.1 h (begun (was_before files start end c.replay_all.ensures.same_cone (subst (WasSound files) c.ready.ensures.value was)) back.0 back.1));
       passed = omega (arith, all.passed, count_is);
       counted = ap (λ (k : Standing g.row.B.Denot). k.events) value ∙ (all.counted ∙ sym count_is);
       state = (
         ap (λ (k : Standing g.row.B.Denot). k.listing.closed) value ∙ all.closed,
         ap (λ (k : Standing g.row.B.Denot). k.state) value ∙ ap (λ (last : LogPoint). if last.closed then Finished else Running) all.same_cone.last,
       );
-      same_cone = same_on files start c.replay_all.new.cone now all.same_cone
-          (record {
-            settings = ap (λ (k : Standing g.row.B.Denot). k.listing.settings) value;
-            cone = ap (λ (k : Standing g.row.B.Denot). k.listing.cone) value;
-            made = ap (λ (k : Standing g.row.B.Denot). k.made) value;
-            last = ap (λ (k : Standing g.row.B.Denot). k.last) value;
-          });
+      same_cone = subst (IsSameCone (readied start)) (sym value) all.same_cone;
       reads = subst (λ (bay : g.row.B.Denot). IsJournalSame (files start.bay) (files bay)) (sym bay_is) all.journal;
       kept = subst (λ (bay : g.row.B.Denot). CallsBay (bays g) start.bay bay ⊥) (sym bay_is)
           (calls_as (bays g) (lawful g) start.bay c.replay_all.new.cone.bay _ ⊥ (λ never. absurd never) all.kept);

@@ -7,8 +7,8 @@ use Rattle.lert_reports.specs.declared.log_point.LogPoint.{LogPoint}
 use Rattle.lert_cone.specs.declared.refusal.ReplayFault.TheVariants.{Unsound}
 use Rattle.lert_cone.specs.History.{most_payload}
 use Rattle.lert_cone.specs.KeepsLog.{head_of}
+use Rattle.lert_cone.specs.Replaying.{Replaying}
 use Rattle.lert_cone.specs.Replays.{Replays, WhyRefused}
-use Rattle.lert_cone.specs.Stands.{Standing}
 use Rattle.lert_cone.proofs.KeepsLogSteps.{log_none}
 use Rattle.lert_files.proofs.QuietLaws.{quiet_on, quiet_reading}
 use Rattle.lert_recover.specs.Replayed.{HasReplayed}
@@ -31,7 +31,7 @@ packets-init g c =
     let begun = c.requires.begun in
     let few = c.requires.few in
     record {
-      state = c.requires.replaying;
+      taking = c.requires.taking;
       same = same_none start;
       closed = refl;
       gate_is = begun.0;
@@ -53,7 +53,7 @@ packets-init g c =
 pub replay-requires : goal.replay-requires
 replay-requires g c =
     let now = c.packets.invariant in
-    record { replaying = now.state; reach = omega (arith, now.near, now.within, capacity_to c.args.cone.now.listing.settings c.requires.valid) }
+    record { taking = now.taking; reach = omega (arith, now.near, now.within, capacity_to c.args.cone.now.listing.settings c.requires.valid) }
 
 pub packets-smaller : goal.packets-smaller
 packets-smaller g c =
@@ -75,7 +75,7 @@ packets-preserved g c =
     let cost = rw c.in-Ok-Some.field-0-is at c.in-Ok-Some.ensures.handed in
     let grown = has_grown files start old new c.packets.gate c.in-Ok-Some.next now.same now.counted now.near took next.1 in
     record {
-      state = grown.state ∙ now.state;
+      taking = grown.taking ∙ now.taking;
       same = same_on files start old new now.same c.replay.ensures.same_cone;
       closed = grown.closed ∙ now.closed;
       gate_is = grown.gate_is;
@@ -83,7 +83,7 @@ packets-preserved g c =
       within = grown.within;
       near = grown.near;
       read = λ seen told. read_on files start old new seen told now.same now.journal c.args.first c.packets.gate c.in-Ok-Some.next (now.read seen told)
-          (λ there told_there. (took.packet, took.stands there told_there, took.follows, took.next_is, ap (λ (k : Standing g.row.B.Denot). k.listing) took.is));
+          (λ there told_there. (took.packet, took.stands there told_there, took.follows, took.next_is, ap (λ (k : Replaying g.row.B.Denot). k.listing) took.is));
       sound = λ seen told h begun.
           let done = now.sound seen told h begun in
           let there = now.journal.told seen told in
@@ -119,7 +119,7 @@ returns-in-Ok-None g c =
     calls_as (bays g) (lawful g) old.bay new.bay _ ⊥ (λ never. absurd never) c.replay.ensures.kept in
     let gate = c.packets.gate in
     let ended = rw c.in-Ok-None.field-0-is at c.in-Ok-None.ensures.ended in
-    let events_are = ap (λ (k : Standing g.row.B.Denot). k.listing.events) ended.is in
+    let events_are = ap (λ (k : Replaying g.row.B.Denot). k.listing.events) ended.is in
     record {
       told = λ seen told. (
         subst (λ (events : List ℕ). HasReplayed start.listing.settings start.listing.cone start.last.n0 start.last.closed (seen JOURNAL) start.listing.events c.args.first
@@ -138,11 +138,11 @@ returns-in-Ok-None g c =
           let end = rw c.in-Ok-None.field-0-is at (c.in-Ok-None.ensures.replays there.0 there.1 h done.0 done.1 (sym now.gate_is)) in
           subst (Replays g.B.Bay.files g.B.Bay.leaves new h) end.0 end.1;
       passed = omega (arith, ended.enough, ap (λ (last : LogPoint). last.n0) now.same.last, ap (length {A = ℕ}) events_are);
-      replaying = ap (λ (k : Standing g.row.B.Denot). k.state) ended.is ∙ now.state;
-      gate = ap (λ (k : Standing g.row.B.Denot). k.gate) ended.is;
+      taking = ap (λ (k : Replaying g.row.B.Denot). k.stopped) ended.is ∙ now.taking;
+      gate = ap (λ (k : Replaying g.row.B.Denot). k.gate) ended.is;
       shut = ended.shut;
-      counted = ap (λ (k : Standing g.row.B.Denot). k.events) ended.is ∙ (now.counted ∙ sym (ap (length {A = ℕ}) events_are));
-      closed = ap (λ (k : Standing g.row.B.Denot). k.listing.closed) ended.is ∙ now.closed;
+      counted = ap (λ (k : Replaying g.row.B.Denot). k.events) ended.is ∙ (now.counted ∙ sym (ap (length {A = ℕ}) events_are));
+      closed = ap (λ (k : Replaying g.row.B.Denot). k.listing.closed) ended.is ∙ now.closed;
       same_cone = same_on files start old new now.same c.replay.ensures.same_cone;
       near = tt;
       journal = journal_on (files start.bay) (files old.bay) (files new.bay) now.journal c.replay.ensures.journal.seen;
@@ -196,7 +196,7 @@ returns-in-Err g c =
           let most = ap most_payload now.same.settings in
           omega (arith, now.handed, c.in-Err.ensures.handed, now.gate_is, most, past_ahead h done.0 old.listing.events old.gate done.1.past);
       passed = tt;
-      replaying = tt;
+      taking = tt;
       gate = tt;
       shut = tt;
       counted = tt;

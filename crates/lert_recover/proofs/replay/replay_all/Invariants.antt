@@ -1,13 +1,12 @@
-use Rattle.std.proofs.Common.{◌≡◌, ◌+◌, ◌-◌, ◌*◌, ◌^◌, ◌≤◌, max, Some, Ok, List, length}
+use Rattle.std.proofs.Common.{◌≡◌, ◌+◌, ◌-◌, ◌*◌, ◌^◌, ◌≤◌, max, None, Some, Ok, List, length}
 use Rattle.lert_base.specs.Packet.{Packet}
 use Rattle.lert_bay.specs.declared.bay.TheConstants.{JOURNAL, FRAMES}
 use Rattle.lert_bay.specs.Files.{Files}
 use Rattle.lert_bay.specs.Kept.{Bays, CallsBay}
-use Rattle.lert_cone.specs.declared.state.ConeState.TheVariants.{Replaying}
 use Rattle.lert_cone.specs.Framed.{HoldsSome}
 use Rattle.lert_cone.specs.KeepsLog.{KeepsLogOf, head_of}
+use Rattle.lert_cone.specs.Replaying.{IsSameReplay}
 use Rattle.lert_cone.specs.Sound.{StaysSound}
-use Rattle.lert_cone.specs.Stands.{IsSameCone}
 use Rattle.lert_files.specs.Opened.{WritesNothing}
 use Rattle.lert_spec.specs.Edges.{capacity}
 use Rattle.lert_recover.specs.Moments.{AreSound}
@@ -28,8 +27,8 @@ bays g = record {
 -- the packets up to this gate were replayed
 abbrev pub invariant-packets : goal.invariant-packets
 invariant-packets g l = record {
-  state : l.cone.state ≡ Replaying;
-  same : IsSameCone l.fn.cone l.cone;
+  taking : l.cone.stopped ≡ None;
+  same : IsSameReplay l.fn.cone l.cone;
   closed : l.cone.listing.closed ≡ l.fn.cone.listing.closed;
   gate_is : l.cone.gate ≡ l.gate;
   counted : l.cone.events ≡ length l.cone.listing.events;

@@ -17,7 +17,7 @@ use Rattle.lert_cone.proofs.AdmitsPacket.{admitted, still_cone}
 use Rattle.lert_cone.proofs.BreaksOff.{broken_off}
 use Rattle.lert_bay.proofs.KeptLaws.{IsLawful}
 use Rattle.lert_cone.proofs.StandLaws.{broken_cone}
-use Rattle.lert_cone.proofs.FaultLaws.{is_broken_by, not_replaying_by, by_bay_of}
+use Rattle.lert_cone.proofs.FaultLaws.{is_broken_by, by_bay_of}
 use Rattle.lert_cone.proofs.cone.Cone.admit.Given as given
 use Rattle.lert_cone.proofs.cone.Cone.admit.Goals as goal
 
@@ -101,7 +101,7 @@ invariant_of-self g c =
       last = c.self.inside.last;
     })
     _ c.self.inside.tally c.take_packet.new.tally c.self.inside.journal c.take_packet.new.journal _ _ _ _
-    (ap is_broken c.broken_by-self-inside.ensures ∙ is_broken_by c.in-Err.fault) (λ same. not_replaying_by c.in-Err.fault (sym c.broken_by-self-inside.ensures ∙ same))
+    (ap is_broken c.broken_by-self-inside.ensures ∙ is_broken_by c.in-Err.fault)
     (ap (λ (l : Listing). l.settings) c.take_packet.ensures.listing) refl refl c.take_packet.ensures.file c.take_packet.ensures.most
     (sym (length_refill c.self.inside.buffer.len c.self.inside.buffer.items c.take_packet.new.buffer len_is) ∙ len_is) refl c.take_packet.ensures.kept.never_falls
     c.take_packet.ensures.seen c.take_packet.ensures.kept.mark

@@ -20,7 +20,7 @@ use Rattle.lert_cone.proofs.SoundLaws.{turns_back}
 use Rattle.lert_io.proofs.Rising.{risen_since}
 use Rattle.lert_cone.proofs.AppendLaws.{whole_of}
 use Rattle.lert_cone.proofs.StandLaws.{stands_whole, stands_broken, ended_cone, broken_cone, reports_finished}
-use Rattle.lert_cone.proofs.FaultLaws.{any_turn, by_bay_of, by_read_of, failed_of, is_broken_by, kept_since, no_refusal, not_replaying_by, turned_none, turns_as, unsound_of, untold}
+use Rattle.lert_cone.proofs.FaultLaws.{any_turn, by_bay_of, by_read_of, failed_of, is_broken_by, kept_since, no_refusal, turned_none, turns_as, unsound_of, untold}
 use Rattle.lert_cone.proofs.Refusals.{fault_as, no_failed, no_fault, no_unsound, one_fault}
 use Rattle.lert_cone.proofs.StateLaws.{broke_broken, broke_closed, passed_broken, passed_closed}
 use Rattle.lert_cone.proofs.TimeLaws.{timely}
@@ -99,8 +99,7 @@ returns-in-Err-clause-stays g c = rw (← c.self.view_is) (λ h stands.
           (l : Listing). l.cone) c.finish.ensures.listing;
       made = refl;
       last = refl;
-    }) (ap is_broken c.broken_by-self-inside.ensures ∙ is_broken_by c.in-Err.fault)
-    (λ same. not_replaying_by c.in-Err.fault (sym c.broken_by-self-inside.ensures ∙ same)) refl
+    }) (ap is_broken c.broken_by-self-inside.ensures ∙ is_broken_by c.in-Err.fault) refl
     (λ same. risen_since (g.B.Faulty.faults c.self.inside.made.value) (g.B.Faulty.faults c.self.inside.bay) (g.B.Faulty.faults c.finish.new.bay) c.self.invariant.never_falls
     c.finish.ensures.keeps.kept.never_falls
     (c.finish.ensures.keeps.kept.failed (c.in-Err.is ∙ ap Err (by_bay_of c.in-Err.fault (sym c.broken_by-self-inside.ensures ∙ same)))))
@@ -121,7 +120,7 @@ pub invariant_of-self : goal.invariant_of-self
 invariant_of-self g c =
     let len_is : c.self.inside.buffer.len ≡ length c.self.inside.buffer.items = omega (arith, c.self.inside.buffer.ok) in
     broken_cone g.B.Bay.files g.B.Bay.leaves g.B.Faulty.faults g.B.Faulty.mark _ _ c.self.inside.tally c.finish.new.tally c.self.inside.journal c.self.inside.journal _ _ _ _
-    (ap is_broken c.broken_by-self-inside.ensures ∙ is_broken_by c.in-Err.fault) (λ same. not_replaying_by c.in-Err.fault (sym c.broken_by-self-inside.ensures ∙ same)) (ap (λ
+    (ap is_broken c.broken_by-self-inside.ensures ∙ is_broken_by c.in-Err.fault) (ap (λ
     (l : Listing). l.settings) c.finish.ensures.listing) refl refl refl refl (sym (length_refill c.self.inside.buffer.len c.self.inside.buffer.items c.finish.new.buffer len_is)
     ∙ len_is) refl c.finish.ensures.keeps.kept.never_falls
     (any_turn (λ old new. new 0 ≡ old 0) (g.B.Bay.files c.self.inside.bay) (g.B.Bay.files c.finish.new.bay) c.finish.ensures.keeps.journal.seen) c.finish.ensures.keeps.kept.mark

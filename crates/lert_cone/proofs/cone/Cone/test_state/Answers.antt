@@ -28,9 +28,3 @@ returns-in-BrokenByRead g c =
     let state = c.args.self.now.state in
     let is = sym (ap (λ (v : Standing g.row.B.Denot). v.state) c.self.view_is) ∙ c.in-BrokenByRead.is in
     record { ok = tt; closed = broken_closed state (ap is_broken is); broken = broken_broken state (ap is_broken is); refusal = refl; never_full = broken_full }
-
-pub returns-in-Replaying : goal.returns-in-Replaying
-returns-in-Replaying g c =
-    let state = c.args.self.now.state in
-    let is = sym (ap (λ (v : Standing g.row.B.Denot). v.state) c.self.view_is) ∙ c.in-Replaying.is in
-    record { ok = tt; closed = broken_closed state (ap is_broken is); broken = broken_broken state (ap is_broken is); refusal = refl; never_full = broken_full }

@@ -25,13 +25,13 @@ bays g = record {
 
 pub write_log-len-requires-clause-few : goal.write_log-len-requires-clause-few
 write_log-len-requires-clause-few g c =
-    let log : LogPlace = record { gate = c.self.inside.log.gate; most = c.self.inside.log.most; named = c.self.inside.named; marks = c.self.inside.marks } in
+    let log : LogPlace = record { gate = c.self.inside.log.gate; most = c.self.inside.log.most; named = c.self.inside.named; places = c.self.inside.places } in
     few_new log c.args.directory.now c.args.reports.now
     (subst (λ (v : LogPlace). payload_len v c.args.directory.now c.args.reports.now ≤ v.most) (sym c.self.view_is) c.requires.fits) c.gate.ensures.most
 
 pub write_log-len-requires-clause-room : goal.write_log-len-requires-clause-room
 write_log-len-requires-clause-room g c =
-    let log : LogPlace = record { gate = c.self.inside.log.gate; most = c.self.inside.log.most; named = c.self.inside.named; marks = c.self.inside.marks } in
+    let log : LogPlace = record { gate = c.self.inside.log.gate; most = c.self.inside.log.most; named = c.self.inside.named; places = c.self.inside.places } in
     room_new log c.args.directory.now c.args.reports.now
     (subst (λ (v : LogPlace). payload_len v c.args.directory.now c.args.reports.now ≤ v.most) (sym c.self.view_is) c.requires.fits)
     (length c.args.buffer.now)
@@ -39,18 +39,18 @@ write_log-len-requires-clause-room g c =
 
 pub append-requires-clause-reach : goal.append-requires-clause-reach
 append-requires-clause-reach g c =
-    let log : LogPlace = record { gate = c.self.inside.log.gate; most = c.self.inside.log.most; named = c.self.inside.named; marks = c.self.inside.marks } in
+    let log : LogPlace = record { gate = c.self.inside.log.gate; most = c.self.inside.log.most; named = c.self.inside.named; places = c.self.inside.places } in
     reach_new log c.args.directory.now c.args.reports.now
     (subst (λ (v : LogPlace). payload_len v c.args.directory.now c.args.reports.now ≤ v.most) (sym c.self.view_is) c.requires.fits) _ _
-    (text_long log c.args.kind c.args.n0 c.args.directory.now c.args.reports.now c.oldest-mark.result c.oldest-mark.ensures c.write_log-len.result c.write_log-len.new.into
+    (text_long log c.args.kind c.args.n0 c.args.directory.now c.args.reports.now c.oldest-place.result c.oldest-place.ensures c.write_log-len.result c.write_log-len.new.into
     c.write_log-len.ensures.text)
     (payload_long log c.args.kind c.args.n0 c.args.directory.now c.args.reports.now)
     (subst (λ (v : LogPlace). v.gate + v.most + 6 < 9223372036854775808) (sym c.self.view_is) c.requires.reach)
 
 pub append-requires-clause-text : goal.append-requires-clause-text
 append-requires-clause-text g c =
-    let log : LogPlace = record { gate = c.self.inside.log.gate; most = c.self.inside.log.most; named = c.self.inside.named; marks = c.self.inside.marks } in
-    is_appendix log c.args.kind c.args.n0 c.args.directory.now c.args.reports.now c.oldest-mark.result c.oldest-mark.ensures c.write_log-len.result c.write_log-len.new.into
+    let log : LogPlace = record { gate = c.self.inside.log.gate; most = c.self.inside.log.most; named = c.self.inside.named; places = c.self.inside.places } in
+    is_appendix log c.args.kind c.args.n0 c.args.directory.now c.args.reports.now c.oldest-place.result c.oldest-place.ensures c.write_log-len.result c.write_log-len.new.into
     c.write_log-len.ensures.text
     c.self.inside.log.most (subst (λ (v : LogPlace). payload_len v c.args.directory.now c.args.reports.now ≤ v.most) (sym c.self.view_is) c.requires.fits)
 
@@ -62,17 +62,17 @@ append-requires-clause-closed g c = λ seen told image may.
 pub returns-in_err-append : goal.returns-in_err-append
 returns-in_err-append g c =
     refused_record (bays g) c.args.kind c.args.n0 c.args.directory.now c.args.reports.now c.args.bay.now c.append.new.bay c.args.self.now
-    (record { gate = c.append.new.self.gate; most = c.append.new.self.most; named = c.self.inside.named; marks = c.self.inside.marks }) c.from_residual.result c.in_err-append.field-0.0
+    (record { gate = c.append.new.self.gate; most = c.append.new.self.most; named = c.self.inside.named; places = c.self.inside.places }) c.from_residual.result c.in_err-append.field-0.0
     c.from_residual.ensures.1 (record {
       moved = tt;
-      stayed = ap (λ (l : Log). record { gate = l.gate; most = l.most; named = c.self.inside.named; marks = c.self.inside.marks }) c.in_err-append.ensures.stayed ∙ c.self.view_is;
-      long = (let log : LogPlace = record { gate = c.self.inside.log.gate; most = c.self.inside.log.most; named = c.self.inside.named; marks = c.self.inside.marks } in
+      stayed = ap (λ (l : Log). record { gate = l.gate; most = l.most; named = c.self.inside.named; places = c.self.inside.places }) c.in_err-append.ensures.stayed ∙ c.self.view_is;
+      long = (let log : LogPlace = record { gate = c.self.inside.log.gate; most = c.self.inside.log.most; named = c.self.inside.named; places = c.self.inside.places } in
           subst (λ (v : LogPlace). next_gate v.gate (payload_at v c.args.kind c.args.n0 c.args.directory.now c.args.reports.now) ≡ v.gate + 5
           + payload_len v c.args.directory.now c.args.reports.now)
           c.self.view_is
           (ap (λ n. log.gate + 5 + n) (payload_long log c.args.kind c.args.n0 c.args.directory.now c.args.reports.now)));
       each_moment = λ seen told first payloads all image may.
-          (let log : LogPlace = record { gate = c.self.inside.log.gate; most = c.self.inside.log.most; named = c.self.inside.named; marks = c.self.inside.marks } in
+          (let log : LogPlace = record { gate = c.self.inside.log.gate; most = c.self.inside.log.most; named = c.self.inside.named; places = c.self.inside.places } in
           let payload = payload_at log c.args.kind c.args.n0 c.args.directory.now c.args.reports.now in
           let all_here : InEach (g.B.Bay.leaves c.args.bay.now) c.self.inside.log.file (λ bytes. IsGated c.self.inside.log.most bytes first payloads c.self.inside.log.gate) =
           λ earlier left. subst (λ (f : ℕ). IsGated log.most (earlier f) first payloads log.gate) (sym c.self.invariant)
@@ -81,7 +81,7 @@ returns-in_err-append g c =
           subst (λ (v : LogPlace). IsWithOrWithout v.most first payloads v.gate (payload_at v c.args.kind c.args.n0 c.args.directory.now c.args.reports.now) (image 1)) c.self.view_is
           (subst (λ (f : ℕ). IsWithOrWithout log.most first payloads log.gate payload (image f)) c.self.invariant
           (c.append.ensures.each_moment seen told first payloads payload
-          (text_at log c.args.kind c.args.n0 c.args.directory.now c.args.reports.now c.oldest-mark.result c.oldest-mark.ensures c.write_log-len.result c.write_log-len.new.into
+          (text_at log c.args.kind c.args.n0 c.args.directory.now c.args.reports.now c.oldest-place.result c.oldest-place.ensures c.write_log-len.result c.write_log-len.new.into
           c.write_log-len.ensures.text) all_here image may)));
       appended = λ seen told first payloads all. tt;
       closed = λ seen told. tt;
@@ -104,11 +104,11 @@ returns-in_err-append g c =
 
 pub returns : goal.returns
 returns g c = record {
-  moved = (let log : LogPlace = record { gate = c.self.inside.log.gate; most = c.self.inside.log.most; named = c.self.inside.named; marks = c.self.inside.marks } in
+  moved = (let log : LogPlace = record { gate = c.self.inside.log.gate; most = c.self.inside.log.most; named = c.self.inside.named; places = c.self.inside.places } in
       let gate_is : c.append.new.self.gate ≡ next_gate log.gate (payload_at log c.args.kind c.args.n0 c.args.directory.now c.args.reports.now) =
       ap (λ (l : Log). l.gate) c.in_ok-append.ensures.moved ∙ omega (
         arith,
-        text_long log c.args.kind c.args.n0 c.args.directory.now c.args.reports.now c.oldest-mark.result c.oldest-mark.ensures c.write_log-len.result
+        text_long log c.args.kind c.args.n0 c.args.directory.now c.args.reports.now c.oldest-place.result c.oldest-place.ensures c.write_log-len.result
             c.write_log-len.new.into c.write_log-len.ensures.text,
       ) in
       let most_is : c.append.new.self.most ≡ log.most = ap (λ (l : Log). l.most) c.in_ok-append.ensures.moved in
@@ -116,23 +116,23 @@ returns g c = record {
         gate = c.append.new.self.gate;
         most = c.append.new.self.most;
         named = length c.args.reports.now;
-        marks = c.self.inside.marks;
+        places = c.self.inside.places;
       } ≡ record {
         gate = next_gate v.gate
             (payload_at v c.args.kind c.args.n0 c.args.directory.now c.args.reports.now);
         most = v.most;
         named = length c.args.reports.now;
-        marks = v.marks;
+        places = v.places;
       }) c.self.view_is
-      (λ i. record { gate = gate_is i; most = most_is i; named = length c.args.reports.now; marks = c.self.inside.marks }));
+      (λ i. record { gate = gate_is i; most = most_is i; named = length c.args.reports.now; places = c.self.inside.places }));
   stayed = tt;
-  long = (let log : LogPlace = record { gate = c.self.inside.log.gate; most = c.self.inside.log.most; named = c.self.inside.named; marks = c.self.inside.marks } in
+  long = (let log : LogPlace = record { gate = c.self.inside.log.gate; most = c.self.inside.log.most; named = c.self.inside.named; places = c.self.inside.places } in
       subst (λ (v : LogPlace). next_gate v.gate (payload_at v c.args.kind c.args.n0 c.args.directory.now c.args.reports.now) ≡ v.gate + 5
       + payload_len v c.args.directory.now c.args.reports.now)
       c.self.view_is
       (ap (λ n. log.gate + 5 + n) (payload_long log c.args.kind c.args.n0 c.args.directory.now c.args.reports.now)));
   each_moment = λ seen told first payloads all image may.
-      (let log : LogPlace = record { gate = c.self.inside.log.gate; most = c.self.inside.log.most; named = c.self.inside.named; marks = c.self.inside.marks } in
+      (let log : LogPlace = record { gate = c.self.inside.log.gate; most = c.self.inside.log.most; named = c.self.inside.named; places = c.self.inside.places } in
       let payload = payload_at log c.args.kind c.args.n0 c.args.directory.now c.args.reports.now in
       let all_here : InEach (g.B.Bay.leaves c.args.bay.now) c.self.inside.log.file (λ bytes. IsGated c.self.inside.log.most bytes first payloads c.self.inside.log.gate) =
       λ earlier left. subst (λ (f : ℕ). IsGated log.most (earlier f) first payloads log.gate) (sym c.self.invariant)
@@ -141,10 +141,10 @@ returns g c = record {
       subst (λ (v : LogPlace). IsWithOrWithout v.most first payloads v.gate (payload_at v c.args.kind c.args.n0 c.args.directory.now c.args.reports.now) (image 1)) c.self.view_is
       (subst (λ (f : ℕ). IsWithOrWithout log.most first payloads log.gate payload (image f)) c.self.invariant
       (c.append.ensures.each_moment seen told first payloads payload
-      (text_at log c.args.kind c.args.n0 c.args.directory.now c.args.reports.now c.oldest-mark.result c.oldest-mark.ensures c.write_log-len.result c.write_log-len.new.into
+      (text_at log c.args.kind c.args.n0 c.args.directory.now c.args.reports.now c.oldest-place.result c.oldest-place.ensures c.write_log-len.result c.write_log-len.new.into
       c.write_log-len.ensures.text) all_here image may)));
   appended = λ seen told first payloads all image may.
-      (let log : LogPlace = record { gate = c.self.inside.log.gate; most = c.self.inside.log.most; named = c.self.inside.named; marks = c.self.inside.marks } in
+      (let log : LogPlace = record { gate = c.self.inside.log.gate; most = c.self.inside.log.most; named = c.self.inside.named; places = c.self.inside.places } in
       let payload = payload_at log c.args.kind c.args.n0 c.args.directory.now c.args.reports.now in
       let all_here : InEach (g.B.Bay.leaves c.args.bay.now) c.self.inside.log.file (λ bytes. IsGated c.self.inside.log.most bytes first payloads c.self.inside.log.gate) =
       λ earlier left. subst (λ (f : ℕ). IsGated log.most (earlier f) first payloads log.gate) (sym c.self.invariant)
@@ -154,7 +154,7 @@ returns g c = record {
       c.self.view_is
       (subst (λ (f : ℕ). IsGated log.most (image f) first (payloads ++ payload ∷ []) c.append.new.self.gate) c.self.invariant
       (c.in_ok-append.ensures.appended seen told first payloads payload
-      (text_at log c.args.kind c.args.n0 c.args.directory.now c.args.reports.now c.oldest-mark.result c.oldest-mark.ensures c.write_log-len.result c.write_log-len.new.into
+      (text_at log c.args.kind c.args.n0 c.args.directory.now c.args.reports.now c.oldest-place.result c.oldest-place.ensures c.write_log-len.result c.write_log-len.new.into
       c.write_log-len.ensures.text) all_here image may)));
   closed = λ seen told. subst (λ (f : ℕ). InEach (g.B.Bay.leaves c.append.new.bay) f (λ bytes. IsClosed bytes c.append.new.self.gate)) c.self.invariant
       (c.in_ok-append.ensures.closed seen told);
@@ -181,7 +181,7 @@ slice_bounds-new-count g c = subst (λ (v : LogPlace). v.named ≤ length c.args
 
 pub slice_bounds-append-end : goal.slice_bounds-append-end
 slice_bounds-append-end g c =
-    let log : LogPlace = record { gate = c.self.inside.log.gate; most = c.self.inside.log.most; named = c.self.inside.named; marks = c.self.inside.marks } in
+    let log : LogPlace = record { gate = c.self.inside.log.gate; most = c.self.inside.log.most; named = c.self.inside.named; places = c.self.inside.places } in
     let fits = subst (λ (v : LogPlace). payload_len v c.args.directory.now c.args.reports.now ≤ v.most) (sym c.self.view_is) c.requires.fits in
     let room = subst (λ (v : LogPlace). v.most + 5 ≤ length c.args.buffer.now) (sym c.self.view_is) c.requires.room in
     omega (arith, c.write_log-len.ensures.counted, room_new log c.args.directory.now c.args.reports.now fits (length c.args.buffer.now) room, c.write_log-len.auto.into)

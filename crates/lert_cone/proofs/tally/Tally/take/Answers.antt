@@ -49,37 +49,37 @@ add-requires-clause-below g c = subst (λ (s : Numbers). c.tail_of-tail.result <
 pub begin-requires : goal.begin-requires
 begin-requires g c = record { there = c.self.invariant.there }
 
-pub bring-requires-clause-there : goal.bring-requires-clause-there
-bring-requires-clause-there g c = c.begin.ensures.there
+pub give_totals-requires-clause-there : goal.give_totals-requires-clause-there
+give_totals-requires-clause-there g c = c.begin.ensures.there
 
-pub bring-requires-clause-valid : goal.bring-requires-clause-valid
-bring-requires-clause-valid g c = subst IsValid (sym c.self.invariant.levels_settings) c.self.invariant.valid
+pub give_totals-requires-clause-valid : goal.give_totals-requires-clause-valid
+give_totals-requires-clause-valid g c = subst IsValid (sym c.self.invariant.levels_settings) c.self.invariant.valid
 
-pub bring-requires-clause-first : goal.bring-requires-clause-first
-bring-requires-clause-first g c = omega arith
+pub give_totals-requires-clause-first : goal.give_totals-requires-clause-first
+give_totals-requires-clause-first g c = omega arith
 
-pub bring-requires-clause-last : goal.bring-requires-clause-last
-bring-requires-clause-last g c =
+pub give_totals-requires-clause-last : goal.give_totals-requires-clause-last
+give_totals-requires-clause-last g c =
     let fits : length (c.self.inside.unread ++ c.self.inside.taken) < capacity c.self.inside.settings =
     subst (λ (v : Tallied). length v.listing.events < capacity v.listing.settings) (sym c.self.view_is) c.requires.fits in
     subst (λ (s : Numbers). c.self.inside.len + 1 ≤ capacity s) (sym c.self.invariant.levels_settings) (omega (arith, c.self.invariant.len_is, fits))
 
-pub bring-requires-clause-settings : goal.bring-requires-clause-settings
-bring-requires-clause-settings g c = ap (λ (y : Young). y.settings) c.add.ensures ∙ c.self.invariant.young_settings ∙ sym c.self.invariant.levels_settings
+pub give_totals-requires-clause-settings : goal.give_totals-requires-clause-settings
+give_totals-requires-clause-settings g c = ap (λ (y : Young). y.settings) c.add.ensures ∙ c.self.invariant.young_settings ∙ sym c.self.invariant.levels_settings
 
-pub bring-requires-clause-to : goal.bring-requires-clause-to
-bring-requires-clause-to g c = ap (λ (y : Young). y.to) c.add.ensures
+pub give_totals-requires-clause-to : goal.give_totals-requires-clause-to
+give_totals-requires-clause-to g c = ap (λ (y : Young). y.to) c.add.ensures
 
 pub is_full-requires : goal.is_full-requires
-is_full-requires g c = record { there = c.bring.ensures.there }
+is_full-requires g c = record { there = c.give_totals.ensures.there }
 
 pub invariant_of-self : goal.invariant_of-self
 invariant_of-self g c = record {
   valid = c.self.invariant.valid;
   named = c.self.invariant.named;
-  young_settings = c.bring.ensures.brings.young_settings ∙ ap (λ (y : Young). y.settings) c.add.ensures ∙ c.self.invariant.young_settings;
-  levels_settings = c.bring.ensures.brings.settings ∙ c.self.invariant.levels_settings;
-  there = c.bring.ensures.there;
+  young_settings = c.give_totals.ensures.gives.young_settings ∙ ap (λ (y : Young). y.settings) c.add.ensures ∙ c.self.invariant.young_settings;
+  levels_settings = c.give_totals.ensures.gives.settings ∙ c.self.invariant.levels_settings;
+  there = c.give_totals.ensures.there;
   len_is = c.self.invariant.len_is;
   flush_is = c.self.invariant.flush_is;
 }
@@ -88,9 +88,9 @@ pub invariant_of-self-then-is_full : goal.invariant_of-self-then-is_full
 invariant_of-self-then-is_full g c = record {
   valid = c.self.invariant.valid;
   named = c.self.invariant.named;
-  young_settings = c.bring.ensures.brings.young_settings ∙ ap (λ (y : Young). y.settings) c.add.ensures ∙ c.self.invariant.young_settings;
-  levels_settings = c.bring.ensures.brings.settings ∙ c.self.invariant.levels_settings;
-  there = c.bring.ensures.there;
+  young_settings = c.give_totals.ensures.gives.young_settings ∙ ap (λ (y : Young). y.settings) c.add.ensures ∙ c.self.invariant.young_settings;
+  levels_settings = c.give_totals.ensures.gives.settings ∙ c.self.invariant.levels_settings;
+  there = c.give_totals.ensures.there;
   len_is = c.self.invariant.len_is;
   flush_is = c.self.invariant.flush_is;
 }
@@ -99,9 +99,9 @@ pub invariant_of-self-2 : goal.invariant_of-self-2
 invariant_of-self-2 g c = record {
   valid = c.self.invariant.valid;
   named = c.self.invariant.named;
-  young_settings = c.bring.ensures.brings.young_settings ∙ ap (λ (y : Young). y.settings) c.add.ensures ∙ c.self.invariant.young_settings;
-  levels_settings = c.bring.ensures.brings.settings ∙ c.self.invariant.levels_settings;
-  there = c.bring.ensures.there;
+  young_settings = c.give_totals.ensures.gives.young_settings ∙ ap (λ (y : Young). y.settings) c.add.ensures ∙ c.self.invariant.young_settings;
+  levels_settings = c.give_totals.ensures.gives.settings ∙ c.self.invariant.levels_settings;
+  there = c.give_totals.ensures.there;
   len_is = omega (
     arith,
     c.self.invariant.len_is,
@@ -128,27 +128,27 @@ add-requires-clause-position g c =
     (next_position c.self.inside.settings c.self.invariant.valid c.self.inside.zero (c.self.inside.unread ++ c.self.inside.taken)
     c.args.key c.self.invariant.young_settings counted.from counted.to counted.bins.is fits)
 
-pub bring-requires-clause-rows : goal.bring-requires-clause-rows
-bring-requires-clause-rows g c =
+pub give_totals-requires-clause-rows : goal.give_totals-requires-clause-rows
+give_totals-requires-clause-rows g c =
     let key = to_take _ c.args.self.now c.self.inside.levels.settings c.args.key c.tail_of-tail.result c.self.inside.len c.add.new.self c.self.view_is c.requires.counted c.requires.fits
     c.self.invariant.levels_settings c.self.invariant.valid c.self.invariant.named c.self.invariant.young_settings c.tail_of-tail.ensures.value c.self.invariant.len_is c.add.ensures in
     rows_before _ c.self.inside.levels.settings c.args.key c.tail_of-tail.result (c.self.inside.len + 1) c.add.new.self key
 
-pub bring-requires-clause-moves : goal.bring-requires-clause-moves
-bring-requires-clause-moves g c = next_flushes c.self.inside.settings c.self.inside.levels.settings c.self.invariant.levels_settings c.self.invariant.valid c.self.inside.len
+pub give_totals-requires-clause-moves : goal.give_totals-requires-clause-moves
+give_totals-requires-clause-moves g c = next_flushes c.self.inside.settings c.self.inside.levels.settings c.self.invariant.levels_settings c.self.invariant.valid c.self.inside.len
     c.flush_behind-flush.result c.flush_behind-flush.ensures
 
-pub bring-requires-clause-stays : goal.bring-requires-clause-stays
-bring-requires-clause-stays g c = next_stays c.self.inside.settings c.self.inside.levels.settings c.self.invariant.levels_settings c.self.invariant.valid c.self.inside.len
+pub give_totals-requires-clause-stays : goal.give_totals-requires-clause-stays
+give_totals-requires-clause-stays g c = next_stays c.self.inside.settings c.self.inside.levels.settings c.self.invariant.levels_settings c.self.invariant.valid c.self.inside.len
     c.flush_behind-flush.result c.flush_behind-flush.ensures
 
-pub returns-in_err-bring : goal.returns-in_err-bring
-returns-in_err-bring g c =
+pub returns-in_err-give_totals : goal.returns-in_err-give_totals
+returns-in_err-give_totals g c =
     let key = to_take _ c.args.self.now c.self.inside.levels.settings c.args.key c.tail_of-tail.result c.self.inside.len c.add.new.self c.self.view_is c.requires.counted c.requires.fits
     c.self.invariant.levels_settings c.self.invariant.valid c.self.invariant.named c.self.invariant.young_settings c.tail_of-tail.ensures.value c.self.invariant.len_is c.add.ensures in
     rw (← c.self.view_is) (not_counted (bays g) (lawful g) _ c.self.inside.levels.settings c.args.key c.tail_of-tail.result (c.self.inside.len + 1) c.add.new.self key
-    (due_in c.begin.new.due) (due_in c.bring.new.due) c.begin.ensures.begun c.args.bay.now c.bring.new.bay c.bring.new.zero c.bring.new.levels
-    c.bring.result c.in_err-bring.field-0.0 c.in_err-bring.was c.bring.ensures.brings c.from_residual.result c.from_residual.ensures.1)
+    (due_in c.begin.new.due) (due_in c.give_totals.new.due) c.begin.ensures.begun c.args.bay.now c.give_totals.new.bay c.give_totals.new.zero c.give_totals.new.levels
+    c.give_totals.result c.in_err-give_totals.field-0.0 c.in_err-give_totals.was c.give_totals.ensures.gives c.from_residual.result c.from_residual.ensures.1)
 
 pub returns-then-is_full : goal.returns-then-is_full
 returns-then-is_full g c =
@@ -157,10 +157,10 @@ returns-then-is_full g c =
     let own : cone_of c.self.inside.settings c.args.key ≡ c.self.inside.cone =
     subst (λ (v : Tallied). cone_of v.listing.settings c.args.key ≡ v.listing.cone) (sym c.self.view_is) c.requires.own in
     let still : c.self.inside.closed ≡ false = subst (λ (v : Tallied). v.listing.closed ≡ false) (sym c.self.view_is) c.requires.still in
-    let brings = rw c.in_ok-bring.was at c.bring.ensures.brings in
+    let gives = rw c.in_ok-give_totals.was at c.give_totals.ensures.gives in
     rw (← c.self.view_is) (no_room (bays g) (lawful g) _ c.self.inside.levels.settings c.args.key c.tail_of-tail.result (c.self.inside.len + 1) c.add.new.self key
-    (due_in c.begin.new.due) (due_in c.bring.new.due) c.begin.ensures.begun c.args.bay.now c.bring.new.bay c.bring.new.zero c.bring.new.levels
-    c.ranges.key.fits own still brings (sym c.is_full.ensures.value ∙ c.if-is_full.true) (c.is_full.ensures.full c.if-is_full.true))
+    (due_in c.begin.new.due) (due_in c.give_totals.new.due) c.begin.ensures.begun c.args.bay.now c.give_totals.new.bay c.give_totals.new.zero c.give_totals.new.levels
+    c.ranges.key.fits own still gives (sym c.is_full.ensures.value ∙ c.if-is_full.true) (c.is_full.ensures.full c.if-is_full.true))
 
 pub returns : goal.returns
 returns g c =
@@ -169,12 +169,12 @@ returns g c =
     let own : cone_of c.self.inside.settings c.args.key ≡ c.self.inside.cone =
     subst (λ (v : Tallied). cone_of v.listing.settings c.args.key ≡ v.listing.cone) (sym c.self.view_is) c.requires.own in
     let still : c.self.inside.closed ≡ false = subst (λ (v : Tallied). v.listing.closed ≡ false) (sym c.self.view_is) c.requires.still in
-    let brings = rw c.in_ok-bring.was at c.bring.ensures.brings in
+    let gives = rw c.in_ok-give_totals.was at c.give_totals.ensures.gives in
     rw (← c.self.view_is) (key_counted (bays g) (lawful g) _ c.self.inside.levels.settings c.args.key c.tail_of-tail.result (c.self.inside.len + 1) c.add.new.self key
-    (due_in c.begin.new.due) (due_in c.bring.new.due) c.begin.ensures.begun c.args.bay.now c.bring.new.bay c.bring.new.zero c.bring.new.levels
-    c.ranges.key.fits own still brings (c.self.inside.unread ++ c.push.new.self)
+    (due_in c.begin.new.due) (due_in c.give_totals.new.due) c.begin.ensures.begun c.args.bay.now c.give_totals.new.bay c.give_totals.new.zero c.give_totals.new.levels
+    c.ranges.key.fits own still gives (c.self.inside.unread ++ c.push.new.self)
     (ap (λ keys. c.self.inside.unread ++ keys) c.push.ensures ∙ sym (append_assoc c.self.inside.unread c.self.inside.taken (c.args.key ∷ [])))
     (sym c.is_full.ensures.value ∙ c.if-is_full.false))
 
-pub bring-requires-clause-start : goal.bring-requires-clause-start
-bring-requires-clause-start g c = c.begin.ensures.took
+pub give_totals-requires-clause-start : goal.give_totals-requires-clause-start
+give_totals-requires-clause-start g c = c.begin.ensures.took

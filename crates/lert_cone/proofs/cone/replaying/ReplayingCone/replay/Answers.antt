@@ -1,0 +1,358 @@
+use Rattle.std.proofs.Common.{◌≡◌, ◌∙◌, ℕ, ◌+◌, ◌*◌, ◌<◌, ◌++◌, ◌∷◌, [], All, List, length, max, None, Some, Err, Ok, IsFalse}
+use Rattle.std.proofs.Common.{◌≤◌, le_refl, refl, sym, ap, subst, arith}
+use Rattle.lert_base.specs.Entries.{packet_of}
+use Rattle.lert_base.specs.Packet.{events_of}
+use Rattle.lert_bay.specs.Files.{Files}
+use Rattle.lert_bay.proofs.KeptLaws.{calls_as}
+use Rattle.lert_gatelog.specs.Gated.{IsClosed, Log}
+use Rattle.lert_journal.specs.Payload.{payload_of}
+use Rattle.lert_reports.specs.Log.{most_record}
+use Rattle.lert_spec.specs.Mix.{cone_of}
+use Rattle.lert_cone.specs.declared.refusal.ReplayFault.{ReplayFault}
+use Rattle.lert_cone.specs.declared.refusal.ReplayFault.TheVariants.{Failed, Malformed, Unsound}
+use Rattle.lert_cone.specs.Framed.{HoldsSome}
+use Rattle.lert_cone.specs.History.{most_payload}
+use Rattle.lert_cone.specs.InStep.{IsLogging}
+use Rattle.lert_cone.specs.Listing.{Listing}
+use Rattle.lert_cone.specs.Replay.{IsPast}
+use Rattle.lert_cone.specs.Replays.{WhyRefused}
+use Rattle.lert_cone.specs.Replaying.{Replaying}
+use Rattle.lert_cone.proofs.GateLaws.{past_more}
+use Rattle.lert_cone.proofs.JournalPlaceLaws.{next_holds}
+use Rattle.lert_cone.proofs.ReadCosts.{broken_read, ended_read, taken_read}
+use Rattle.lert_cone.proofs.Calls.{alone_reading}
+use Rattle.lert_cone.proofs.ReplayCalls.{alone_behind, calls_behind, ended_at, ended_replays, held_at, keys_stay, keys_unwritten, length_more, listing_more, moved_on, read_stays}
+use Rattle.lert_cone.proofs.ReplayCalls.{logged_behind, read_logged, read_unwritten, refilled, with_keys}
+use Rattle.lert_cone.proofs.ReplayStands.{keys_never_malformed, failed_keys, unsound_keys, only_by_bay, read_shut, refused_keys}
+use Rattle.lert_cone.proofs.ReplayStands.{seen_as}
+use Rattle.lert_cone.proofs.ReplayStep.{told_once}
+use Rattle.lert_cone.proofs.Refusals.{no_fault, one_fault}
+use Rattle.lert_cone.proofs.cone.replaying.ReplayingCone.replay.Given as given
+use Rattle.lert_cone.proofs.cone.replaying.ReplayingCone.replay.Goals as goal
+use Rattle.lert_cone.proofs.cone.replaying.ReplayingCone.replay.Answers.Kept.{bays, lawful, broken_keys_kept, broken_record_kept, ended_kept, taken_kept}
+use Rattle.lert_cone.proofs.cone.replaying.ReplayingCone.replay.Answers.Refused.{record_refused}
+mod Kept
+mod Refused
+
+pub read_packet-requires-clause-most : goal.read_packet-requires-clause-most
+read_packet-requires-clause-most g c = ap (λ (j : Log). j.most) c.at_gate-self-inside.ensures ∙ c.greatest_payload-most.ensures.value
+    ∙ ap most_payload c.settings.ensures
+
+pub read_packet-requires-clause-entry : goal.read_packet-requires-clause-entry
+read_packet-requires-clause-entry g c = subst (λ n. n ≤ c.self.inside.entry.keys.room) c.self.invariant.keys_roomy (le_refl _)
+
+pub read_packet-requires-clause-file : goal.read_packet-requires-clause-file
+read_packet-requires-clause-file g c = ap (λ (j : Log). j.file) c.at_gate-self-inside.ensures
+
+most_fits : (most payload record_ room here : ℕ) → most ≡ payload → room ≡ max payload record_ + 5 → here ≡ room → most ≤ here
+most_fits most payload record_ room here most_is roomy here_is = omega (arith, most_is, roomy, here_is)
+
+pub read_packet-requires-clause-room : goal.read_packet-requires-clause-room
+read_packet-requires-clause-room g c =
+    let s = c.self.inside.tally.listing.settings in
+    let most_is = ap (λ (j : Log). j.most) c.at_gate-self-inside.ensures ∙ c.greatest_payload-most.ensures.value ∙ ap most_payload c.settings.ensures in
+    most_fits c.at_gate-self-inside.result.most (most_payload s) (most_record s) (length c.self.inside.buffer.items) (length c.deref_mut.result.now)
+    most_is c.self.invariant.roomy (ap (length {A = ℕ}) c.deref_mut.ensures.value)
+
+pub read_packet-requires-clause-reach : goal.read_packet-requires-clause-reach
+read_packet-requires-clause-reach g c = subst (λ n. n ≤ 4611686018427387904) (sym (ap (λ (j : Log). j.gate) c.at_gate-self-inside.ensures)) c.requires.reach
+
+pub read_packet-requires-clause-place : goal.read_packet-requires-clause-place
+read_packet-requires-clause-place g c =
+    let taking : c.self.inside.stopped ≡ None = subst (λ (v : Replaying g.row.B.Denot). v.stopped ≡ None) (sym c.self.view_is) c.requires.taking in
+    (c.self.invariant.taking taking).recounted.n0_fits
+
+pub read_packet-requires-clause-fits : goal.read_packet-requires-clause-fits
+read_packet-requires-clause-fits g c =
+    let taking : c.self.inside.stopped ≡ None = subst (λ (v : Replaying g.row.B.Denot). v.stopped ≡ None) (sym c.self.view_is) c.requires.taking in
+    (c.self.invariant.taking taking).recounted.fits
+
+pub replay_keys-requires : goal.replay_keys-requires
+replay_keys-requires g c =
+    let taking : c.self.inside.stopped ≡ None = subst (λ (v : Replaying g.row.B.Denot). v.stopped ≡ None) (sym c.self.view_is) c.requires.taking in
+    let was = c.self.invariant.taking taking in
+    let len_is : c.self.inside.buffer.len ≡ length c.self.inside.buffer.items = omega (arith, c.self.inside.buffer.ok) in
+    let room : length c.deref_mut-in-Ok-true.result.now ≡ length c.self.inside.buffer.items =
+    ap (length {A = ℕ}) c.deref_mut-in-Ok-true.ensures.value ∙ (refilled c.self.inside.buffer.len c.self.inside.buffer.items c.read_packet.new.buffer len_is) in
+    let journaled = c.in-Ok-true.ensures.journaled c.in-Ok-true.field-0-test in
+    let follows = c.in-Ok-true.ensures.follows c.in-Ok-true.field-0-test in
+    record {
+      own = subst (λ (keys : List ℕ). All (λ key. cone_of c.self.inside.tally.listing.settings key ≡ c.self.inside.tally.listing.cone) keys) (sym c.keys_of.ensures.value) journaled.of_cone;
+      fits = omega (arith, follows.within, ap (length {A = ℕ}) c.keys_of.ensures.value);
+      before_closing = λ closed. omega (arith, follows.before_closing (sym was.closed ∙ closed), ap (length {A = ℕ}) c.keys_of.ensures.value);
+      recounted = was.recounted;
+      can_log = record {
+        logging = subst (λ n. IsLogging c.self.inside.tally c.self.inside.log n) (sym room) was.logging;
+        log_shut = read_shut 1 c.self.inside.log.gate (g.B.Bay.files c.self.inside.bay) (g.B.Bay.files c.read_packet.new.bay) (g.B.Bay.leaves c.self.inside.bay)
+            (g.B.Bay.leaves c.read_packet.new.bay)
+            c.read_packet.ensures.keeps.reads.seen c.read_packet.ensures.keeps.reads.images was.log_shut;
+      };
+    }
+
+went_on : (at gate new next packet : ℕ) → at ≡ gate → next ≡ new → (at < new) × (new ≤ at + 13 + 32 * packet) → packet ≤ 1024 →
+    (gate < next) × (next ≤ gate + 65536)
+went_on at gate new next packet at_is next_is forward few =
+    (omega (arith, at_is, next_is, forward.0), omega (arith, at_is, next_is, forward.1, few))
+
+pub invariant_of-self : goal.invariant_of-self
+invariant_of-self = broken_keys_kept
+
+-- its keys aren't taken
+pub returns-in-Err-replay_keys : goal.returns-in-Err-replay_keys
+returns-in-Err-replay_keys g c =
+    rw (← c.self.view_is) (record {
+      taken = tt;
+      forward = tt;
+      ended = tt;
+      refused = let cone = seen_as c.self.inside.bay c.self.inside.made.value c.self.inside.tally c.self.inside.events c.self.inside.stopped
+          c.self.inside.journal.gate c.self.inside.log c.self.inside.last in
+          λ seen told. subst (λ (fault : ReplayFault). WhyRefused cone (seen 0) c.args.gate fault) (sym c.from-fault.ensures)
+          (refused_keys cone (seen 0) c.args.gate c.in-Err-replay_keys.fault (record {
+            packet = (packet_of c.read_packet.new.entry);
+            stands = (held_at c.at_gate-self-inside.ensures (c.in-Ok-true.ensures.found seen told c.in-Ok-true.field-0-test));
+            follows = c.in-Ok-true.ensures.follows c.in-Ok-true.field-0-test;
+          }));
+      broke = λ i. record {
+        bay = c.replay_keys.new.bay;
+        made = c.self.inside.made.value;
+        listing = c.replay_keys.ensures.listing i;
+        rows = c.replay_keys.new.tally.rows;
+        reports = c.replay_keys.new.tally.due.reports;
+        events = c.self.inside.events;
+        stopped = Some c.from-fault.result;
+        gate = c.read_packet.new.journal.gate;
+        log = c.replay_keys.new.log;
+        last = c.self.inside.last;
+      };
+      replays = λ seen told h done way gate_same. subst (λ (fault : ReplayFault). fault ≡ Failed) (sym c.from-fault.ensures)
+          (only_by_bay c.in-Err-replay_keys.fault (λ file at same.
+          with_keys (bays g) (lawful g) c.self.inside.bay c.read_packet.new.bay _ _ _ _ _ c.read_packet.ensures.keeps c.self.inside.tally
+          c.self.inside.log c.self.inside.last
+          seen told h done c.args.gate (way.on_way seen told) (subst (λ g. IsPast h done c.self.inside.tally.listing.events g)
+          (sym gate_same) way.past)
+          (packet_of c.read_packet.new.entry) (held_at c.at_gate-self-inside.ensures (c.in-Ok-true.ensures.found seen told
+          c.in-Ok-true.field-0-test)) c.keys_of.result.now c.keys_of.ensures.value
+          (λ told_read next is on_read. c.replay_keys.ensures.sound seen told_read h (events_of next.rest) is
+          (next_holds h done c.self.inside.tally.listing.events c.args.gate (packet_of c.read_packet.new.entry) c.keys_of.result.now _
+          (subst (λ g. IsPast h done c.self.inside.tally.listing.events g) (sym gate_same) way.past) next c.keys_of.ensures.value refl (ap
+          (λ n. n + 1) c.len-first.ensures)) on_read file at
+          (c.in-Err-replay_keys.is ∙ ap Err same))));
+      stays_sound = λ seen told h done way gate_same.
+          keys_stay (bays g) (lawful g) c.self.inside.bay c.read_packet.new.bay _ _ _ _ _ c.read_packet.ensures.keeps c.self.inside.tally
+          c.self.inside.log c.self.inside.last
+          seen told h done c.args.gate (way.on_way seen told) (subst (λ g. IsPast h done c.self.inside.tally.listing.events g)
+          (sym gate_same) way.past) (c.self.invariant.taking way.taking).recounted
+          (packet_of c.read_packet.new.entry) (held_at c.at_gate-self-inside.ensures (c.in-Ok-true.ensures.found seen told
+          c.in-Ok-true.field-0-test))
+          c.keys_of.result.now c.keys_of.ensures.value _ refl (ap (λ n. n + 1) c.len-first.ensures) _ _ _ c.replay_keys.ensures;
+      unflushed = λ seen told none. keys_unwritten (bays g) (lawful g) c.self.inside.bay c.read_packet.new.bay _ _ _ _ _ c.read_packet.ensures.keeps
+          c.self.inside.tally.listing.settings
+          (length c.self.inside.tally.listing.events) c.self.inside.last.n0 (packet_of c.read_packet.new.entry) c.keys_of.result.now _
+          c.keys_of.ensures.value
+          (none (packet_of c.read_packet.new.entry) (held_at c.at_gate-self-inside.ensures (c.in-Ok-true.ensures.found seen told
+          c.in-Ok-true.field-0-test)) (c.in-Ok-true.ensures.follows c.in-Ok-true.field-0-test)) c.replay_keys.ensures.unflushed;
+      malformed = λ at same.
+          let answer : c.from-fault.result ≡ Malformed at = one_fault same in
+          absurd (keys_never_malformed c.in-Err-replay_keys.fault at (sym c.from-fault.ensures ∙ answer));
+      log = let taking : c.self.inside.stopped ≡ None = subst (λ (v : Replaying g.row.B.Denot). v.stopped ≡ None) (sym c.self.view_is) c.requires.taking in
+          logged_behind (bays g) (lawful g) c.self.inside.bay c.read_packet.new.bay _ _ _ _ _ c.read_packet.ensures.keeps c.self.inside.tally.listing.settings _ _
+          c.replay_keys.new.bay c.replay_keys.result (Err c.from-fault.result) (c.self.invariant.taking taking).log_shut c.replay_keys.ensures.keeps.journal (λ P holds. tt)
+          c.replay_keys.ensures.log;
+      framed = λ seen told some. tt;
+      whole = λ seen told some at same.
+          let answer : c.from-fault.result ≡ Unsound 2 at = one_fault same in
+          let fault_is = unsound_keys c.in-Err-replay_keys.fault 2 at (sym c.from-fault.ensures ∙ answer) in
+          c.replay_keys.ensures.whole seen (c.read_packet.ensures.keeps.reads.seen ∙ told) some at (c.in-Err-replay_keys.is ∙ ap Err fault_is);
+      unsound = λ file at same.
+          let answer : c.from-fault.result ≡ Unsound file at = one_fault same in
+          let fault_is = unsound_keys c.in-Err-replay_keys.fault file at (sym c.from-fault.ensures ∙ answer) in
+          λ seen told. c.replay_keys.ensures.keeps.shows seen told file at (c.in-Err-replay_keys.is ∙ ap Err fault_is);
+      same_cone = record {
+        settings = ap (λ (l : Listing). l.settings) c.replay_keys.ensures.listing;
+        cone = ap (λ (l : Listing). l.cone) c.replay_keys.ensures.listing;
+        made = refl;
+        last = refl;
+      };
+      journal = alone_behind (bays g) (lawful g) c.self.inside.bay c.read_packet.new.bay _ _ _ _ _ c.read_packet.ensures.keeps 0 c.replay_keys.new.bay c.replay_keys.ensures.keeps.journal;
+      kept = calls_behind (bays g) (lawful g) c.self.inside.bay c.read_packet.new.bay _ _ _ _ _ c.read_packet.ensures.keeps
+          c.replay_keys.new.bay _ _ (λ same.
+          let answer : c.from-fault.result ≡ Failed = one_fault same in
+          c.in-Err-replay_keys.is ∙ ap Err (failed_keys c.in-Err-replay_keys.fault (sym c.from-fault.ensures ∙ answer))) c.replay_keys.ensures.keeps.kept;
+      handed = broken_read c.self.inside.tally.listing.settings (packet_of c.read_packet.new.entry) _ _ (g.B.Bay.handed_out c.replay_keys.new.bay)
+          c.replay_keys.ensures.keeps.kept.journal
+          c.in-Ok-true.field-0 _ _ c.in-Ok-true.ensures.handed c.in-Ok-true.field-0-test (ap (λ (j : Log). j.gate) (c.in-Ok-true.ensures.moved
+          c.in-Ok-true.field-0-test))
+          (c.in-Ok-true.ensures.forward c.in-Ok-true.field-0-test).1;
+    })
+
+pub invariant_of-self-in-Ok-true : goal.invariant_of-self-in-Ok-true
+invariant_of-self-in-Ok-true = taken_kept
+
+-- they are
+pub returns-in_default : goal.returns-in_default
+returns-in_default g c =
+    rw (← c.self.view_is) (record {
+      taken = let taking : c.self.inside.stopped ≡ None = subst (λ (v : Replaying g.row.B.Denot). v.stopped ≡ None) (sym c.self.view_is) c.requires.taking in
+          let was = c.self.invariant.taking taking in
+          let listing_is = listing_more c.self.inside.tally.listing c.replay_keys.new.tally.listing c.read_packet.new.entry.keys.keys
+          c.keys_of.result.now
+          c.replay_keys.ensures.listing c.in_default.ensures.taken c.keys_of.ensures.value in
+          let moved = moved_on (payload_of (packet_of c.read_packet.new.entry)) (c.in-Ok-true.ensures.moved c.in-Ok-true.field-0-test)
+          c.at_gate-self-inside.ensures in
+          let events_is = length_more c.self.inside.tally.listing c.replay_keys.new.tally.listing c.read_packet.new.entry.keys.keys
+          c.self.inside.events c.len-self-inside.result
+          listing_is was.counted c.len-self-inside.ensures in
+          record {
+            packet = (packet_of c.read_packet.new.entry);
+            stands = λ seen told. (held_at c.at_gate-self-inside.ensures (c.in-Ok-true.ensures.found seen told c.in-Ok-true.field-0-test));
+            journaled = c.in-Ok-true.ensures.journaled c.in-Ok-true.field-0-test;
+            follows = c.in-Ok-true.ensures.follows c.in-Ok-true.field-0-test;
+            next_is = c.gate.ensures.value ∙ moved;
+            is = λ i. record {
+              bay = c.replay_keys.new.bay;
+              made = c.self.inside.made.value;
+              listing = listing_is i;
+              rows = c.replay_keys.new.tally.rows;
+              reports = c.replay_keys.new.tally.due.reports;
+              events = events_is i;
+              stopped = c.self.inside.stopped;
+              gate = (sym c.gate.ensures.value) i;
+              log = c.replay_keys.new.log;
+              last = c.self.inside.last;
+            };
+          };
+      forward = went_on c.at_gate-self-inside.result.gate c.args.gate c.read_packet.new.journal.gate c.gate.result
+          c.self.inside.tally.listing.settings.packet (ap (λ (j : Log). j.gate) c.at_gate-self-inside.ensures) c.gate.ensures.value
+          (c.in-Ok-true.ensures.forward c.in-Ok-true.field-0-test) c.self.invariant.valid.limits.packet_to;
+      ended = tt;
+      refused = tt;
+      broke = tt;
+      replays = let listing_is = listing_more c.self.inside.tally.listing c.replay_keys.new.tally.listing c.read_packet.new.entry.keys.keys
+          c.keys_of.result.now
+          c.replay_keys.ensures.listing c.in_default.ensures.taken c.keys_of.ensures.value in
+          let moved = moved_on (payload_of (packet_of c.read_packet.new.entry)) (c.in-Ok-true.ensures.moved c.in-Ok-true.field-0-test)
+          c.at_gate-self-inside.ensures in
+          λ seen told h done way gate_same.
+          let past : IsPast h done c.self.inside.tally.listing.events c.args.gate = subst (λ g. IsPast h done c.self.inside.tally.listing.events g)
+          (sym gate_same) way.past in
+          with_keys (bays g) (lawful g) c.self.inside.bay c.read_packet.new.bay _ _ _ _ _ c.read_packet.ensures.keeps c.self.inside.tally
+          c.self.inside.log c.self.inside.last
+          seen told h done c.args.gate (way.on_way seen told) past
+          (packet_of c.read_packet.new.entry) (held_at c.at_gate-self-inside.ensures (c.in-Ok-true.ensures.found seen told
+          c.in-Ok-true.field-0-test)) c.keys_of.result.now c.keys_of.ensures.value
+          (λ told_read next is on_read. (
+            (packet_of c.read_packet.new.entry),
+            record {
+              taking = way.taking;
+              past = subst (λ (l : Listing). IsPast h (done ++ (packet_of c.read_packet.new.entry) ∷ []) l.events c.read_packet.new.journal.gate)
+                  (sym listing_is)
+                  (subst (λ g. IsPast h (done ++ (packet_of c.read_packet.new.entry) ∷ []) (c.self.inside.tally.listing.events ++
+                  c.read_packet.new.entry.keys.keys) g) (sym moved)
+                  (past_more h done c.self.inside.tally.listing.events c.args.gate (packet_of c.read_packet.new.entry) past next));
+              on_way = c.in_default.ensures.on_way seen told_read h (events_of next.rest) is
+                  (next_holds h done c.self.inside.tally.listing.events c.args.gate (packet_of c.read_packet.new.entry)
+                  c.keys_of.result.now _ past next c.keys_of.ensures.value refl
+                  (ap (λ n. n + 1) c.len-first.ensures)) on_read;
+            },
+          ));
+      stays_sound = λ seen told h done way gate_same.
+          keys_stay (bays g) (lawful g) c.self.inside.bay c.read_packet.new.bay _ _ _ _ _ c.read_packet.ensures.keeps c.self.inside.tally
+          c.self.inside.log c.self.inside.last
+          seen told h done c.args.gate (way.on_way seen told) (subst (λ g. IsPast h done c.self.inside.tally.listing.events g)
+          (sym gate_same) way.past) (c.self.invariant.taking way.taking).recounted
+          (packet_of c.read_packet.new.entry) (held_at c.at_gate-self-inside.ensures (c.in-Ok-true.ensures.found seen told
+          c.in-Ok-true.field-0-test))
+          c.keys_of.result.now c.keys_of.ensures.value _ refl (ap (λ n. n + 1) c.len-first.ensures) _ _ _ c.replay_keys.ensures;
+      unflushed = λ seen told none. keys_unwritten (bays g) (lawful g) c.self.inside.bay c.read_packet.new.bay _ _ _ _ _ c.read_packet.ensures.keeps
+          c.self.inside.tally.listing.settings
+          (length c.self.inside.tally.listing.events) c.self.inside.last.n0 (packet_of c.read_packet.new.entry) c.keys_of.result.now _
+          c.keys_of.ensures.value
+          (none (packet_of c.read_packet.new.entry) (held_at c.at_gate-self-inside.ensures (c.in-Ok-true.ensures.found seen told
+          c.in-Ok-true.field-0-test)) (c.in-Ok-true.ensures.follows c.in-Ok-true.field-0-test)) c.replay_keys.ensures.unflushed;
+      malformed = λ at same. absurd (no_fault same);
+      log = let taking : c.self.inside.stopped ≡ None = subst (λ (v : Replaying g.row.B.Denot). v.stopped ≡ None) (sym c.self.view_is) c.requires.taking in
+          logged_behind (bays g) (lawful g) c.self.inside.bay c.read_packet.new.bay _ _ _ _ _ c.read_packet.ensures.keeps c.self.inside.tally.listing.settings _ _
+          c.replay_keys.new.bay _ (Ok (Some c.gate.result)) (c.self.invariant.taking taking).log_shut c.replay_keys.ensures.keeps.journal (λ P holds. holds)
+          c.in_default.ensures.log;
+      framed = λ seen told some. c.in_default.ensures.framed seen (c.read_packet.ensures.keeps.reads.seen ∙ told) some;
+      whole = λ seen told some at same. no_fault same;
+      unsound = λ file at same. absurd (no_fault same);
+      same_cone = record {
+        settings = ap (λ (l : Listing). l.settings) c.replay_keys.ensures.listing;
+        cone = ap (λ (l : Listing). l.cone) c.replay_keys.ensures.listing;
+        made = refl;
+        last = refl;
+      };
+      journal = alone_behind (bays g) (lawful g) c.self.inside.bay c.read_packet.new.bay _ _ _ _ _ c.read_packet.ensures.keeps 0 c.replay_keys.new.bay c.replay_keys.ensures.keeps.journal;
+      kept = calls_behind (bays g) (lawful g) c.self.inside.bay c.read_packet.new.bay _ _ _ _ _ c.read_packet.ensures.keeps c.replay_keys.new.bay _ _
+          (λ same. absurd (no_fault same)) c.replay_keys.ensures.keeps.kept;
+      handed = taken_read c.self.inside.tally.listing.settings (packet_of c.read_packet.new.entry) _ _ (g.B.Bay.handed_out c.replay_keys.new.bay)
+          c.replay_keys.ensures.keeps.kept.journal
+          c.in-Ok-true.field-0 c.args.gate c.gate.result c.in-Ok-true.ensures.handed c.in-Ok-true.field-0-test
+          (c.gate.ensures.value ∙ moved_on (payload_of (packet_of c.read_packet.new.entry)) (c.in-Ok-true.ensures.moved c.in-Ok-true.field-0-test)
+          c.at_gate-self-inside.ensures);
+    })
+
+pub invariant_of-self-in-Ok-false : goal.invariant_of-self-in-Ok-false
+invariant_of-self-in-Ok-false = ended_kept
+
+-- a closed gate stands there
+pub returns-in-Ok-false : goal.returns-in-Ok-false
+returns-in-Ok-false g c =
+    rw (← c.self.view_is) (record {
+      taken = tt;
+      forward = tt;
+      ended = let taking : c.self.inside.stopped ≡ None = subst (λ (v : Replaying g.row.B.Denot). v.stopped ≡ None) (sym c.self.view_is) c.requires.taking in
+          let no_packet : IsFalse c.in-Ok-false.field-0 = c.in-Ok-false.field-0-test in
+          let gate_at : c.read_packet.new.journal.gate ≡ c.args.gate =
+          ap (λ (j : Log). j.gate) ((c.in-Ok-false.ensures.waits no_packet).0 ∙ c.at_gate-self-inside.ensures) in
+          ended_at (bays g) (lawful g) c.self.inside.bay c.read_packet.new.bay _ _ _ _ _ c.read_packet.ensures.keeps c.self.inside.made.value
+          c.self.inside.tally
+          c.self.inside.events c.self.inside.stopped c.self.inside.journal.gate c.read_packet.new.journal.gate
+          c.args.gate c.self.inside.log c.self.inside.last
+          gate_at (c.in-Ok-false.ensures.enough no_packet) (c.self.invariant.taking taking).journal_settled
+          (λ seen told. subst (λ (j : Log). IsClosed (seen 0) j.gate) c.at_gate-self-inside.ensures
+          (c.in-Ok-false.ensures.closed seen told no_packet));
+      refused = tt;
+      broke = tt;
+      replays = let no_packet : IsFalse c.in-Ok-false.field-0 = c.in-Ok-false.field-0-test in
+          let gate_at : c.read_packet.new.journal.gate ≡ c.args.gate = ap (λ (j : Log). j.gate) ((c.in-Ok-false.ensures.waits no_packet).0 ∙
+          c.at_gate-self-inside.ensures) in
+          λ seen told h done way gate_same.
+          ended_replays (bays g) (lawful g) c.self.inside.bay c.read_packet.new.bay _ _ _ _ _ c.read_packet.ensures.keeps c.self.inside.tally
+          c.self.inside.log c.self.inside.last
+          seen told h done c.args.gate (way.on_way seen told) (subst (λ g. IsPast h done c.self.inside.tally.listing.events g)
+          (sym gate_same) way.past)
+          c.self.inside.made.value c.self.inside.events c.self.inside.stopped
+          c.read_packet.new.journal.gate way.taking gate_at
+          (subst (λ (j : Log). IsClosed (seen 0) j.gate) c.at_gate-self-inside.ensures (c.in-Ok-false.ensures.closed seen told no_packet));
+      stays_sound = λ seen told h done way gate_same.
+          read_stays (bays g) (lawful g) c.self.inside.bay c.read_packet.new.bay _ _ _ _ _ c.read_packet.ensures.keeps c.self.inside.tally
+          c.self.inside.log c.self.inside.last
+          seen told h done c.args.gate (way.on_way seen told) (subst (λ g. IsPast h done c.self.inside.tally.listing.events g)
+          (sym gate_same) way.past) (c.self.invariant.taking way.taking).recounted;
+      unflushed = λ seen told none. read_unwritten (bays g) (lawful g) c.self.inside.bay c.read_packet.new.bay _ _ _ _ _ c.read_packet.ensures.keeps;
+      malformed = λ at same. absurd (no_fault same);
+      log = let taking : c.self.inside.stopped ≡ None = subst (λ (v : Replaying g.row.B.Denot). v.stopped ≡ None) (sym c.self.view_is) c.requires.taking in
+          read_logged (bays g) (lawful g) c.self.inside.bay c.read_packet.new.bay _ _ _ _ _ c.read_packet.ensures.keeps c.self.inside.tally.listing.settings _ _
+          (c.self.invariant.taking taking).log_shut;
+      framed = λ seen told some after told_after.
+          subst (λ (files : Files). HoldsSome c.self.inside.tally.listing.settings (max c.self.inside.last.n0 (length
+          c.self.inside.tally.listing.events)) c.self.inside.tally.rows (files 2))
+          (told_once (g.B.Bay.files c.self.inside.bay) seen after told (sym c.read_packet.ensures.keeps.reads.seen ∙ told_after)) some;
+      whole = λ seen told some at same. no_fault same;
+      unsound = λ file at same. absurd (no_fault same);
+      same_cone = record { settings = refl; cone = refl; made = refl; last = refl };
+      journal = alone_reading (bays g) (lawful g) 0 c.self.inside.bay c.read_packet.new.bay _ c.read_packet.ensures.keeps.reads;
+      kept = calls_as (bays g) (lawful g) c.self.inside.bay c.read_packet.new.bay _ _ (λ same. absurd (no_fault same))
+          c.read_packet.ensures.keeps.reads.kept;
+      handed = ended_read c.self.inside.tally.listing.settings (packet_of c.read_packet.new.entry) _ _
+          (g.B.Bay.handed_out c.read_packet.new.bay) refl c.in-Ok-false.field-0 c.in-Ok-false.ensures.handed c.in-Ok-false.field-0-test;
+    })
+
+pub invariant_of-self-in-Err : goal.invariant_of-self-in-Err
+invariant_of-self-in-Err = broken_record_kept
+
+-- what stands there isn't taken
+pub returns-in-Err : goal.returns-in-Err
+returns-in-Err = record_refused

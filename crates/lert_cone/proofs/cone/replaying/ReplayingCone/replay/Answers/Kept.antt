@@ -1,0 +1,131 @@
+-- What a replay of one record keeps of its cone, at each of its exits.
+use Rattle.std.proofs.Common.{◌≡◌, ◌∙◌, ◌*◌, ◌++◌, length, take, drop, None, refl, sym, ap, subst, arith}
+use Rattle.lert_base.specs.Entries.{packet_of}
+use Rattle.lert_bay.specs.Kept.{Bays}
+use Rattle.lert_bay.proofs.KeptLaws.{IsLawful}
+use Rattle.lert_gatelog.specs.Gated.{Log}
+use Rattle.lert_journal.specs.Payload.{payload_of}
+use Rattle.lert_spec.specs.declared.numbers.Numbers.{Numbers}
+use Rattle.lert_cone.specs.History.{most_payload}
+use Rattle.lert_cone.specs.InStep.{IsLogging}
+use Rattle.lert_cone.specs.Listing.{Listing}
+use Rattle.lert_cone.specs.Room.{room_of}
+use Rattle.lert_cone.specs.Replaying.{Replaying}
+use Rattle.lert_cone.specs.Wrote.{Anything}
+use Rattle.lert_cone.proofs.ReplayCalls.{bays_of, length_more, lent_again, listing_more, moved_on}
+use Rattle.lert_cone.proofs.ReplayCalls.{refilled, refilled_twice}
+use Rattle.lert_cone.proofs.ReplayStands.{near_then, read_settled, read_shut, seen_as, settled_then, stopped_cone}
+use Rattle.lert_cone.proofs.FaultLaws.{turns_as, turns_on}
+use Rattle.lert_cone.proofs.cone.replaying.ReplayingCone.replay.Given as given
+use Rattle.lert_cone.proofs.cone.replaying.ReplayingCone.replay.Goals as goal
+
+abbrev pub bays : (g : given.Over) → Bays g.row.B.Denot
+bays g = bays_of g.B.Faulty.faults g.B.Faulty.mark g.B.Bay.files g.B.Bay.leaves g.B.Bay.moment g.B.Bay.left_since g.B.Bay.handed_out
+
+pub lawful : (g : given.Over) → IsLawful (bays g)
+lawful g = record { as_read = g.met.B.Bay.as_read; since_now = g.met.B.Bay.since_now; only_now = g.met.B.Bay.only_now; since_earlier = g.met.B.Bay.since_earlier }
+
+pub broken_keys_kept : goal.invariant_of-self
+broken_keys_kept g c =
+    let len_is : c.self.inside.buffer.len ≡ length c.self.inside.buffer.items = omega (arith, c.self.inside.buffer.ok) in
+    stopped_cone g.B.Bay.files g.B.Bay.leaves g.B.Faulty.faults g.B.Faulty.mark (seen_as c.self.inside.bay c.self.inside.made.value c.self.inside.tally c.self.inside.events
+    c.self.inside.stopped c.self.inside.journal.gate c.self.inside.log c.self.inside.last) _ c.self.inside.tally c.replay_keys.new.tally c.self.inside.journal c.read_packet.new.journal _ _ _ _
+    c.from-fault.result refl
+    (ap (λ (l : Listing). l.settings) c.replay_keys.ensures.listing) refl refl
+    ((c.read_packet.ensures.keeps.file ∙ ap (λ (j : Log). j.file) c.at_gate-self-inside.ensures) ∙ sym c.self.invariant.file)
+    ((c.read_packet.ensures.keeps.most ∙ ap (λ (j : Log). j.most) c.at_gate-self-inside.ensures ∙ c.greatest_payload-most.ensures.value ∙ ap most_payload c.settings.ensures)
+    ∙ sym c.self.invariant.most) (refilled_twice c.self.inside.buffer.len c.self.inside.buffer.items c.read_packet.new.buffer c.replay_keys.new.buffer len_is) c.read_packet.ensures.keeps.roomy
+    (omega (arith, c.read_packet.ensures.keeps.reads.kept.never_falls, c.replay_keys.ensures.keeps.kept.never_falls))
+    (turns_on Anything (λ old new. new 0 ≡ old 0) (g.B.Bay.files c.self.inside.bay) (g.B.Bay.files c.read_packet.new.bay) (g.B.Bay.files c.replay_keys.new.bay)
+    (turns_as (g.B.Bay.files c.self.inside.bay) (g.B.Bay.files c.read_packet.new.bay) c.read_packet.ensures.keeps.reads.seen) c.replay_keys.ensures.keeps.journal.seen)
+    (c.replay_keys.ensures.keeps.kept.mark ∙ c.read_packet.ensures.keeps.reads.kept.mark)
+    c.self.invariant
+
+pub taken_kept : goal.invariant_of-self-in-Ok-true
+taken_kept g c =
+    let taking : c.self.inside.stopped ≡ None = subst (λ (v : Replaying g.row.B.Denot). v.stopped ≡ None) (sym c.self.view_is) c.requires.taking in
+    let was = c.self.invariant.taking taking in
+    let len_is : c.self.inside.buffer.len ≡ length c.self.inside.buffer.items = omega (arith, c.self.inside.buffer.ok) in
+    let listing_is = listing_more c.self.inside.tally.listing c.replay_keys.new.tally.listing c.read_packet.new.entry.keys.keys c.keys_of.result.now
+    c.replay_keys.ensures.listing c.in_default.ensures.taken c.keys_of.ensures.value in
+    let moved = moved_on (payload_of (packet_of c.read_packet.new.entry)) (c.in-Ok-true.ensures.moved c.in-Ok-true.field-0-test) c.at_gate-self-inside.ensures in
+    let events_is = length_more c.self.inside.tally.listing c.replay_keys.new.tally.listing c.read_packet.new.entry.keys.keys c.self.inside.events c.len-self-inside.result
+    listing_is was.counted c.len-self-inside.ensures in
+    let settings_are : c.replay_keys.new.tally.listing.settings ≡ c.self.inside.tally.listing.settings = ap (λ (l : Listing). l.settings) listing_is in
+    let journaled = c.in-Ok-true.ensures.journaled c.in-Ok-true.field-0-test in
+    let long = lent_again c.self.inside.buffer.len c.self.inside.buffer.items c.read_packet.new.buffer c.replay_keys.new.buffer _ len_is c.deref_mut-in-Ok-true.ensures.value
+    c.replay_keys.auto.buffer in
+    record {
+      file = c.read_packet.ensures.keeps.file ∙ ap (λ (j : Log). j.file) c.at_gate-self-inside.ensures;
+      most = (c.read_packet.ensures.keeps.most ∙ ap (λ (j : Log). j.most) c.at_gate-self-inside.ensures ∙ c.greatest_payload-most.ensures.value ∙ ap most_payload c.settings.ensures)
+          ∙ ap most_payload (sym settings_are);
+      roomy = refilled_twice c.self.inside.buffer.len c.self.inside.buffer.items c.read_packet.new.buffer c.replay_keys.new.buffer len_is
+          ∙ c.self.invariant.roomy ∙ ap room_of (sym settings_are);
+      keys_roomy = c.read_packet.ensures.keeps.roomy ∙ c.self.invariant.keys_roomy ∙ ap (λ (s : Numbers). 4 * s.packet) (sym settings_are);
+      within = omega (arith, c.in_default.ensures.recounted.fits, c.len-self-inside.ensures);
+      valid = c.in_default.ensures.recounted.valid;
+      never_falls = omega (arith, c.self.invariant.never_falls, c.read_packet.ensures.keeps.reads.kept.never_falls, c.replay_keys.ensures.keeps.kept.never_falls);
+      tells = turns_on Anything (λ old new. new 0 ≡ old 0) (g.B.Bay.files c.self.inside.made.value) (g.B.Bay.files c.read_packet.new.bay) (g.B.Bay.files c.replay_keys.new.bay)
+          (turns_on Anything Anything (g.B.Bay.files c.self.inside.made.value) (g.B.Bay.files c.self.inside.bay) (g.B.Bay.files c.read_packet.new.bay) c.self.invariant.tells
+          (turns_as (g.B.Bay.files c.self.inside.bay) (g.B.Bay.files c.read_packet.new.bay) c.read_packet.ensures.keeps.reads.seen)) c.replay_keys.ensures.keeps.journal.seen;
+      marked = c.replay_keys.ensures.keeps.kept.mark ∙ c.read_packet.ensures.keeps.reads.kept.mark ∙ c.self.invariant.marked;
+      taking = λ _. record {
+        counted = sym c.len-self-inside.ensures;
+        recounted = c.in_default.ensures.recounted;
+        closed = ap (λ (l : Listing). l.closed) listing_is ∙ was.closed;
+        near = near_then c.args.gate c.read_packet.new.journal.gate c.self.inside.events c.len-self-inside.result (packet_of c.read_packet.new.entry) c.requires.reach moved journaled.some
+            events_is;
+        journal_settled = settled_then 0 (g.B.Bay.files c.read_packet.new.bay) (g.B.Bay.files c.replay_keys.new.bay) (g.B.Bay.leaves c.read_packet.new.bay)
+            (g.B.Bay.leaves c.replay_keys.new.bay)
+            (g.B.Bay.moment c.read_packet.new.bay) (g.B.Bay.moment c.replay_keys.new.bay) (g.B.Bay.left_since c.read_packet.new.bay)
+            (g.B.Bay.left_since c.replay_keys.new.bay) c.replay_keys.ensures.keeps.journal (read_settled 0 (g.B.Bay.files c.self.inside.bay) (g.B.Bay.files c.read_packet.new.bay)
+            (g.B.Bay.leaves c.self.inside.bay) (g.B.Bay.leaves c.read_packet.new.bay) c.read_packet.ensures.keeps.reads.seen c.read_packet.ensures.keeps.reads.images was.journal_settled);
+        logging = subst (λ n. IsLogging c.replay_keys.new.tally c.replay_keys.new.log n) long c.in_default.ensures.can_log.logging;
+        log_shut = c.in_default.ensures.can_log.log_shut;
+      };
+    }
+
+pub ended_kept : goal.invariant_of-self-in-Ok-false
+ended_kept g c =
+    let taking : c.self.inside.stopped ≡ None = subst (λ (v : Replaying g.row.B.Denot). v.stopped ≡ None) (sym c.self.view_is) c.requires.taking in
+    let was = c.self.invariant.taking taking in
+    let len_is : c.self.inside.buffer.len ≡ length c.self.inside.buffer.items = omega (arith, c.self.inside.buffer.ok) in
+    let gate_at : c.read_packet.new.journal.gate ≡ c.args.gate = ap (λ (j : Log). j.gate) ((c.in-Ok-false.ensures.waits c.in-Ok-false.field-0-test).0 ∙ c.at_gate-self-inside.ensures) in
+    let long : length c.self.inside.buffer.items ≡ length (take c.self.inside.buffer.len (c.read_packet.new.buffer ++ drop (length c.read_packet.new.buffer) c.self.inside.buffer.items)) =
+    sym (refilled c.self.inside.buffer.len c.self.inside.buffer.items c.read_packet.new.buffer len_is) in
+    record {
+      file = c.read_packet.ensures.keeps.file ∙ ap (λ (j : Log). j.file) c.at_gate-self-inside.ensures;
+      most = c.read_packet.ensures.keeps.most ∙ ap (λ (j : Log). j.most) c.at_gate-self-inside.ensures ∙ c.greatest_payload-most.ensures.value ∙ ap most_payload c.settings.ensures;
+      roomy = refilled c.self.inside.buffer.len c.self.inside.buffer.items c.read_packet.new.buffer len_is ∙ c.self.invariant.roomy;
+      keys_roomy = c.read_packet.ensures.keeps.roomy ∙ c.self.invariant.keys_roomy;
+      within = c.self.invariant.within;
+      valid = c.self.invariant.valid;
+      never_falls = omega (arith, c.self.invariant.never_falls, c.read_packet.ensures.keeps.reads.kept.never_falls);
+      tells = turns_on Anything Anything (g.B.Bay.files c.self.inside.made.value) (g.B.Bay.files c.self.inside.bay) (g.B.Bay.files c.read_packet.new.bay) c.self.invariant.tells
+          (turns_as (g.B.Bay.files c.self.inside.bay) (g.B.Bay.files c.read_packet.new.bay) c.read_packet.ensures.keeps.reads.seen);
+      marked = c.read_packet.ensures.keeps.reads.kept.mark ∙ c.self.invariant.marked;
+      taking = λ _. record {
+        counted = was.counted;
+        recounted = was.recounted;
+        closed = was.closed;
+        near = omega (arith, gate_at, c.requires.reach);
+        journal_settled = read_settled 0 (g.B.Bay.files c.self.inside.bay) (g.B.Bay.files c.read_packet.new.bay) (g.B.Bay.leaves c.self.inside.bay)
+            (g.B.Bay.leaves c.read_packet.new.bay) c.read_packet.ensures.keeps.reads.seen c.read_packet.ensures.keeps.reads.images was.journal_settled;
+        logging = subst (λ n. IsLogging c.self.inside.tally c.self.inside.log n) long was.logging;
+        log_shut = read_shut 1 c.self.inside.log.gate (g.B.Bay.files c.self.inside.bay) (g.B.Bay.files c.read_packet.new.bay) (g.B.Bay.leaves c.self.inside.bay)
+            (g.B.Bay.leaves c.read_packet.new.bay) c.read_packet.ensures.keeps.reads.seen c.read_packet.ensures.keeps.reads.images was.log_shut;
+      };
+    }
+
+pub broken_record_kept : goal.invariant_of-self-in-Err
+broken_record_kept g c =
+    let len_is : c.self.inside.buffer.len ≡ length c.self.inside.buffer.items = omega (arith, c.self.inside.buffer.ok) in
+    let keeps = c.read_packet.ensures.keeps in
+    stopped_cone g.B.Bay.files g.B.Bay.leaves g.B.Faulty.faults g.B.Faulty.mark (seen_as c.self.inside.bay c.self.inside.made.value c.self.inside.tally c.self.inside.events
+    c.self.inside.stopped c.self.inside.journal.gate c.self.inside.log c.self.inside.last) _ c.self.inside.tally c.self.inside.tally c.self.inside.journal c.read_packet.new.journal _ _ _ _
+    c.from-fault-in-Err.result refl
+    refl refl refl ((keeps.file ∙ ap (λ (j : Log). j.file) c.at_gate-self-inside.ensures) ∙ sym c.self.invariant.file)
+    ((keeps.most ∙ ap (λ (j : Log). j.most) c.at_gate-self-inside.ensures ∙ c.greatest_payload-most.ensures.value ∙ ap most_payload c.settings.ensures) ∙ sym c.self.invariant.most)
+    (refilled c.self.inside.buffer.len c.self.inside.buffer.items c.read_packet.new.buffer len_is) keeps.roomy keeps.reads.kept.never_falls
+    (turns_as (g.B.Bay.files c.self.inside.bay) (g.B.Bay.files c.read_packet.new.bay) keeps.reads.seen) keeps.reads.kept.mark
+    c.self.invariant

@@ -1,9 +1,0 @@
-use Rattle.std.proofs.Common.{◌-◌}
-use Rattle.lert_cone.proofs.MarkLaws.{IsPassing}
-use Rattle.lert_cone.proofs.marks.Marks.pass.Given as goal
-
-abbrev pub invariant-bins : goal.invariant-bins
-invariant-bins l = IsPassing l.last l.mark l.initial.self l.self
-
-abbrev pub decreases-bins : goal.decreases-bins
-decreases-bins l = l.last - l.self.passed
