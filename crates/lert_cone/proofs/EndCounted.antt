@@ -4,6 +4,7 @@ use Rattle.std.specs.Result.{IsErrAnd}
 use Rattle.lert_bay.specs.Files.{Files}
 use Rattle.lert_levels.specs.declared.rows.bin_at.BinAt.{BinAt}
 use Rattle.lert_levels.specs.declared.rows.fault.FlushFault.{FlushFault}
+use Rattle.lert_levels.specs.rows.Checked.{rows_left}
 use Rattle.lert_levels.specs.rows.Loading.{OneBreaks}
 use Rattle.lert_levels.specs.OnDisk.{OnDisk}
 use Rattle.lert_spec.specs.declared.numbers.Numbers.{Numbers}
@@ -60,6 +61,7 @@ module _ {B : Type 0} (bays : Bays B) (lawful : IsLawful bays) (t : Tallied) (ls
     grows = tt;
     counted = tt;
     held = λ seen told held. tt;
+    whole = λ seen told. tt;
     sound = λ seen told held file at same.
         let fine = scans.sound t.listing.events (fits_end t ls levels_are valid named counted) (rows_end t ls levels_are valid named counted) (from_end t ls levels_are valid named counted)
         (young_end t ls levels_are valid named counted)
@@ -106,6 +108,7 @@ module _ {B : Type 0} (bays : Bays B) (lawful : IsLawful bays) (t : Tallied) (ls
       grows = tt;
       counted = tt;
       held = λ seen told held. tt;
+      whole = λ seen told. tt;
       sound = λ seen told held file at same. never_full_end t ls levels_are valid named counted m m_is start due start_is still seen held (took_all seen told held) full;
       shows = λ seen told file at same.
           shows_full t.listing.settings t.rows due.reports (seen 2)
@@ -129,6 +132,7 @@ module _ {B : Type 0} (bays : Bays B) (lawful : IsLawful bays) (t : Tallied) (ls
       grows = omega (arith, scans.took.1.grows, ap (λ (d : Dues). length d.before) start_is, ap (length {A = Report}) scans.took.1.before_is);
       counted = counted_end t ls levels_are valid named counted m m_is start due start_is scans.took;
       held = λ seen told held. held_end t ls levels_are valid named counted m m_is start due start_is still seen held (took_all seen told held) room;
+      whole = λ seen told. ap (λ (v : Numbers). rows_left v (seen 2) t.rows) (sym levels_are) ∙ scans.whole seen told;
       sound = λ seen told held file at same. (let never : ⊥ = cc in never);
       shows = λ seen told file at same. absurd (let never : ⊥ = cc in never);
       reads = reads_as bays lawful bay bay_after _ _ (λ same. absurd (let never : ⊥ = cc in never)) scans.reads;

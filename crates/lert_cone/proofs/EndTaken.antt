@@ -48,6 +48,7 @@ module _ {B : Type 0} (bays : Bays B) (lawful : IsLawful bays) (old : Workplace 
     in_step = λ seen told history all up. tt;
     each_moment = λ seen told history all up image may. sound_before seen history all up image (did.reads.moments image may);
     sound = λ seen told history up. did.sound seen told (held seen told history up);
+    whole = λ seen told. tt;
     room = refl;
     keeps = record {
       shows = did.shows;
@@ -136,6 +137,7 @@ module _ {B : Type 0} (bays : Bays B) (lawful : IsLawful bays) (old : Workplace 
           in_step = λ seen told history all up. tt;
           each_moment = sound_end few (Err failed) bay_after log_after appends;
           sound = λ seen told history up file at same. (let never : ⊥ = cc in never);
+          whole = λ seen told. tt;
           room = room_is;
           keeps = record {
             shows = λ seen told file at same. absurd (let never : ⊥ = cc in never);
@@ -169,6 +171,7 @@ module _ {B : Type 0} (bays : Bays B) (lawful : IsLawful bays) (old : Workplace 
           (appends.settled after told_after);
       each_moment = sound_end few (Ok tt) bay_after log_after appends;
       sound = λ seen told history up. did.sound seen told (held seen told history up);
+      whole = did.whole;
       room = room_is;
       keeps = record {
         shows = λ seen told file at same. absurd (let never : ⊥ = cc in never);

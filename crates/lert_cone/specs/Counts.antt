@@ -1,5 +1,5 @@
 -- What a key, and the end, make of a cone's counts and of its bay.
-use Rattle.std.specs.Prelude.{◌≡◌, ◌≢◌, ℕ, ◌+◌, ◌-◌, ◌≤◌, true, List, [], ◌∷◌, ◌++◌, length, slice_range, Result, Err, OnOk, OnErr, IsErrOf}
+use Rattle.std.specs.Prelude.{◌≡◌, ◌≢◌, ℕ, ◌+◌, ◌-◌, ◌≤◌, true, List, [], ◌∷◌, ◌++◌, length, slice_range, None, Result, Err, OnOk, OnErr, IsErrOf}
 use Rattle.lert_bay.specs.Kept.{Bays, KeepsBay, OnlyReads}
 use Rattle.lert_bay.specs.Files.{Files, IfTold}
 use Rattle.lert_bay.specs.declared.bay.TheConstants.{FRAMES}
@@ -7,6 +7,7 @@ use Rattle.lert_gatelog.specs.Kept.{InEach}
 use Rattle.lert_levels.specs.declared.rows.fault.FlushFault.{FlushFault}
 use Rattle.lert_levels.specs.declared.rows.fault.FlushFault.TheVariants.{Failed as FlushFailed, Malformed}
 use Rattle.lert_levels.specs.Flushed.{InNamed}
+use Rattle.lert_levels.specs.rows.Checked.{rows_left}
 use Rattle.lert_levels.specs.rows.Landing.{KeepsRest}
 use Rattle.lert_levels.specs.rows.Rows.{IsAt, AreRows, HoldsBins, moved}
 use Rattle.lert_levels.specs.rows.Loading.{OneBreaks}
@@ -82,6 +83,7 @@ pub record Scans {B : Type 0} (bays : Bays B) (start : Dues) (bay bay_after : B)
       zero.from ≡ edge levels.settings 0 (length events) → AreYoung levels.settings events zero.from zero.bins →
       IfTold (bays.files bay) (λ seen. HoldsBins levels.settings events levels.rows (seen FRAMES) → (at : ℕ) → result ≢ Err (Malformed at))
   pub malformed : IfTold (bays.files bay) (λ seen. (at : ℕ) → IsErrOf result (Malformed at) → OneBreaks levels.settings levels.rows (seen FRAMES) at)
+  pub whole : IfTold (bays.files bay) (λ seen. OnOk result (rows_left levels.settings (seen FRAMES) levels.rows ≡ None))
   pub reads : OnlyReads bays bay bay_after (IsErrOf result FlushFailed)
 
 -- A key is counted. Where the edge of level 0 stays the rows stay, and no call of the bay is made; the frames that the rows named stay in any case. Where
@@ -114,6 +116,7 @@ pub record CountsEnd {B : Type 0} (bays : Bays B) (bay bay_after : B) (old new :
   pub grows : OnOk result (length old.due.reports ≤ length new.due.reports)
   pub counted : OnOk result (IsCounted new)
   pub held : IfTold (bays.files bay) (λ seen. IsHeld old seen → OnOk result (IsHeld new seen))
+  pub whole : IfTold (bays.files bay) (λ seen. OnOk result (rows_left old.listing.settings (seen FRAMES) old.rows ≡ None))
   pub sound : IfTold (bays.files bay) (λ seen. IsHeld old seen → (file at : ℕ) → result ≢ Err (Unsound file at))
   pub shows : IfTold (bays.files bay_after) (λ seen. (file at : ℕ) → IsErrOf result (Unsound file at) → Shows new.listing.settings new.rows new.due.reports (seen FRAMES) file at)
   pub reads : OnlyReads bays bay bay_after (IsErrOf result Failed)

@@ -1,5 +1,5 @@
 -- What keys, a packet, and the end make of a cone's counts, its log and its bay.
-use Rattle.std.specs.Prelude.{◌≡◌, ◌≢◌, ℕ, ◌+◌, ◌*◌, ◌^◌, ◌<◌, ◌≤◌, max, true, false, List, [], ◌∷◌, ◌++◌, All, length, Some, Result, Err, OnOk}
+use Rattle.std.specs.Prelude.{◌≡◌, ◌≢◌, ℕ, ◌+◌, ◌*◌, ◌^◌, ◌<◌, ◌≤◌, max, true, false, List, [], ◌∷◌, ◌++◌, All, length, Some, None, Result, Err, OnOk}
 use Rattle.std.specs.Prelude.{IsErrOf}
 use Rattle.lert_base.specs.Packet.{Packet, events_of}
 use Rattle.lert_bay.specs.Kept.{Bays, KeepsBay}
@@ -7,6 +7,7 @@ use Rattle.lert_bay.specs.Files.{Files, IfTold, Turns}
 use Rattle.lert_bay.specs.declared.bay.TheConstants.{JOURNAL, LOG, FRAMES}
 use Rattle.lert_gatelog.specs.Gated.{Log, next_gate}
 use Rattle.lert_journal.specs.Payload.{IsJournaled, payload_of}
+use Rattle.lert_levels.specs.rows.Checked.{rows_left}
 use Rattle.lert_spec.specs.Edges.{capacity}
 use Rattle.lert_spec.specs.Mix.{cone_of}
 use Rattle.lert_cone.specs.declared.journal_places.JournalPlace.{JournalPlace}
@@ -178,5 +179,6 @@ pub record TakesEnd {B : Type 0} (bays : Bays B) (old new : Workplace B) (result
   pub each_moment : IfTold (bays.files old.bay) (λ seen. (history : List Packet) → old.counts.listing.events ≡ events_of history → AreInStep bays old seen history →
       (image : Files) → bays.left_since new.bay (bays.moment old.bay) image → IsSound old.counts.listing.settings old.counts.listing.cone history image)
   pub sound : IfTold (bays.files old.bay) (λ seen. (history : List Packet) → AreInStep bays old seen history → (file at : ℕ) → result ≢ Err (Unsound file at))
+  pub whole : IfTold (bays.files old.bay) (λ seen. OnOk result (rows_left old.counts.listing.settings (seen FRAMES) old.counts.rows ≡ None))
   pub room : new.room ≡ old.room
   pub keeps : KeepsJournal bays old new result

@@ -6,6 +6,7 @@ ghost use Rattle.lert_bay.specs.Files.{Files, IfTold, Turns};
 ghost use Rattle.lert_bay.specs.Kept.{KeepsBay};
 ghost use Rattle.lert_bay.specs.declared.bay.TheConstants.{FRAMES};
 ghost use Rattle.lert_io.specs.Fault.{HasRisen};
+ghost use Rattle.lert_levels.specs.rows.Checked.{rows_left};
 ghost use Rattle.lert_spec.specs.Look.{look, closing};
 ghost use Rattle.lert_spec.specs.Timely.{IsTimely, IsTimelySoFar};
 ghost use Rattle.lert_cone.specs.Sound.{IsSound, IsSoundClosed, IsKept};
@@ -66,6 +67,9 @@ impl<B: Bay, T: CountTable> Cone<B, T> {
             × ((h : List Packet) → StandsFor B.files B.leaves B.faults self.old h → WasSound B.files self.old → B.files self.old.bay ≡ None) }
         ensures shows { (file at : ℕ) → IsErrOf result (ConeFault.Unsound file at) →
             IfTold (B.files self.new.bay) (λ seen. Shows self.new.listing.settings self.new.rows self.new.reports (seen FRAMES) file at) }
+
+        // Where the bay tells its files, Ok comes only where each frame that the levels name was in its format to the end.
+        ensures whole { IfTold (B.files self.old.bay) (λ seen. OnOk result (rows_left self.old.listing.settings (seen FRAMES) self.old.rows ≡ None)) }
 
         // In each image of each moment of the call the files are sound for the list, and after Ok they are closed.
         ensures each_moment { is_broken self.old.state ≡ false → WasSound B.files self.old → IfTold (B.files self.old.bay) (λ _. (h : List Packet) →

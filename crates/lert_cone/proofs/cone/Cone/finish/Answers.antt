@@ -84,6 +84,7 @@ returns-in_err-test_state g c =
       shows = λ file at same. absurd (no_unsound _ refusal file at same);
       each_moment = λ still sound seen told h stands image may.
           ((stands.whole still sound seen told).files.kept.images image (g.met.B.Bay.only_now c.args.self.now.bay image may)).sound;
+      whole = λ seen told. tt;
       sound_closed = tt;
       seen = turns_as (g.B.Bay.files c.args.self.now.bay) (g.B.Bay.files c.args.self.now.bay) refl;
       kept = keeps_none (bays g) (lawful g) c.args.self.now.bay _ (no_failed _ refusal);
@@ -167,6 +168,9 @@ returns-in-Err-clause-reports g c = tt
 pub returns-in-Err-clause-finished : goal.returns-in-Err-clause-finished
 returns-in-Err-clause-finished g c = tt
 
+pub returns-in-Err-clause-whole : goal.returns-in-Err-clause-whole
+returns-in-Err-clause-whole g c = λ seen told. tt
+
 pub returns-in-Err-clause-in_time : goal.returns-in-Err-clause-in_time
 returns-in-Err-clause-in_time g c = tt
 
@@ -240,6 +244,9 @@ returns-clause-stands_for g c = rw (← c.self.view_is) (λ h stands.
     (c.in_default.ensures.in_step was.0 was.1 h whole.keys whole.in_step seen told) (g.met.B.Bay.as_read c.finish.new.bay seen told)
     (ap (λ (l : Listing). l.events) is ∙ whole.keys) whole.gate_is)
     stands)
+
+pub returns-clause-whole : goal.returns-clause-whole
+returns-clause-whole g c = rw (← c.self.view_is) c.in_default.ensures.whole
 
 pub returns-clause-stays : goal.returns-clause-stays
 returns-clause-stays g c = tt

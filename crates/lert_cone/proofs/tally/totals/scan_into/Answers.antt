@@ -39,5 +39,6 @@ returns g c = record {
       let all = c.scan-result.ensures.told seen told events events_ in
       never_malformed (TookFrom g.N.Begun.start c.scan-result.new.totals.due (tallied c.args.levels.now.settings events)) c.scan-result.result all place;
   malformed = c.scan-result.ensures.malformed;
+  whole = c.scan-result.ensures.whole;
   reads = c.scan-result.ensures.only_reads;
 }
