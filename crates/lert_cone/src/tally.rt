@@ -10,19 +10,17 @@ ghost use Rattle.lert_levels.specs.rows.Rows.{IsAt, AreRows, directory_text};
 
 use crate::due::Due;
 use crate::unread::Unread;
-use flush::give_totals;
+use flush::{flush_behind, flush_from, give_totals};
 use lert_base::{CountTable, Settings};
 use lert_bay::{Bay, FRAMES, LOG};
 use lert_io::{Failed, Seen};
 use lert_levels::{FlushFault, Levels, Zero};
 use lert_mixer::tail_of;
 use lert_reports::ReportStore;
-use next_flush::{flush_behind, flush_from};
 use std::marker::{Brand, Model};
 use totals::{begin, is_full, scan_into};
 
 mod flush;
-mod next_flush;
 mod recount;
 mod totals;
 

@@ -1,7 +1,8 @@
-//! The flush of a tally: a key's totals go to the reports, and at a flush position those of all keys in its window.
+//! The flushes of a tally: when the next one comes. A key's totals go to the reports, and at a flush position those of all
+//! keys in its window.
 
-ghost use Rattle.std.specs.Prelude.{◌≡◌, ◌≢◌, ◌-◌, ◌≤◌, [], Some, IsTrue, IsFalse};
-ghost use Rattle.lert_spec.specs.Edges.{edge, capacity};
+ghost use Rattle.std.specs.Prelude.{◌≡◌, ◌≢◌, ◌+◌, ◌-◌, ◌*◌, ◌<◌, ◌≤◌, [], Some, IsTrue, IsFalse};
+ghost use Rattle.lert_spec.specs.Edges.{edge, capacity, span};
 ghost use Rattle.lert_spec.specs.Limits.{IsValid};
 ghost use Rattle.lert_levels.specs.rows.Rows.{IsAt};
 ghost use Rattle.lert_cone.specs.Counts.{Flushes, GivesTotals};
@@ -10,9 +11,31 @@ ghost use Rattle.lert_cone.specs.Tally.{due_in};
 
 use crate::due::{Begun, Due, DueSince};
 use crate::tally::totals::total_of_key;
-use lert_base::CountTable;
+use lert_base::{CountTable, Settings};
 use lert_bay::Bay;
 use lert_levels::{FlushFault, Levels, Zero};
+
+// The least flush position from that of the last of `len` keys on.
+pub(super) fn flush_from(settings: &Settings, len: u64) -> u64
+    requires fits { len ≤ capacity settings.now }
+    ensures { result ≡ edge settings.now 0 (len - 1) + settings.now.bins * span settings.now 0 }
+{
+    let bins = settings.numbers().bins;
+    settings.edge(0, len.saturating_sub(1)) + bins * settings.span(0)
+}
+
+// The least flush position behind `len` keys, where `flush` is the least one from that of the last of them on.
+pub(super) fn flush_behind(settings: &Settings, len: u64, flush: u64) -> u64
+    requires fits { len < capacity settings.now }
+    requires flush { flush ≡ edge settings.now 0 (len - 1) + settings.now.bins * span settings.now 0 }
+    ensures { result ≡ edge settings.now 0 len + settings.now.bins * span settings.now 0 }
+{
+    let _valid = settings.numbers();
+    if len == flush {
+        return flush + settings.span(0);
+    }
+    flush
+}
 
 // Flushes the levels at position `m`, with the reports as the taker of the totals.
 fn flush_into<B: Bay, T: CountTable, N: Begun>(

@@ -7,7 +7,7 @@ ghost use Rattle.lert_spec.specs.Mix.{cone_of};
 ghost use Rattle.lert_cone.specs.Tally.{IsRecounted};
 
 use crate::tally::Tally;
-use crate::tally::next_flush::flush_behind;
+use crate::tally::flush::flush_behind;
 use lert_base::CountTable;
 use lert_bay::Bay;
 use lert_levels::Zero;

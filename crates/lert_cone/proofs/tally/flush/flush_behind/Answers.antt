@@ -4,7 +4,7 @@ use Rattle.lert_spec.specs.Edges.{span, capacity}
 use Rattle.lert_spec.proofs.LimitLaws.{capacity_to, span_within}
 use Rattle.lert_spec.specs.Limits.{IsValid}
 use Rattle.lert_cone.proofs.NextFlush.{flush_passed, flush_ahead}
-use Rattle.lert_cone.proofs.tally.next_flush.flush_behind.Goals as goal
+use Rattle.lert_cone.proofs.tally.flush.flush_behind.Goals as goal
 
 pub returns-then-len-flush : goal.returns-then-len-flush
 returns-then-len-flush c =

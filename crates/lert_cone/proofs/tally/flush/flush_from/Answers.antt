@@ -5,7 +5,7 @@ use Rattle.lert_spec.specs.Edges.{capacity, edge, span}
 use Rattle.lert_spec.specs.Limits.{IsValid}
 use Rattle.lert_spec.proofs.BinLaws.{edge_within}
 use Rattle.lert_spec.proofs.LimitLaws.{capacity_to, span_within}
-use Rattle.lert_cone.proofs.tally.next_flush.flush_from.Goals as goal
+use Rattle.lert_cone.proofs.tally.flush.flush_from.Goals as goal
 
 pub edge-requires-clause-events : goal.edge-requires-clause-events
 edge-requires-clause-events c = omega (arith, c.saturating_sub.ensures, c.requires.fits)
