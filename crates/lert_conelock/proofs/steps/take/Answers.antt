@@ -14,4 +14,4 @@ compare_exchange-requires g c = (
 pub returns-clause-won : goal.returns-clause-won
 returns-clause-won g c p is won =
     subst (λ (e : Packet). (state : g.row.S.Denot) × Took g.S.Held e p state (Some state) c.compare_exchange.new.seat.me) c.requires.named
-    ((c.compare_exchange.ensures.2 p is).0 (eqb-true c.compare_exchange.result 0 won))
+    ((c.compare_exchange.ensures.2 p is).0 (eqb-true _ _ won))
