@@ -1,5 +1,5 @@
 -- Frames that are read to their end leave their format nowhere.
-use Rattle.std.proofs.Common.{ℕ, zero, suc, ◌≡◌, ◌≢◌, ◌<◌, List, [], ◌∷◌, length, map, Option, Some, None, refl, ap, sym, ◌∙◌, arith, subst}
+use Rattle.std.proofs.Common.{ℕ, suc, ◌≡◌, ◌≢◌, ◌<◌, List, [], ◌∷◌, length, map, Option, Some, None, refl, ap, sym, ◌∙◌, arith, subst}
 use Rattle.std.proofs.lemmas.List.{map-append}
 use Rattle.lert_bay.specs.declared.bay.TheConstants.{FRAMES}
 use Rattle.lert_bay.specs.Files.{Files}
@@ -10,9 +10,9 @@ use Rattle.lert_spec.specs.declared.numbers.Numbers.{Numbers}
 use Rattle.lert_spec.specs.declared.piece.Piece.{Piece}
 use Rattle.lert_levels.specs.declared.rows.bin_at.BinAt.{BinAt}
 use Rattle.lert_levels.specs.rows.Checked.{bin_left, bins_left, first_of, rows_left}
-use Rattle.lert_levels.specs.streams.Bin.{Bin as Stream, of_table, of_frame, to_come_of}
+use Rattle.lert_levels.specs.streams.Bin.{Bin as Stream, of_table, of_frame}
 use Rattle.lert_levels.specs.streams.SetLaws.{to_come_at}
-use Rattle.lert_levels.specs.Sources.{Placed, placed_at, placed, Source, of_young, of_bin, sources, IsReaderOf, IsBegun, AreBegun, AllOf}
+use Rattle.lert_levels.specs.Sources.{Placed, placed_at, placed, Source, of_young, of_bin, sources, IsReaderOf, AreBegun, AllOf}
 use Rattle.lert_levels.proofs.PlacedLaws.{all_in}
 use Rattle.lert_levels.proofs.rows.CheckLaws.{first_behind}
 
