@@ -144,6 +144,32 @@ fn writes_over_one_another_are_taken_back_to_the_last_sync(rt: HostRuntime) {
     }
 }
 
+// A bay with two writes beside one another behind the last sync.
+fn written_beside(rt: &impl Abort, alloc: Global) -> MemBay {
+    let mut bay = written(rt, alloc, 0, b"bb");
+    write(rt, &mut bay, JOURNAL, 2, b"cc");
+    bay
+}
+
+#[test]
+fn a_pick_above_3_gives_each_write_a_fate_of_its_own(rt: HostRuntime) {
+    // The last two bits of a pick are laid over the two before them for the first write, and over the two before those for the second
+    // one. Where they differ there are ones: 00 takes a write back, 01 keeps it, 10 its first half, 11 its second one.
+    let left: [(u64, &[u8]); 8] = [
+        (0b00_01_00, b"bbaa"),
+        (0b01_00_00, b"aacc"),
+        (0b00_01_01, b"aacc"),
+        (0b01_00_01, b"bbaa"),
+        (0b00_10_00, b"baaa"),
+        (0b11_00_00, b"aaac"),
+        (0b01_10_00, b"bacc"),
+        (0b10_11_01, b"baac"),
+    ];
+    for (pick, want) in left {
+        assert_left(&rt, written_beside(&rt, rt.alloc()), pick, want);
+    }
+}
+
 fn assert_torn(rt: &impl Abort, bay: &mut MemBay) {
     bay.fail_at(2);
     sync(rt, bay, JOURNAL);
