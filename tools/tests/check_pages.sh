@@ -34,7 +34,7 @@ make_page() {
     rm -rf page && mkdir -p page/bin && ln -s "$top/tools" "$top/lert" page/ || return
     printf '#!/bin/sh\ncat packets.pcap\n' >page/bin/tcpdump
     printf '#!/bin/sh\n[ "$*" = "-f -o cat" ] && printf "%%s\\n" no such no && sleep 60\n' >page/bin/journalctl
-    printf '#!/bin/sh\n[ "$*" = "-l -T fields -e ip.src" ] && printf "%%s\\n" 10.0.0.7 10.0.0.9 10.0.0.7 && sleep 60\n' \
+    printf '#!/bin/sh\n[ "$*" = "-l -T fields -e ip.src" ] && printf "%%s\\n" 7.0.0.7 9.0.0.9 7.0.0.7 && sleep 60\n' \
         >page/bin/tshark
     chmod +x page/bin/*
 }
@@ -68,7 +68,8 @@ def block(kind, body):
     return struct.pack("<I", kind) + length + body + length
 with open(sys.argv[1], "wb") as file:
     if sys.argv[1].endswith("ng"):
-        file.write(block(0x0A0D0D0A, struct.pack("<IHHq", 0x1A2B3C4D, 1, 0, -1)) + block(1, struct.pack("<HHI", 1, 0, 0)))
+        file.write(block(0x0A0D0D0A, struct.pack("<IHHq", 0x1A2B3C4D, 1, 0, -1)))
+        file.write(block(1, struct.pack("<HHI", 1, 0, 0)))
         file.write(block(6, struct.pack("<IIIII", 0, 0, 0, len(packet), len(packet)) + packet) * 1500)
     else:
         file.write(struct.pack("<IHHiIII", 0xA1B2C3D4, 2, 4, 0, 0, 262144, 1))
@@ -118,6 +119,15 @@ page_of_capture() {
     cd ..
 }
 
+# The picture of docs/LOOK.md, of the words of the sources that git knows: its kind, and how many cones the run has.
+page_of_picture() {
+    make_page && cd page && mkdir docs && ln -s "$top/crates" . || return
+    printf '#!/bin/sh\ncd "%s" && PATH="%s" exec git "$@"\n' "$top" "$PATH" >bin/git && chmod +x bin/git
+    PATH=$PWD/bin:$PATH bash -c "$(block_of LOOK.md ls-files 0)" | grep -c '^cone'
+    head -c 4 docs/look.png | tail -c 3
+    cd ..
+}
+
 # Where each command of the pages is run that stands in no block with what it prints: behind # the check.
 commands_due() {
     cat <<'END'
@@ -139,6 +149,7 @@ docs/USE.md tools/report --format options DIR # check_report
 docs/USE.md tools/fit --memory # check_fit
 docs/LOOK.md timeout --foreground 3600 tail -F access.log # page_of_log
 docs/LOOK.md timeout --foreground 60 tcpdump -i any -U -w - ip or ip6 # page_of_packets
+docs/LOOK.md git ls-files 'crates/*.rt' 'crates/*.antt' # page_of_picture
 docs/LOOK.md tools/keys pack --packets source --names senders --from capture.pcapng packets # page_of_capture
 docs/LOOK.md ./lert run heavy payments more # page_of_csv
 docs/LOOK.md tail -n +1 -F payments.csv | tools/keys pack --csv card .. # page_of_csv
@@ -150,7 +161,8 @@ END
 }
 
 check_pages() {
-    local run='cone 0 events 151 reports 1 closed\nrun 101\ntotal events 151 reports 1\nseen 101 10.0.0.7\nrecovered 101\n'
+    local PATH=$PATH run='cone 0 events 151 reports 1 closed\nrun 101\ntotal events 151 reports 1\n'
+    run+='seen 101 10.0.0.7\nrecovered 101\n'
     has python3 timeout stdbuf || return
     gives 'each command of the pages is run' 0 '' '' diff <(commands_due | sed 's/ # .*//') <(page_commands)
     gives 'the addresses of a log, as docs/LOOK.md has it' 0 "$run" '' page_of_log
@@ -159,6 +171,8 @@ check_pages() {
     run='events 1500 reports 1 closed\n1500 10.0.0.7\nevents 1500 reports 1\n'
     gives 'the senders of a capture, as docs/LOOK.md has it' 0 "$run" '' eval "page_of_capture | sed 's/^0 //'"
     gives 'a CSV that grows, as docs/LOOK.md has it' 0 '4711\n' '' page_of_csv
-    gives 'services, as docs/USE.md has them' 0 '0 3 10.0.0.7\n0 3 no\n0 3 10.0.0.7\n' '' page_of_services
+    gives 'services, as docs/USE.md has them' 0 '0 3 10.0.0.7\n0 3 no\n0 3 7.0.0.7\n' '' page_of_services
+    python_with matplotlib && has git "$top/.git" &&
+        gives 'the picture of docs/LOOK.md' 0 '16\nPNG' '' page_of_picture
     rm -rf page
 }
