@@ -93,6 +93,11 @@ check_inside() {
     rm -rf bare
 }
 
+# The libraries that the program wants, and the newest version of the C library that it knows.
+wanted_libraries() {
+    objdump -p "$1" | sed -n 's/ *NEEDED *//p' && objdump -T "$1" | grep -o 'GLIBC_[0-9.]*' | sort -Vu | tail -n 1
+}
+
 check_package() {
     has dpkg-deb zcat || return
     if ! "$top/tools/build/package" first.deb 2>said && grep -q 'other sources' said; then
@@ -100,6 +105,8 @@ check_package() {
         return
     fi
     gives 'a package' 0 '4 ann\ncone 0 events 4 of 786432 reports 1 closed\n.TH LERT 1 "2026-11-30"\n' '' packed_twice
+    has objdump && gives 'what the package depends on' 0 'libc.so.6\nGLIBC_2.34\n' '' \
+        wanted_libraries "$top/dist/lert-x86_64-linux-gnu"
     has lintian && gives 'a package without an error' 0 '' '' passes lintian --allow-root --fail-on error first.deb
     check_inside
 }

@@ -115,7 +115,7 @@ check_report() {
 
 # --- a service
 
-live() { timeout 120 "$top/tools/live" "$@"; }
+live() { timeout 900 "$top/tools/live" "$@"; }
 
 # What a service says, without the time in the names of directories.
 untimed() { sed 's/-[0-9]*T[0-9]*Z//g'; }
