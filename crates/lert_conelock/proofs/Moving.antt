@@ -44,9 +44,9 @@ own_between xs ys zs n a b same =
     let to_ys : own_moves ys n ≡ own_moves xs n ++ own_moves a.rest n = ap (filter p) a.splits ∙ filter-append p xs a.rest in
     let to_zs : own_moves zs n ≡ own_moves ys n ++ own_moves b.rest n = ap (filter p) b.splits ∙ filter-append p ys b.rest in
     let all : own_moves xs n ≡ own_moves xs n ++ (own_moves a.rest n ++ own_moves b.rest n) =
-        same ∙ (to_zs ∙ (ap (λ (l : List Move). l ++ own_moves b.rest n) to_ys ∙ append_assoc (own_moves xs n) (own_moves a.rest n) (own_moves b.rest n))) in
+    same ∙ (to_zs ∙ (ap (λ (l : List Move). l ++ own_moves b.rest n) to_ys ∙ append_assoc (own_moves xs n) (own_moves a.rest n) (own_moves b.rest n))) in
     let none : own_moves b.rest n ≡ [] = front_none (own_moves a.rest n) (own_moves b.rest n)
-        (no_more (own_moves xs n) (own_moves a.rest n ++ own_moves b.rest n) all) in
+    (no_more (own_moves xs n) (own_moves a.rest n ++ own_moves b.rest n) all) in
     sym (to_zs ∙ (ap (λ (l : List Move). own_moves ys n ++ l) none ∙ append-nil (own_moves ys n)))
 
 -- what a step adds is behind what was added before

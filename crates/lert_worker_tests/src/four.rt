@@ -20,13 +20,7 @@ pub fn run_four<
     S: Source + Send,
     H: Held<Refusal = ConeFault> + Send,
     R: Threads + Wait + Sync + Abort,
->(
-    rt: &R,
-    alloc: Global,
-    settings: &Settings,
-    states: Vec<H>,
-    sources: [S; 4],
-) -> [WorkerEnd; 4]
+>(rt: &R, alloc: Global, settings: &Settings, states: Vec<H>, sources: [S; 4]) -> [WorkerEnd; 4]
 where
     S: Drop,
     H: Drop,

@@ -3,8 +3,8 @@
 ghost use Rattle.std.specs.Prelude.{◌≡◌};
 
 use crate::crew::{Outcome, Way, run_pair};
-use crate::four::run_four;
 use crate::flags::{Flags, new_flags, shared};
+use crate::four::run_four;
 use crate::late_source::{Awaits, LateSource};
 use crate::station::{Role, Station, two_stations};
 use lert_base::{Numbers, Settings};

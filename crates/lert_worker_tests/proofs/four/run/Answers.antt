@@ -10,6 +10,8 @@ run_all-requires-clause-may g c =
     search may
 
 pub returns : goal.returns
-returns g c = record { back = subst (AreBack c.args.fleet.now) c.four_of.ensures
-    (all_back c.args.settings.now c.args.fleet.now g.S.Source.remaining g.S.Faulty.faults g.S.Faulty.mark
-    (c.args.first ∷ c.args.second ∷ c.args.third ∷ c.args.fourth ∷ []) _ c.requires.hired c.run_all.ensures.ran) }
+returns g c = record {
+  back = subst (AreBack c.args.fleet.now) c.four_of.ensures
+      (all_back c.args.settings.now c.args.fleet.now g.S.Source.remaining g.S.Faulty.faults g.S.Faulty.mark
+      (c.args.first ∷ c.args.second ∷ c.args.third ∷ c.args.fourth ∷ []) _ c.requires.hired c.run_all.ensures.ran);
+}
