@@ -5,7 +5,7 @@ ghost use Rattle.lert_base.specs.Entries.{packet_of};
 ghost use Rattle.lert_journal.specs.Payload.{IsJournaled};
 
 use lert_base::{Entry, KeyList, Numbers, Report, Settings};
-use lert_bay::MemBay;
+use lert_bay::{JOURNAL, MemBay};
 use lert_cone::{Cone, ConeRoom, ConeState};
 use lert_mixer::cone_of;
 use lert_plain::PlainTable;
@@ -29,6 +29,21 @@ pub(crate) const PACKET: usize = 8;
 
 // A number above that of the calls of each run here.
 pub(crate) const MOST_CALLS: u64 = 1_000;
+
+// The images of a crash that are tried: the four by which all writes have one fate, and some by which each one has its own. Their last
+// two bits are laid over the two before them for the first write of a file, over those before these for the second, and so on.
+pub(crate) const PICKS: [u64; 8] = [
+    0,
+    1,
+    2,
+    3,
+    // The first write alone is kept, or taken back.
+    0b01_00,
+    0b01_01,
+    // The second one is kept, or the halves of two.
+    0b01_00_00,
+    0b11_10_01_00,
+];
 
 // A cone that was stopped: how many packets it took before, and whether it was finished.
 #[derive(Drop)]
@@ -124,7 +139,38 @@ pub(crate) fn stopped(rt: &impl Abort, alloc: Global, keys: &[u64], call: u64) -
     }
 }
 
-// Opens what a crash leaves, and goes on to the end. It has the packets that were taken, and at most so many more.
+// The header of the journal of these settings, and what stands in it before the eight keys of a packet: the open gate, how many bytes
+// come, the caller and the trace.
+const HEADER: [u8; 32] =
+    *b"LERTJ\x01\0\0\x03\0\0\0\x20\0\0\0\x04\0\0\0\x08\0\0\0\x03\x02\x02\0\0\0\0\0";
+
+const BEFORE_KEYS: [u8; 13] = *b"\x01\x48\0\0\0\0\0\0\0\0\0\0\0";
+
+// The journal of these keys, up to the gate behind its last packet.
+fn journal_of(rt: &impl Abort, alloc: Global, keys: &[u64]) -> Vec<u8> {
+    let mut text = Vec::from_slice(alloc, &HEADER).expect(rt, "memory");
+    for packet in keys.chunks(PACKET) {
+        push_packet(rt, &mut text, packet);
+    }
+    text
+}
+
+fn push_packet(rt: &impl Abort, text: &mut Vec<u8>, keys: &[u64]) {
+    text.extend_from_slice(&BEFORE_KEYS).expect(rt, "memory");
+    for key in keys {
+        text.extend_from_slice(&key.to_le_bytes())
+            .expect(rt, "memory");
+    }
+}
+
+// Whether a journal has just these keys, in packets of eight.
+fn has_keys(rt: &impl Abort, alloc: Global, journal: &[u8], keys: &[u64]) -> bool {
+    let text = journal_of(rt, alloc, keys);
+    journal.starts_with(&text) && journal.get(text.len()).copied() != Some(1)
+}
+
+// Opens what a crash leaves, and goes on to the end. It has the packets that were taken, and at most so many more, and its journal has
+// the keys of these.
 pub(crate) fn go_on(
     rt: &impl Abort,
     alloc: Global,
@@ -134,11 +180,16 @@ pub(crate) fn go_on(
     more: usize,
     reports: &[Report],
 ) {
+    let journal = image.bytes(JOURNAL).to_vec(alloc).expect(rt, "memory");
     let room = ConeRoom::new(alloc, &settings(rt)).expect(rt, "memory");
     match reopen(room, 0, image) {
         Ok(mut cone) => {
+            let opened = keys.get(..cone.events() as usize);
+            let opened = opened.expect(rt, "there are so many keys");
+            assert!(rt; has_keys(rt, alloc, &journal, opened));
             check_rest(rt, alloc, &mut cone, keys, taken, more, reports);
-            drop(cone);
+            let bay = cone.into_bay();
+            assert!(rt; has_keys(rt, alloc, bay.bytes(JOURNAL), keys));
         }
         Err(_) => panic!(rt; "what a crash leaves is sound"),
     }
@@ -214,11 +265,11 @@ fn meets_no_stop(
     }
 }
 
-// Stops a run over these keys at each of its calls, and goes on with each of four images. Answers the number of the first
+// Stops a run over these keys at each of its calls, and goes on with each of some images. Answers the number of the first
 // call behind its last one.
 fn stop_at_each_call(rt: &impl Abort, alloc: Global, keys: &[u64], reports: &[Report]) -> u64 {
     for call in 1..MOST_CALLS {
-        for pick in 0..4 {
+        for pick in PICKS {
             if meets_no_stop(rt, alloc, keys, call, pick, reports) {
                 return call;
             }
