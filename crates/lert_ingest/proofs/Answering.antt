@@ -1,5 +1,5 @@
 -- The exact answer of a crew of workers.
-use Rattle.std.proofs.Common.{◌≡◌, ◌≢◌, ◌⊎◌, ℕ, ◌+◌, ◌*◌, ◌%◌, ◌^◌, ◌<◌, ◌≤◌, zero, suc, List, [], ◌∷◌, ◌++◌, length, map}
+use Rattle.std.proofs.Common.{◌≡◌, ◌⊎◌, ℕ, ◌%◌, ◌^◌, ◌<◌, ◌≤◌, List, length, map}
 use Rattle.std.proofs.Common.{Option, Some, None, slice_get, refl, ap, sym, ◌∙◌, subst, inl, inr, arith}
 use Rattle.std.specs.Prelude.{All}
 use Rattle.std.proofs.lemmas.Bool.{cases_lt}
@@ -14,23 +14,22 @@ use Rattle.lert_spec.specs.Trace.{left, whole}
 use Rattle.lert_trace.specs.Reader.{Reading}
 use Rattle.lert_trace.specs.declared.fault.TraceFault.{TraceFault}
 use Rattle.lert_trace.specs.declared.fault.TraceFault.TheVariants as trace_fault
-use Rattle.lert_worker.specs.Ends.{IsAtEnd, Stopped, StoppedAt}
+use Rattle.lert_worker.specs.Ends.{IsAtEnd, Stopped}
 use Rattle.lert_worker.specs.declared.end.WorkerEnd.{WorkerEnd}
 use Rattle.lert_worker.specs.declared.end.WorkerEnd.TheVariants as end
-use Rattle.lert_ingest.specs.Bays.{AreFaultless, AreLater, AreTold, bays_of}
+use Rattle.lert_ingest.specs.Bays.{AreFaultless, AreTold, bays_of}
 use Rattle.lert_ingest.specs.Crews.{AreLeftBy, AreReadBy, IsReadOf}
 use Rattle.lert_ingest.specs.Faults.{earlier, earliest, end_fault, fault_at}
-use Rattle.lert_ingest.specs.Status.{stop_status}
 use Rattle.lert_ingest.specs.Stops.{IsExact, StopShows}
 use Rattle.lert_ingest.specs.Traces.{AllFit, AreBytesOf, AreTracesFaultless, IsOver, most_keys, part_length}
 use Rattle.lert_ingest.specs.declared.status.Status.{Status}
 use Rattle.lert_ingest.specs.declared.status.Status.TheVariants as status
 use Rattle.lert_ingest.proofs.BayLaws.{bay_at, slice_get-some, told_later}
-use Rattle.lert_ingest.proofs.Completing.{all_fit, keys_are, read_to_end}
+use Rattle.lert_ingest.proofs.Completing.{all_fit, read_to_end}
 use Rattle.lert_ingest.proofs.Exactly.{MayBe, bytes_at, bytes_of, fault_risen, few_at, keys_same, may_be}
 use Rattle.lert_ingest.proofs.FaultOrder.{IsNotAfter}
 use Rattle.lert_ingest.proofs.Holding.{none_full}
-use Rattle.lert_ingest.proofs.Judging.{IsCone, IsStop, bays_later, begun, cone_at, of_ends, running_told, shared, stop_place, stop_shows, trace_stop, traces, worker_of}
+use Rattle.lert_ingest.proofs.Judging.{IsStop, bays_later, begun, cone_at, of_ends, running_told, shared, stop_shows, trace_stop, traces}
 use Rattle.lert_ingest.proofs.Told.{are_keys, named, there_is}
 
 well_at : (texts : List (List ℕ)) → All (λ bytes. left bytes ≡ None) texts → (trace : ℕ) (bytes : List ℕ) → slice_get texts trace ≡ Some bytes → left bytes ≡ None

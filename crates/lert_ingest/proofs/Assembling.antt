@@ -1,29 +1,26 @@
 -- The answer of a crew, and what is untouched before it runs.
-use Rattle.std.proofs.Common.{◌≡◌, ◌≢◌, ◌⊎◌, ℕ, ◌+◌, ◌-◌, ◌%◌, ◌^◌, ◌<◌, ◌≤◌, zero, suc, List, [], ◌∷◌, ◌++◌, length, map}
-use Rattle.std.proofs.Common.{drop, take, Option, Some, None, Result, Ok, Err, slice_get, refl, ap, sym, ◌∙◌, subst, inl, inr, arith}
-use Rattle.std.proofs.Common.{length-append}
+use Rattle.std.proofs.Common.{◌≡◌, ℕ, ◌-◌, ◌≤◌, suc, List, [], ◌∷◌, length}
+use Rattle.std.proofs.Common.{Option, Some, None, Ok, Err, slice_get, refl, ap, sym, ◌∙◌, subst, inr, arith}
 use Rattle.std.specs.Prelude.{IfErr, OnOk}
 use Rattle.std.proofs.lemmas.List.{length-map}
-use Rattle.std.proofs.lemmas.Option.{none-some, same_Some, slice_get_within, slice_get-map}
+use Rattle.std.proofs.lemmas.Option.{same_Some, slice_get_within}
 use Rattle.lert_base.specs.declared.held.Held.{Ghosts as HeldOf}
 use Rattle.lert_base.specs.Packet.{Packet, own}
 use Rattle.lert_bay.specs.Files.{Files}
 use Rattle.lert_cone.specs.Stands.{Standing}
 use Rattle.lert_base.specs.declared.cone_fault.ConeFault.{ConeFault}
-use Rattle.lert_conelock.specs.Sight.{Closed, LockSight, Sight}
+use Rattle.lert_conelock.specs.Sight.{LockSight}
 use Rattle.lert_fleet.proofs.Places.{image_at, some_at}
 use Rattle.lert_fleet.specs.Cones.{ClosesEach, FleetPassSight, FleetSight, IsWhole}
 use Rattle.lert_spec.specs.declared.numbers.Numbers.{Numbers}
 use Rattle.lert_trace.specs.Reader.{Reading}
 use Rattle.lert_worker.specs.declared.end.WorkerEnd.{WorkerEnd}
-use Rattle.lert_worker.specs.Ran.{Working}
-use Rattle.lert_ingest.specs.Bays.{AreLater, bays_of}
+use Rattle.lert_ingest.specs.Bays.{bays_of}
 use Rattle.lert_ingest.specs.Crew.{IsPassFrom, IsQuiet}
-use Rattle.lert_ingest.specs.Crews.{AreLeftBy, AreReadBy, fresh_reader}
+use Rattle.lert_ingest.specs.Crews.{AreLeftBy, AreReadBy}
 use Rattle.lert_ingest.specs.Faults.{earlier, earliest, end_fault, fault_at}
 use Rattle.lert_ingest.specs.Ingest.{HasIngested, answer_of, firsts_of}
-use Rattle.lert_ingest.specs.Stops.{AreIngested, IsExact, StopShows}
-use Rattle.lert_ingest.specs.Traces.{AreTracesLater}
+use Rattle.lert_ingest.specs.Stops.{AreIngested, StopShows}
 use Rattle.lert_ingest.specs.declared.status.Status.{Status}
 use Rattle.lert_ingest.specs.declared.status.Status.TheVariants as status
 use Rattle.lert_ingest.proofs.Answering.{is_exact}

@@ -1,8 +1,7 @@
 -- A crew of workers that read all, and the exact answers of one that didn't.
-use Rattle.std.proofs.Common.{◌≡◌, ◌≢◌, ◌⊎◌, ℕ, ◌+◌, ◌*◌, ◌%◌, ◌^◌, ◌<◌, ◌≤◌, zero, suc, List, [], ◌∷◌, ◌++◌, length, map}
+use Rattle.std.proofs.Common.{◌≡◌, ◌≢◌, ◌⊎◌, ℕ, ◌%◌, ◌<◌, ◌≤◌, List, [], ◌∷◌, length}
 use Rattle.std.proofs.Common.{Option, Some, None, slice_get, refl, ap, sym, ◌∙◌, subst, inl, inr, arith}
-use Rattle.std.specs.Prelude.{All, Contains}
-use Rattle.std.proofs.lemmas.Bool.{cases_lt}
+use Rattle.std.specs.Prelude.{Contains}
 use Rattle.std.proofs.lemmas.Option.{none-some, same_Some, slice_get_within}
 use Rattle.lert_base.specs.Packet.{Packet, events_of}
 use Rattle.lert_bay.specs.Files.{Files}
@@ -12,31 +11,24 @@ use Rattle.lert_base.specs.declared.cone_fault.ConeFault.TheVariants as fault
 use Rattle.lert_cone.specs.declared.state.ConeState.{ConeState}
 use Rattle.lert_cone.specs.declared.state.ConeState.TheVariants as state
 use Rattle.lert_conelock.proofs.Contained.{item_here}
-use Rattle.lert_io.specs.Fault.{IsFaultless}
-use Rattle.lert_io.specs.Reading.{IfTold}
 use Rattle.lert_spec.specs.declared.numbers.Numbers.{Numbers}
-use Rattle.lert_spec.specs.Edges.{capacity}
-use Rattle.lert_spec.specs.Trace.{left, whole}
+use Rattle.lert_spec.specs.Trace.{left}
 use Rattle.lert_trace.specs.Reader.{Reading}
-use Rattle.lert_trace.specs.declared.fault.TraceFault.{TraceFault}
 use Rattle.lert_trace.specs.declared.fault.TraceFault.TheVariants as trace_fault
-use Rattle.lert_worker.specs.Ends.{IsAtEnd, Stopped, StoppedAt}
+use Rattle.lert_worker.specs.Ends.{IsAtEnd, Stopped}
 use Rattle.lert_worker.specs.declared.end.WorkerEnd.{WorkerEnd}
 use Rattle.lert_worker.specs.declared.end.WorkerEnd.TheVariants as end
 use Rattle.lert_ingest.specs.Back.{IsBack, IsFullAt}
-use Rattle.lert_ingest.specs.Bays.{AreFaultless, AreTold, bays_of}
 use Rattle.lert_ingest.specs.Crews.{AreLeftBy, AreReadBy, IsReadOf}
 use Rattle.lert_ingest.specs.Faults.{earlier, earliest, end_fault, fault_at, fault_of, full_fault, state_fault}
-use Rattle.lert_ingest.specs.Stops.{AreWeaving, IsExact}
-use Rattle.lert_ingest.specs.Traces.{AllFit, AreBytesOf, AreKeysOf, AreReadToEnd, AreTracesFaultless, AreTracesLater, IsReadToEnd, most_keys, part_length}
-use Rattle.lert_ingest.specs.declared.status.Status.{Status}
+use Rattle.lert_ingest.specs.Stops.{AreWeaving}
+use Rattle.lert_ingest.specs.Traces.{AllFit, AreKeysOf, AreReadToEnd, AreTracesLater}
 use Rattle.lert_ingest.specs.declared.status.Status.TheVariants as status
-use Rattle.lert_ingest.proofs.BayLaws.{bay_at, slice_get-some, told_later}
+use Rattle.lert_ingest.proofs.BayLaws.{slice_get-some}
 use Rattle.lert_ingest.proofs.Crew.{was_turned}
-use Rattle.lert_ingest.proofs.Exactly.{bytes_at, bytes_of, fault_risen, few_at, keys_same, may_be}
-use Rattle.lert_ingest.proofs.FaultOrder.{IsFirst, IsFirstOf, IsNotAfter, all_none, each_of, of_all, of_two, of_two_none}
-use Rattle.lert_ingest.proofs.Holding.{is_weaving, none_full, weaving_fits}
-use Rattle.lert_ingest.proofs.Judging.{IsCone, IsStop, bays_later, begun, cone_at, of_ends, shared, stop_place, stop_shows, trace_stop, traces, worker_of}
+use Rattle.lert_ingest.proofs.FaultOrder.{all_none, of_two_none}
+use Rattle.lert_ingest.proofs.Holding.{is_weaving, weaving_fits}
+use Rattle.lert_ingest.proofs.Judging.{IsCone, cone_at, shared, traces}
 use Rattle.lert_ingest.proofs.Told.{all_whole, are_keys, named, there_is}
 
 module _ {S B : Type 0} (remaining : S → Option (List ℕ)) (s_faults s_mark : S → ℕ) (files : B → Option Files) (leaves : B → Files → Type 0) (b_faults b_mark : B → ℕ)

@@ -1,23 +1,21 @@
 -- What all workers leave in a cone.
-use Rattle.std.proofs.Common.{◌≡◌, ◌≢◌, ◌⊎◌, ℕ, ◌+◌, ◌*◌, ◌%◌, ◌<◌, ◌≤◌, zero, suc, Bool, true, false, cond, eqb, List, [], ◌∷◌}
-use Rattle.std.proofs.Common.{◌++◌, length, map, filter, Some, slice_get, refl, ap, sym, ◌∙◌, subst, inl, inr, arith}
+use Rattle.std.proofs.Common.{◌≡◌, ◌≢◌, ℕ, ◌+◌, ◌<◌, ◌≤◌, suc, Bool, cond, eqb, List, [], ◌∷◌}
+use Rattle.std.proofs.Common.{◌++◌, length, map, Some, slice_get, refl, ap, sym, ◌∙◌, subst, inl, inr, arith}
 use Rattle.std.proofs.Common.{append_assoc, append-nil, length-append}
 use Rattle.std.specs.Prelude.{All, Contains}
 use Rattle.std.proofs.lemmas.Bool.{cases_eq, eq-eqb, ne_eqb}
 use Rattle.std.proofs.lemmas.List.Concat.{flat_map-append}
-use Rattle.std.proofs.lemmas.List.Elements.{All-append, All-cons, All-contains, All-nil, Contains-append_left, filter-append}
+use Rattle.std.proofs.lemmas.List.Elements.{All-append, All-cons, All-contains, All-nil, filter-append}
 use Rattle.std.proofs.lemmas.List.{get_or_append_left}
-use Rattle.std.proofs.lemmas.Option.{slice_get_within, same_Some, none-some}
 use Rattle.lert_base.specs.Beginning.{BeginsWith}
 use Rattle.lert_base.specs.Packet.{Packet, events_of, of_trace, own}
-use Rattle.lert_base.specs.Weave.{AreCut, IsPartWoven, IsWhole, IsWoven}
+use Rattle.lert_base.specs.Weave.{AreCut, IsPartWoven, IsWoven}
 use Rattle.lert_base.specs.declared.cone_fault.ConeFault.{ConeFault}
 use Rattle.lert_conelock.proofs.Contained.{no_item, item_here, item_cases}
-use Rattle.lert_conelock.specs.Sight.{Sight, own_refused}
+use Rattle.lert_conelock.specs.Sight.{Sight}
 use Rattle.lert_spec.specs.declared.numbers.Numbers.{Numbers}
-use Rattle.lert_spec.specs.Mix.{part_of}
-use Rattle.lert_worker.specs.Brings.{Brings, BringsPart, HasNoRest, IsOwn}
-use Rattle.lert_worker.specs.Ran.{IsTurned, RanIn, StillOpen}
+use Rattle.lert_worker.specs.Brings.{Brings, BringsPart, IsOwn}
+use Rattle.lert_worker.specs.Ran.{IsTurned, RanIn}
 use Rattle.lert_worker.specs.declared.end.WorkerEnd.{WorkerEnd}
 use Rattle.lert_worker.specs.declared.end.WorkerEnd.TheVariants.{Ran, Trace, Cone}
 use Rattle.lert_ingest.specs.Shares.{HasAll, HasPart, IsShare, LeftIn}

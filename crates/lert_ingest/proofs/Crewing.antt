@@ -1,6 +1,6 @@
 -- What a crew did, by the runs of its workers.
-use Rattle.std.proofs.Common.{◌≡◌, ◌≢◌, ◌⊎◌, ℕ, ◌+◌, ◌-◌, ◌%◌, ◌^◌, ◌<◌, ◌≤◌, zero, suc, Bool, cond, eqb, List, [], ◌∷◌}
-use Rattle.std.proofs.Common.{◌++◌, length, map, filter, Option, Some, None, slice_get, refl, ap, sym, ◌∙◌, subst, inl, inr, arith}
+use Rattle.std.proofs.Common.{◌≡◌, ℕ, ◌+◌, ◌-◌, ◌^◌, ◌<◌, Bool, cond, eqb, List, [], ◌∷◌}
+use Rattle.std.proofs.Common.{◌++◌, length, map, filter, Option, Some, None, slice_get, refl, ap, sym, ◌∙◌, subst, arith}
 use Rattle.std.proofs.Common.{length-append}
 use Rattle.std.specs.Prelude.{All}
 use Rattle.std.proofs.lemmas.Bool.{eq-eqb}
@@ -9,8 +9,8 @@ use Rattle.std.proofs.lemmas.List.Elements.{All-head, All-tail, All-nil, All-con
 use Rattle.std.proofs.lemmas.Option.{same_Some, slice_get_within}
 use Rattle.lert_base.specs.declared.held.Held.{Ghosts as HeldOf}
 use Rattle.lert_base.specs.Packet.{Packet, own}
-use Rattle.lert_bay.specs.Files.{Files, Turns}
-use Rattle.lert_cone.specs.Stands.{Standing, Terms, terms_of}
+use Rattle.lert_bay.specs.Files.{Files}
+use Rattle.lert_cone.specs.Stands.{Standing, Terms}
 use Rattle.lert_base.specs.declared.cone_fault.ConeFault.{ConeFault}
 use Rattle.lert_conelock.specs.Sight.{LockSight, Sight, own_refused}
 use Rattle.lert_fleet.proofs.Places.{image_at, some_at}
@@ -21,12 +21,11 @@ use Rattle.lert_trace.specs.Reader.{Reading}
 use Rattle.lert_worker.specs.Brings.{IsOwn}
 use Rattle.lert_worker.specs.Ends.{Stopped, WasRead}
 use Rattle.lert_worker.specs.Ran.{HasRun, RanIn, Working}
-use Rattle.lert_worker.specs.declared.end.WorkerEnd.{WorkerEnd}
 use Rattle.lert_worker.specs.declared.end.WorkerEnd.TheVariants.{Cone}
 use Rattle.lert_ingest.specs.Back.{AreSeen}
 use Rattle.lert_ingest.specs.Bays.{IsLater}
 use Rattle.lert_ingest.specs.Cones.{AreNew}
-use Rattle.lert_ingest.specs.Crew.{EachShows, IsPassFrom, Shows}
+use Rattle.lert_ingest.specs.Crew.{EachShows, Shows}
 use Rattle.lert_ingest.specs.Crews.{AreLeftBy, AreReadBy, IsReadOf, fresh_reader}
 use Rattle.lert_ingest.specs.Faults.{end_of}
 use Rattle.lert_ingest.specs.Ingest.{AreReady, IsReady, firsts_of}

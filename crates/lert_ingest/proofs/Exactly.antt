@@ -1,5 +1,5 @@
 -- Which fault it is that is answered, where all tell and no fault was counted.
-use Rattle.std.proofs.Common.{◌≡◌, ◌≢◌, ◌⊎◌, ℕ, ◌+◌, ◌^◌, ◌<◌, ◌≤◌, zero, suc, List, [], ◌∷◌, length, map, Option, Some, None}
+use Rattle.std.proofs.Common.{◌≡◌, ◌⊎◌, ℕ, ◌^◌, ◌<◌, ◌≤◌, zero, suc, List, [], ◌∷◌, length, map, Option, Some}
 use Rattle.std.proofs.Common.{slice_get, refl, ap, sym, ◌∙◌, subst, inl, inr, arith}
 use Rattle.std.specs.Prelude.{All}
 use Rattle.std.proofs.lemmas.Option.{get_or_from_slice_get, none-some, same_Some, slice_get_within}
@@ -10,7 +10,7 @@ use Rattle.lert_spec.specs.Edges.{capacity}
 use Rattle.lert_spec.specs.Trace.{left, whole}
 use Rattle.lert_ingest.specs.Bays.{AreFaultless, AreTold, HasFailed, IsUntold}
 use Rattle.lert_ingest.specs.Stops.{StopShows}
-use Rattle.lert_ingest.specs.Traces.{AllFit, AreBytesOf, AreKeysOf, AreTracesFaultless, HasTraceFailed, most_keys, part_length}
+use Rattle.lert_ingest.specs.Traces.{AreBytesOf, AreKeysOf, AreTracesFaultless, HasTraceFailed, most_keys, part_length}
 use Rattle.lert_ingest.specs.declared.status.Status.{Status}
 use Rattle.lert_ingest.specs.declared.status.Status.TheVariants as status
 use Rattle.lert_ingest.proofs.BayLaws.{slice_get-some}

@@ -1,35 +1,30 @@
 -- What the files of a cone hold that came back from its lock, by what all workers left in it.
-use Rattle.std.proofs.Common.{◌≡◌, ◌≢◌, ◌⊎◌, ℕ, ◌+◌, ◌*◌, ◌%◌, ◌^◌, ◌<◌, ◌≤◌, Bool, true, false, List, [], ◌∷◌, ◌++◌}
-use Rattle.std.proofs.Common.{length, Option, Some, None, slice_get, refl, ap, sym, ◌∙◌, subst, inl, inr, arith}
+use Rattle.std.proofs.Common.{◌≡◌, ◌≢◌, ◌⊎◌, ℕ, ◌+◌, ◌%◌, ◌<◌, ◌≤◌, Bool, true, false, List, [], ◌∷◌, ◌++◌}
+use Rattle.std.proofs.Common.{length, Option, Some, slice_get, refl, ap, sym, ◌∙◌, subst, inl, inr, arith}
 use Rattle.std.proofs.Common.{length-append}
 use Rattle.std.specs.Prelude.{All, Contains}
-use Rattle.std.proofs.lemmas.Bool.{false≢true}
 use Rattle.std.proofs.lemmas.List.Concat.{flat_map-append}
-use Rattle.std.proofs.lemmas.Option.{none-some, same_Some}
 use Rattle.lert_base.specs.Beginning.{BeginsWith}
-use Rattle.lert_base.specs.Packet.{Packet, events_of, of_trace, own}
-use Rattle.lert_base.specs.Weave.{IsPartWoven, IsWhole, IsWoven}
+use Rattle.lert_base.specs.Packet.{Packet, events_of, of_trace}
+use Rattle.lert_base.specs.Weave.{IsPartWoven, IsWhole}
 use Rattle.lert_bay.specs.Files.{Files, IfTold}
 use Rattle.lert_cone.specs.Sound.{IsSound, IsSoundAs, IsSoundOver}
-use Rattle.lert_cone.specs.Stands.{Standing, StandsFor, WasSound, is_broken, is_finished}
+use Rattle.lert_cone.specs.Stands.{Standing, is_broken}
 use Rattle.lert_base.specs.declared.cone_fault.ConeFault.{ConeFault}
-use Rattle.lert_base.specs.declared.cone_fault.ConeFault.TheVariants.{CapacityFull}
-use Rattle.lert_cone.specs.declared.state.ConeState.{ConeState}
 use Rattle.lert_cone.specs.declared.state.ConeState.TheVariants.{Running}
 use Rattle.lert_conelock.proofs.Contained.{item_here}
 use Rattle.lert_spec.specs.declared.numbers.Numbers.{Numbers}
 use Rattle.lert_spec.specs.Edges.{capacity}
 use Rattle.lert_worker.specs.Brings.{HasNoRest}
-use Rattle.lert_worker.specs.Ran.{StillOpen}
 use Rattle.lert_worker.specs.declared.end.WorkerEnd.{WorkerEnd}
-use Rattle.lert_worker.specs.declared.end.WorkerEnd.TheVariants.{Ran, Trace, Cone}
+use Rattle.lert_worker.specs.declared.end.WorkerEnd.TheVariants.{Ran, Cone}
 use Rattle.lert_ingest.specs.Back.{IsBack, IsFullAt}
 use Rattle.lert_ingest.specs.Bays.{HoldsKeys, HoldsOpen, HoldsPart}
 use Rattle.lert_ingest.specs.Shares.{IsShare, LeftIn}
 use Rattle.lert_ingest.specs.Stops.{IsWeaving}
 use Rattle.lert_ingest.specs.Traces.{part_length}
 use Rattle.lert_ingest.proofs.Counting.{part_count, woven_count}
-use Rattle.lert_ingest.proofs.Crew.{crew_part, crew_turned, crew_woven, only_turned, was_turned}
+use Rattle.lert_ingest.proofs.Crew.{crew_part, crew_turned, crew_woven, was_turned}
 use Rattle.lert_ingest.proofs.Gathering.{of_trace-own}
 
 module _ {B : Type 0} (files : B → Option Files) (leaves : B → Files → Type 0) (faults mark : B → ℕ) (s : Numbers) (workers : ℕ) (some : 1 ≤ workers) (number : ℕ)
@@ -91,7 +86,7 @@ module _ {B : Type 0} (files : B → Option Files) (leaves : B → Files → Typ
         subst (All (IsWhole s.packet)) (sym (of_trace-own back.history trace (trace % workers) (λ k d below same. (woven_part.each k d below).by_is ∙ ap (λ t. t % workers) same)
         ∙ ap (λ (xs : List Packet). of_trace xs trace) (back.own_are (trace % workers) (omega (arith, some))))) none
 
-    -- a packet that was refused for want of room, and the keys before it
+    -- a packet that was refused over the capacity, and the keys before it
     pub enough : (by : ℕ) → by < workers → (e : Packet) (f : ConeFault) → Contains (turned by) (e, f) → (full : IsFullAt s back.history e f) →
         length (events_of full.past) + length e.keys ≤ part_length s number traces
     enough by below e f has full =
@@ -115,7 +110,7 @@ module _ {B : Type 0} (files : B → Option Files) (leaves : B → Files → Typ
       sound = of_cone back.history seen (back.stands.whole (ap is_broken running) back.sound seen told).files.kept.as_read.sound;
     }
 
-    -- where the keys of all traces are few enough, nothing is refused for want of room
+    -- where the keys of all traces are few enough, nothing is refused over the capacity
     pub none_full : part_length s number traces ≤ capacity s → closed.state ≡ Running → (by : ℕ) → by < workers → (f : ConeFault) → ends by ≡ Cone number f → ⊥
     none_full fits running by below f is = by_case (back.refusals by below e.0 f has)
       where

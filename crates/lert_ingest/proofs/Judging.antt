@@ -1,12 +1,12 @@
 -- What the fault shows that is answered, where a crew of workers stopped.
-use Rattle.std.proofs.Common.{◌≡◌, ◌≢◌, ◌⊎◌, ℕ, ◌+◌, ◌*◌, ◌%◌, ◌^◌, ◌<◌, ◌≤◌, zero, suc, List, [], ◌∷◌, ◌++◌, length, map}
-use Rattle.std.proofs.Common.{get_or, Option, Some, None, slice_get, refl, ap, sym, ◌∙◌, subst, inl, inr, arith}
+use Rattle.std.proofs.Common.{◌≡◌, ◌≢◌, ◌⊎◌, ℕ, ◌+◌, ◌%◌, ◌<◌, ◌≤◌, List, [], ◌∷◌, ◌++◌, length}
+use Rattle.std.proofs.Common.{Option, Some, slice_get, refl, ap, sym, ◌∙◌, subst, inl, inr, arith}
 use Rattle.std.proofs.lemmas.List.{length-map}
 use Rattle.std.specs.Prelude.{All, Contains}
 use Rattle.std.proofs.lemmas.List.Elements.{All-contains, Contains-push}
-use Rattle.std.proofs.lemmas.Option.{get_or_from_slice_get, none-some, same_Some, slice_get-get_or, slice_get_within}
+use Rattle.std.proofs.lemmas.Option.{get_or_from_slice_get, none-some, same_Some, slice_get_within}
 use Rattle.lert_base.specs.Beginning.{BeginsWith}
-use Rattle.lert_base.specs.Packet.{Packet, events_of, of_trace}
+use Rattle.lert_base.specs.Packet.{Packet, events_of}
 use Rattle.lert_bay.specs.Files.{Files, IfTold}
 use Rattle.lert_cone.specs.Stands.{Standing, is_finished}
 use Rattle.lert_base.specs.declared.cone_fault.ConeFault.{ConeFault}
@@ -14,31 +14,30 @@ use Rattle.lert_base.specs.declared.cone_fault.ConeFault.TheVariants as fault
 use Rattle.lert_cone.specs.declared.state.ConeState.{ConeState}
 use Rattle.lert_cone.specs.declared.state.ConeState.TheVariants as state
 use Rattle.lert_conelock.proofs.Contained.{item_here}
-use Rattle.lert_fleet.proofs.Places.{image_at}
 use Rattle.lert_io.specs.Fault.{HasRisen, IsFaultless}
 use Rattle.lert_spec.specs.declared.numbers.Numbers.{Numbers}
-use Rattle.lert_spec.specs.Trace.{left, whole}
+use Rattle.lert_spec.specs.Trace.{left}
 use Rattle.lert_trace.specs.Reader.{Means, Reading}
 use Rattle.lert_trace.specs.declared.fault.TraceFault.{TraceFault}
 use Rattle.lert_trace.specs.declared.fault.TraceFault.TheVariants as trace_fault
 use Rattle.lert_worker.specs.Brings.{HasNoRest, IsOwn}
 use Rattle.lert_worker.specs.Ran.{StillOpen}
-use Rattle.lert_worker.specs.Ends.{Stopped, StoppedAt, WasRead}
+use Rattle.lert_worker.specs.Ends.{Stopped}
 use Rattle.lert_worker.specs.declared.end.WorkerEnd.{WorkerEnd}
 use Rattle.lert_worker.specs.declared.end.WorkerEnd.TheVariants as end
 use Rattle.lert_ingest.specs.Back.{IsBack, IsFullAt}
-use Rattle.lert_ingest.specs.Bays.{AreLater, AreOpenWoven, ArePartWoven, HasFailed, HoldsKeys, HoldsOpen, HoldsPart, IsLater, IsUntold, bays_of}
-use Rattle.lert_ingest.specs.Crews.{AreLeftBy, AreReadBy, IsReadOf, fresh_reader}
+use Rattle.lert_ingest.specs.Bays.{AreLater, ArePartWoven, HoldsKeys, HoldsPart, IsLater, bays_of}
+use Rattle.lert_ingest.specs.Crews.{AreLeftBy, AreReadBy}
 use Rattle.lert_ingest.specs.Faults.{earlier, earliest, end_fault, fault_at, fault_of, full_fault, rank, state_fault}
 use Rattle.lert_ingest.specs.Shares.{IsShare, LeftIn}
 use Rattle.lert_ingest.specs.Status.{stop_status}
-use Rattle.lert_ingest.specs.Stops.{AreEnough, AreOpenPartly, IsFull, StopShows}
-use Rattle.lert_ingest.specs.Traces.{HasTraceFailed, IsOpened, most_keys}
+use Rattle.lert_ingest.specs.Stops.{AreOpenPartly, StopShows}
+use Rattle.lert_ingest.specs.Traces.{most_keys}
 use Rattle.lert_ingest.specs.declared.status.Status.{Status}
 use Rattle.lert_ingest.specs.declared.status.Status.TheVariants as status
 use Rattle.lert_ingest.proofs.BayLaws.{bay_at, slice_get-some, untold_since}
-use Rattle.lert_ingest.proofs.Crew.{only_turned, turned_part, was_turned}
-use Rattle.lert_ingest.proofs.FaultOrder.{IsFirst, IsFirstOf, IsNotAfter, all_none, each_of, of_all, of_two, of_two_none}
+use Rattle.lert_ingest.proofs.Crew.{turned_part, was_turned}
+use Rattle.lert_ingest.proofs.FaultOrder.{IsFirstOf, each_of, of_all, of_two}
 use Rattle.lert_ingest.proofs.Holding.{enough, holds_keys, holds_open, holds_part, no_rest_of}
 use Rattle.lert_ingest.proofs.Told.{all_begun, all_keys, are_keys}
 
@@ -226,7 +225,7 @@ module _ {S B : Type 0} (remaining : S → Option (List ℕ)) (s_faults s_mark :
           shows (trace_fault.CutKey at) stop = (record { before = stop.before; was = stop.opened_is; told = λ bytes told. (stop.means.1 bytes told).place }, opens)
           shows trace_fault.TooLong stop = (record { before = stop.before; was = stop.opened_is; told = stop.means.1 }, opens)
 
-      -- a cone that refused for want of room
+      -- a cone that refused a packet over its capacity
       by_full : (cone n len : ℕ) → ends by ≡ end.Cone cone (fault.CapacityFull n len) → 6 ≤ rank one →
           StopShows remaining s_faults files b_faults s workers opened laters (bays_of firsts) (bays_of backs) (status.CapacityFull cone n len)
       by_full cone n len is above = shows (c.back.refusals by below e.0 f has)

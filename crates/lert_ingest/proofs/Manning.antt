@@ -1,18 +1,16 @@
 -- A crew before its run, and what a run leaves of it.
-use Rattle.std.proofs.Common.{◌≡◌, ◌≢◌, ◌⊎◌, ℕ, ◌+◌, ◌-◌, ◌%◌, ◌^◌, ◌<◌, ◌≤◌, zero, suc, List, [], ◌∷◌, ◌++◌, length, map}
-use Rattle.std.proofs.Common.{drop, take, Option, Some, None, slice_get, refl, ap, sym, ◌∙◌, subst, inl, inr, arith}
-use Rattle.std.specs.Prelude.{All}
-use Rattle.std.proofs.lemmas.Option.{get_or_from_slice_get, none-some, same_Some, slice_get-get_or, slice_get_within}
-use Rattle.lert_base.specs.declared.cone_fault.ConeFault.{ConeFault}
+use Rattle.std.proofs.Common.{◌≡◌, ℕ, ◌+◌, ◌≤◌, zero, suc, List, [], ◌∷◌, ◌++◌, length}
+use Rattle.std.proofs.Common.{take, Option, Some, slice_get, refl, ap, sym, ◌∙◌, subst, arith}
+use Rattle.std.proofs.lemmas.Option.{slice_get_within}
 use Rattle.lert_fleet.proofs.Places.{some_at}
-use Rattle.lert_fleet.specs.Cones.{FleetPassSight, FleetSight}
+use Rattle.lert_fleet.specs.Cones.{FleetSight}
 use Rattle.lert_fleet.specs.Each.{EachTwo}
 use Rattle.lert_spec.specs.declared.numbers.Numbers.{Numbers}
 use Rattle.lert_worker.specs.Ran.{HasRun, Working}
-use Rattle.lert_ingest.specs.Crew.{AllQuiet, AreDone, AreInLine, IsHired, IsPassFrom, IsQuiet}
-use Rattle.lert_ingest.specs.Ingest.{AreReady, IsReady}
+use Rattle.lert_ingest.specs.Crew.{AllQuiet, AreDone, AreInLine, IsPassFrom, IsQuiet}
+use Rattle.lert_ingest.specs.Ingest.{AreReady}
 use Rattle.lert_ingest.specs.Shares.{IsShare}
-use Rattle.lert_ingest.specs.Sharing.{AreFree, AreManned, AreShared, IsManned, WereTaken}
+use Rattle.lert_ingest.specs.Sharing.{AreFree, AreManned, AreShared, WereTaken}
 
 module _ {S H : Type 0} where
   -- workers that were hired have no trace

@@ -1,11 +1,9 @@
 -- The keys of all traces, by what was read of each.
-use Rattle.std.proofs.Common.{◌≡◌, ◌⊎◌, ℕ, ◌+◌, ◌%◌, ◌<◌, ◌≤◌, zero, suc, List, [], ◌∷◌, ◌++◌, length, take, drop, map, Option, Some}
+use Rattle.std.proofs.Common.{◌≡◌, ℕ, ◌+◌, ◌%◌, ◌<◌, ◌≤◌, zero, suc, List, [], ◌∷◌, ◌++◌, length, take, drop, Option, Some}
 use Rattle.std.proofs.Common.{None, slice_get, refl, ap, sym, ◌∙◌, subst, inl, inr, arith}
 use Rattle.std.proofs.Common.{append-nil, length-append}
-use Rattle.std.specs.Prelude.{All}
 use Rattle.std.proofs.lemmas.Bool.{cases_lt}
 use Rattle.std.proofs.lemmas.List.{take-append-drop, take_all}
-use Rattle.std.proofs.lemmas.List.Elements.{All-contains}
 use Rattle.std.proofs.lemmas.Option.{get_or_from_slice_get, none-some, same_Some, slice_get_within}
 use Rattle.lert_base.specs.Beginning.{BeginsWith}
 use Rattle.lert_io.specs.Reading.{IfTold}
@@ -13,9 +11,7 @@ use Rattle.lert_spec.specs.Trace.{whole}
 use Rattle.lert_trace.specs.Reader.{Reading}
 use Rattle.lert_worker.specs.Ends.{IsAtEnd, WasRead}
 use Rattle.lert_worker.specs.declared.end.WorkerEnd.{WorkerEnd}
-use Rattle.lert_worker.specs.declared.end.WorkerEnd.TheVariants.{Ran}
 use Rattle.lert_ingest.specs.Crews.{AreReadBy, IsReadOf, fresh_reader}
-use Rattle.lert_ingest.specs.Shares.{IsShare}
 use Rattle.lert_ingest.specs.Traces.{AreKeysOf}
 use Rattle.lert_ingest.proofs.BayLaws.{slice_get-first, slice_get-seam}
 

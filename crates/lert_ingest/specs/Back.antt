@@ -28,7 +28,7 @@ abbrev pub AreSeen : {B : Type 0} → (B → Option Files) → (B → ℕ) → (
 AreSeen {B = B} files faults mark cones = (place : ℕ) (cone : Standing B) → slice_get cones place ≡ Some cone → IsSeen files faults mark cone
 
 -- A cone of a number came back from its lock: it stands for what its numbers' calls brought, in some order, and it isn't finished.
--- What it left over was refused, and each refusal is one for want of room, or the cone takes no more
+-- What it left over was refused, and each refusal is one over its capacity, or the cone takes no more
 pub record IsBack {B : Type 0} (files : B → Option Files) (leaves : B → Files → Type 0) (faults mark : B → ℕ) (s : Numbers) (workers number : ℕ)
     (added : ℕ → List Packet) (turned : ℕ → List (Packet × ConeFault)) (first closed : Standing B) : Type 0 where
   pub history : List Packet

@@ -1,7 +1,7 @@
 -- Which fault of several is answered: that of the lowest trace; else the lowest bad trace; else the lowest trace too long; else the
--- lowest cone that its bay broke; else the lowest that a read broke; else the lowest that is full. Want of memory goes before all,
--- and comes before any of these can.
-use Rattle.std.specs.Prelude.{◌≡◌, ℕ, zero, suc, ◌==◌, nat_lt, ◌&&◌, ◌||◌, Bool, List, Option, Some, None, slice_get, if◌then◌else◌}
+-- lowest cone that its bay broke; else the lowest that a read broke; else the lowest that is full. Want of memory is none
+-- of these: a cone has all its memory by then, and for the rest it is answered before a trace is read.
+use Rattle.std.specs.Prelude.{ℕ, zero, suc, ◌==◌, nat_lt, ◌&&◌, ◌||◌, Bool, List, Option, Some, None, slice_get, if◌then◌else◌}
 use Rattle.lert_cone.specs.Stands.{Standing}
 use Rattle.lert_base.specs.declared.cone_fault.ConeFault.{ConeFault}
 use Rattle.lert_base.specs.declared.cone_fault.ConeFault.TheVariants as cone_fault
@@ -61,7 +61,7 @@ abbrev pub earliest : (ℕ → Option Status) → ℕ → Option Status
 earliest faults zero = None
 earliest faults (suc count) = earlier (earliest faults count) (faults count)
 
--- the fault of a cone that refused a packet for want of room; where it refused for another cause its state says so
+-- the fault of a cone that refused a packet over its capacity; where it refused for another cause its state says so
 abbrev pub full_fault : ℕ → ConeFault → Option Status
 full_fault cone cone_fault.Closed = None
 full_fault cone cone_fault.Broken = None

@@ -1,5 +1,5 @@
 -- What reading traces into cones by workers leaves.
-use Rattle.std.specs.Prelude.{◌≡◌, ◌^◌, ◌+◌, ◌<◌, ◌≤◌, ℕ, List, length, map, Option, Some, None, Result, Ok, Err, OnOk, IfErr, slice_get}
+use Rattle.std.specs.Prelude.{◌≡◌, ◌+◌, ℕ, List, length, map, Option, Some, None, Result, Ok, Err, OnOk, IfErr, slice_get}
 use Rattle.lert_bay.specs.Files.{Files}
 use Rattle.lert_cone.specs.Stands.{Standing}
 use Rattle.lert_conelock.specs.Sight.{LockSight}
@@ -8,7 +8,6 @@ use Rattle.lert_fleet.specs.Each.{EachTwo}
 use Rattle.lert_spec.specs.declared.numbers.Numbers.{Numbers}
 use Rattle.lert_worker.specs.Ran.{HasRun, Working}
 use Rattle.lert_ingest.specs.Bays.{AreLater, bays_of}
-use Rattle.lert_ingest.specs.Cones.{AreNew}
 use Rattle.lert_ingest.specs.Crew.{IsPassFrom, IsQuiet}
 use Rattle.lert_ingest.specs.Crews.{fresh_reader}
 use Rattle.lert_ingest.specs.Faults.{earliest, end_at, end_fault}

@@ -1,6 +1,6 @@
 -- What workers leave that read traces into cones: all of them, or why not.
 use Rattle.std.specs.Prelude.{◌≡◌, ◌⊎◌, ℕ, ◌+◌, ◌*◌, ◌^◌, ◌<◌, ◌≤◌, false, All, List, length, map, Option, Some, None, slice_get}
-use Rattle.lert_base.specs.Packet.{Packet, events_of}
+use Rattle.lert_base.specs.Packet.{Packet}
 use Rattle.lert_base.specs.Weave.{IsWoven}
 use Rattle.lert_bay.specs.Files.{Files}
 use Rattle.lert_cone.specs.Stands.{Standing, StandsFor, WasSound}

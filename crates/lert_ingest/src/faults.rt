@@ -112,7 +112,7 @@ fn number_in(status: Status) -> u32
     }
 }
 
-// The fault of how a worker ended. Where a cone refused for another cause than want of room, its state says so.
+// The fault of how a worker ended. Where a cone refused for another cause than its capacity, its state says so.
 fn end_fault(end: WorkerEnd) -> Option<Status>
     ensures { result ≡ end_fault end }
 {
@@ -123,7 +123,7 @@ fn end_fault(end: WorkerEnd) -> Option<Status>
     }
 }
 
-// The fault of a cone that refused a packet for want of room.
+// The fault of a cone that refused a packet over its capacity.
 fn full_fault(cone: u32, fault: ConeFault) -> Option<Status>
     ensures { result ≡ full_fault cone fault }
 {

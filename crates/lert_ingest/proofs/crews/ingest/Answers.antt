@@ -1,5 +1,5 @@
 use contract.BorrowLft.{⊑_static}
-use Rattle.std.proofs.Common.{◌≡◌, ◌^◌, ◌∙◌, List, Err, ap, length, refl, subst, arith}
+use Rattle.std.proofs.Common.{◌∙◌, List, Err, refl, subst, arith}
 use Rattle.lert_cone.specs.Stands.{Standing}
 use Rattle.lert_ingest.specs.Ingest.{HasIngested}
 use Rattle.lert_ingest.specs.declared.status.Status.TheVariants.{OutOfMemory}

@@ -1,11 +1,9 @@
 use denote.Exit.{no}
 use denote.Param.Send.{arg_send, param_send}
 use Rattle.lert_cone.proofs.ConeSend.{cone_send}
-use Rattle.std.proofs.Common.{◌≡◌, ◌∙◌, ◌+◌, ◌<◌, List, ap, sym, subst, refl, arith, length, length-drop, rules}
-use Rattle.std.proofs.lemmas.List.{with_items_is}
+use Rattle.std.proofs.Common.{◌≡◌, ◌∙◌, ap, sym, subst, refl, arith, length, length-drop}
 use Rattle.std.proofs.lemmas.Bool.{false≢true}
 use Rattle.lert_cone.specs.Locked.{is_stopped}
-use Rattle.lert_cone.specs.declared.state.ConeState.{ConeState}
 use Rattle.lert_ingest.specs.Crew.{AreDone, AreHired}
 use Rattle.lert_ingest.specs.Back.{AreSeen}
 use Rattle.lert_ingest.specs.Faults.{earlier, earliest, fault_at}
