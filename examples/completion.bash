@@ -1,4 +1,5 @@
-# What bash completes behind `lert` and its tools: source it, or put it into /usr/share/bash-completion/completions/lert.
+# What bash completes behind `lert` and its tools. Source it, or put it into
+# /usr/share/bash-completion/completions/lert.
 _lert() {
     local word=${COMP_WORDS[COMP_CWORD]} settings
     settings='--threshold --bins --ratio --base --levels --cone-bits --room --packet'

@@ -1,5 +1,5 @@
-"""Pages of the manual, made of a document in Markdown, with headings, paragraphs, lists, tables and blocks of code, or of
-what a tool says of itself.
+"""Pages of the manual: of a document in Markdown, with headings, paragraphs, lists, tables and blocks of code, or of what
+a tool says of itself.
 """
 
 from __future__ import annotations
@@ -98,10 +98,10 @@ def beginning(name: str, what: str, epoch: int) -> list[str]:
     return [f'.TH {title} 1 "{day}"', ".SH NAME", f"{escaped(name)} \\- {escaped(what)}", ".SH DESCRIPTION"]
 
 
-def page_of(text: str, name: str, epoch: int) -> str:
-    """The page of a program, of a document that begins with a heading."""
-    head, _, rest = text.partition("\n")
-    begin = beginning(name, "reports each key that occurs a given number of times", epoch)
+def page_of(text: str, name: str, what: str, epoch: int) -> str:
+    """A page by this name, of a document that begins with a heading."""
+    _, _, rest = text.partition("\n")
+    begin = beginning(name, what, epoch)
     return "\n".join([*begin, *(line for part in blocks(rest) for line in lines_of(part))]) + "\n"
 
 

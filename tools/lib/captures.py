@@ -5,8 +5,6 @@ sections may have the one or the other order of bytes, and whose interfaces have
 from __future__ import annotations
 
 import struct
-from itertools import groupby
-from operator import itemgetter
 from typing import Container, Iterator
 
 from .inputs import Source
@@ -26,8 +24,8 @@ SECTION_ORDERS = {b"\x4d\x3c\x2b\x1a": "<", b"\x1a\x2b\x3c\x4d": ">"}
 INTERFACE, OLD_PACKET, SIMPLE_PACKET, PACKET = 1, 2, 3, 6
 LEAST_BLOCK, MOST_BLOCK = 12, 1 << 24
 
-# Packets that came one after the other over links of one kind.
-Several = tuple[int, list[bytes]]
+# Packets that came one after the other, each behind its link.
+Several = list[tuple[int, bytes]]
 
 
 class Pcap:
@@ -55,7 +53,7 @@ class Pcap:
         while True:
             several, at = self.whole(data)
             if several:
-                yield self.link, several
+                yield several
             data, place = data[at:], place + at
             self.check_length(data, place)
             more = self.source.read()
@@ -72,15 +70,15 @@ class Pcap:
             if length > MOST_PACKET:
                 raise self.source.refusal(f"byte {place}", f"a packet of {length} bytes")
 
-    def whole(self, data: bytes) -> tuple[list[bytes], int]:
+    def whole(self, data: bytes) -> tuple[Several, int]:
         """The packets that are whole at the front of these bytes, and their end."""
-        several, at = [], 0
+        several, at, link = [], 0, self.link
         while len(data) - at >= RECORD_LEN:
             (length,) = self.length.unpack_from(data, at)
             end = at + RECORD_LEN + length
             if end > len(data) or length > MOST_PACKET:
                 break
-            several.append(data[at + RECORD_LEN : end])
+            several.append((link, data[at + RECORD_LEN : end]))
             at = end
         return several, at
 
@@ -109,8 +107,8 @@ class Pcapng:
         while broken or (more := self.source.read()):
             data += b"" if broken else more
             found, at, broken = self.whole(data)
-            for link, several in groupby(found, itemgetter(0)):
-                yield link, [packet for _, packet in several]
+            if found:
+                yield found
             data, place = data[at:], place + at
             if broken:
                 self.refuse(place, broken)
@@ -123,9 +121,9 @@ class Pcapng:
             raise self.source.refusal(f"byte {place}", str(broken))
         self.source.refuse(f"byte {place}", str(broken))
 
-    def whole(self, data: bytes) -> tuple[list[tuple[int, bytes]], int, Broken | None]:
-        """The packets of the blocks that are whole at the front of these bytes, each behind its link, their end, and
-        what is amiss with the block behind them."""
+    def whole(self, data: bytes) -> tuple[Several, int, Broken | None]:
+        """The packets of the blocks that are whole at the front of these bytes, their end, and what is amiss with the
+        block behind them."""
         found, at = [], 0
         try:
             while (length := self.length_at(data, at)) and at + length <= len(data):
@@ -185,8 +183,7 @@ class Pcapng:
 
 
 def captured(source: Source, known: Container[int]) -> Iterator[Several]:
-    """The packets of a capture, each behind the link that it came over. Of another link than the known ones they are
-    refused."""
+    """The packets of a capture as they come. Of another link than the known ones they are refused."""
     data = b""
     while len(data) < MAGIC_LEN and (more := source.read()):
         data += more

@@ -1,5 +1,5 @@
 """What keys are made of: the values of lines, of one column of a CSV, or of one field of JSON lines, from a file or a
-pipe. Those of packets are in packets.py.
+pipe. Those of packets are in network_packets.py.
 
 A reader gives the values in batches, as they come: it doesn't wait for more while it has a whole value, but of packets
 that came in part, and has about a chunk in memory at once.

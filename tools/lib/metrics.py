@@ -12,8 +12,8 @@ ESCAPES = str.maketrans({"\\": r"\\", '"': r"\"", "\n": r"\n"})
 
 
 def printed(value: object) -> str:
-    """A label's value: in its own escapes, and with no other byte that a terminal obeys. Such a one stands as \\xNN, so that
-    two values stay two."""
+    """A label's value: in its own escapes, and with no other byte that a terminal obeys. Such a one stands as \\xNN, so
+    that two values stay two."""
     several = (one if one.isprintable() or one == "\n" else escaped(one) for one in str(value))
     return "".join(several).translate(ESCAPES)
 

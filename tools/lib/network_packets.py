@@ -1,7 +1,7 @@
 """What keys are made of in a capture: the addresses of its packets, or their five-tuples.
 
-The IP header is sought behind the head of the link, tags of VLANs, labels of MPLS and PPPoE. A packet without a readable
-IP header is left out. Of one inside another, as in a tunnel, the outer one counts.
+The IP header is sought behind the head of the link, tags of VLANs, labels of MPLS and PPPoE. A packet without a
+readable IP header is left out. Of one inside another, as in a tunnel, the outer one counts.
 """
 
 from __future__ import annotations
@@ -9,7 +9,7 @@ from __future__ import annotations
 import socket
 import struct
 import sys
-from functools import lru_cache, partial
+from functools import cache, lru_cache, partial
 from typing import Callable, Iterator, NamedTuple
 
 from .captures import captured
@@ -202,6 +202,7 @@ def ends_behind(link: int, data: bytes) -> Ends | None:
         return None
 
 
+@cache
 def reader_of(link: int) -> Callable[[bytes], Ends | None]:
     """What finds the ends of a packet of a link."""
     places = PLACES.get(link)
@@ -214,8 +215,8 @@ def packets(source: Source, what: str) -> Iterator[Batch]:
     """One of the `VALUES` of each packet."""
     value = VALUES[what]
     number = left_out = 0
-    for link, several in captured(source, LINKS):
-        found = list(map(reader_of(link), several))
+    for several in captured(source, LINKS):
+        found = [reader_of(link)(data) for link, data in several]
         places = [place for place, ends in enumerate(found, start=number + 1) if ends]
         number += len(several)
         left_out += len(several) - len(places)

@@ -8,7 +8,8 @@ make_captures() {
 import struct
 
 # From 10.0.0.1 to 10.0.0.2, and 2001:db8::1 to ::2.
-ENDS_4, ENDS_6 = bytes.fromhex("0a0000010a000002"), bytes.fromhex("20010db8" + "00" * 11 + "01" + "20010db8" + "00" * 11 + "02")
+ENDS_4 = bytes.fromhex("0a0000010a000002")
+ENDS_6 = bytes.fromhex("20010db8" + "00" * 11 + "01" + "20010db8" + "00" * 11 + "02")
 TCP = bytes.fromhex("04000050" + "00" * 8 + "5000" + "00" * 6)
 UDP = bytes.fromhex("0400003500080000")
 TCP_4, TCP_6 = "tcp 10.0.0.1 1024 10.0.0.2 80", "tcp 2001:db8::1 1024 2001:db8::2 80"
@@ -142,14 +143,17 @@ BROKEN = [
     ("cut-head", [last[:11]], 0, "the file ends inside a block", 1, 0),
     ("cut-body", [last[:-1]], 0, "the file ends inside a block", 1, 0),
     ("other-interface", [enhanced("<", 1, tcp_4[0]), last], 0, f"a packet of interface 1, {lacks}", 1, 1),
-    ("no-interface", [begin[0], simple("<", tcp_4[0]), begin[1], last], len(begin[0]), f"a packet of interface 0, {lacks}", 1, 1),
-    ("other-link", [other, enhanced("<", 1, b"x"), last], len(other), "a packet of the link type 105, which isn't known", 1, 1),
+    ("no-interface", [begin[0], simple("<", tcp_4[0]), begin[1], last], len(begin[0]),
+        f"a packet of interface 0, {lacks}", 1, 1),
+    ("other-link", [other, enhanced("<", 1, b"x"), last], len(other),
+        "a packet of the link type 105, which isn't known", 1, 1),
     ("longer-packet", [small, last], 0, "a packet of 41 bytes in a block of 72", 1, 1),
     ("short-block", [block("<", 6, bytes(8)), last], 0, "a block of 20 bytes, which is too short", 1, 1),
     ("other-end", [last[:-4] + bytes(4), last], 0, "a block that ends with another length", 0, 0),
     ("odd-length", [last[:4] + b"\x0d" + last[5:]], 0, "a block of 13 bytes", 0, 0),
     ("long-block", [last[:7] + b"\x7f" + last[8:]], 0, "a block of 2130706512 bytes", 0, 0),
-    ("no-order", [begin[0].replace(b"\x4d\x3c", b"\x4d\x4d")], 0, "a section without the mark of its order of bytes", 0, 0),
+    ("no-order", [begin[0].replace(b"\x4d\x3c", b"\x4d\x4d")], 0,
+        "a section without the mark of its order of bytes", 0, 0),
 ]
 with open("broken", "w") as rows:
     for name, parts, behind_it, why, can_skip, has_more in BROKEN:

@@ -1,7 +1,8 @@
-# Checks that what reads metrics takes those of runs and of a service, with the values that they have. tools/check reads it.
+# Checks that what reads metrics takes those of runs and of a service, with the values that they have. tools/check reads
+# it.
 
-# read_metrics FILE: the values of a file of metrics, one a line, sorted: by promtool's rules as far as these metrics may
-# break them, and by the parser of Debian's python3-prometheus-client, where that is here.
+# read_metrics FILE: the values of a file of metrics, one a line, sorted: by promtool's rules as far as these metrics
+# may break them, and by the parser of Debian's python3-prometheus-client, where that is here.
 read_metrics() {
     python3 - "$1" <<'END'
 import re, sys
@@ -29,7 +30,7 @@ def values_in(text):
             assert NAME.fullmatch(told) and told not in kinds and what.endswith("."), line
         elif line.startswith("# TYPE "):
             name, kind = line[7:].split(" ")
-            assert name == told and kind in ("gauge", "counter") and (kind == "counter") == name.endswith("_total"), line
+            assert name == told and kind == ("counter" if name.endswith("_total") else "gauge"), line
             kinds[name] = kind
         else:
             sample = re.fullmatch(r"([a-z_]+)\{(.*)\} (\S+)", line)

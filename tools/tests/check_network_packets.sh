@@ -97,7 +97,8 @@ usual = others = 0
 for link, (at, version_at) in packets.PLACES.items():
     read = packets.reader_of(link)
     for _ in range(4000):
-        version, protocol = draw.choice([packets.VERSION_4, packets.VERSION_6]), draw.choice([6, 6, 17, 17, 1, 58, 44, 0, 50, 51])
+        version = draw.choice([packets.VERSION_4, packets.VERSION_6])
+        protocol = draw.choice([6, 6, 17, 17, 1, 58, 44, 0, 50, 51])
         head = bytearray(draw.randbytes(at))
         head[version_at : version_at + 2] = draw.choice([version] * 6 + [b"\x08\x06", packets.VERSION_6])
         whole = bytes(head) + drawn(version, protocol)

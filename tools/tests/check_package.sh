@@ -1,10 +1,10 @@
 # Checks the Debian package: its bytes, what lintian says of it, and, where LERT_ROOT names the root of a bare Debian 12
-# with python3, that it is installed there, works, and is removed. tools/check reads it.
+# with python3, as debootstrap makes it, that it is installed there, works, and is removed. tools/check reads it.
 
 # Two packages are the same bytes, and what is in one works.
 packed_twice() {
-    rm -rf x l && "$top/tools/build/package" second.deb && cmp first.deb second.deb || return
-    dpkg-deb -x first.deb x && printf '%s\n' ann bob ann ann | x/usr/bin/lert-live --threshold 3 l 2>said | cut -d' ' -f4-
+    rm -rf x l && "$top/tools/build/package" second.deb && cmp first.deb second.deb && dpkg-deb -x first.deb x || return
+    printf '%s\n' ann bob ann ann | x/usr/bin/lert-live --threshold 3 l 2>said | cut -d' ' -f4-
     x/usr/bin/lert-report l/run-* | head -n 1 && zcat x/usr/share/man/man1/lert.1.gz | head -n 1
 }
 
@@ -17,7 +17,8 @@ inside_by() { inside sh -c "$1"; }
 
 # The files of the root but what dpkg and apt write down.
 files_inside() {
-    (cd bare && find . \( -path ./var/lib/dpkg -o -path ./var/cache -o -path ./var/log -o -path ./tmp \) -prune -o -print) | sort
+    (cd bare && find . \( -path ./var/lib/dpkg -o -path ./var/cache -o -path ./var/log -o -path ./tmp \) -prune -o -print) |
+        sort
 }
 
 # What bash offers behind these words.
@@ -92,6 +93,11 @@ check_inside() {
     rm -rf bare
 }
 
+# The libraries that the program wants, and the newest version of the C library that it knows.
+wanted_libraries() {
+    objdump -p "$1" | sed -n 's/ *NEEDED *//p' && objdump -T "$1" | grep -o 'GLIBC_[0-9.]*' | sort -Vu | tail -n 1
+}
+
 check_package() {
     has dpkg-deb zcat || return
     if ! "$top/tools/build/package" first.deb 2>said && grep -q 'other sources' said; then
@@ -99,6 +105,8 @@ check_package() {
         return
     fi
     gives 'a package' 0 '4 ann\ncone 0 events 4 of 786432 reports 1 closed\n.TH LERT 1 "2026-11-30"\n' '' packed_twice
+    has objdump && gives 'what the package depends on' 0 'libc.so.6\nGLIBC_2.34\n' '' \
+        wanted_libraries "$top/dist/lert-x86_64-linux-gnu"
     has lintian && gives 'a package without an error' 0 '' '' passes lintian --allow-root --fail-on error first.deb
     check_inside
 }

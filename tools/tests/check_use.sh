@@ -115,7 +115,7 @@ check_report() {
 
 # --- a service
 
-live() { timeout 120 "$top/tools/live" "$@"; }
+live() { timeout 900 "$top/tools/live" "$@"; }
 
 # What a service says, without the time in the names of directories.
 untimed() { sed 's/-[0-9]*T[0-9]*Z//g'; }
@@ -196,15 +196,16 @@ live_followed() {
     rm -rf l log* && : >said && seq 1 1000 | sed 's/$/ a/' >log
     "$top/tools/live" --follow log --threshold 3 l >shown 2>said &
     service=$!
-    for _ in {1..100}; do grep -q begun said && break || sleep 0.1; done
+    for _ in {1..300}; do grep -q begun said && break || sleep 0.1; done
     command kill -9 $(pgrep -P $service | tail -n 1)
-    for _ in {1..100}; do grep -q '000002.*begun' said && break || sleep 0.1; done
+    for _ in {1..300}; do grep -q '000002.*begun' said && break || sleep 0.1; done
     mv log log.1 && echo last >>log.1 && seq 1 500 | sed 's/$/ a/' >log
-    for _ in {1..100}; do grep -q 'log: another file' said && break || sleep 0.1; done
+    for _ in {1..300}; do grep -q 'log: another file' said && break || sleep 0.1; done
     sleep 1 && command kill -TERM $service && wait $service
     echo "status $?" && seq 1 250 | sed 's/$/ a/' >>log
     "$top/tools/live" --follow log --threshold 3 --every 2 l >>shown 2>>said &
     service=$!
+    for _ in {1..300}; do grep -q '000003.*begun' said && break || sleep 0.1; done
     sleep 3 && command kill -TERM $service && wait $service
     echo "status $?" && judged_live
 }
@@ -273,6 +274,7 @@ check_use() {
     check_report
     check_live
     check_metrics
+    check_pages
     check_package
     gives 'the commands of docs/USE.md' 0 '' '' commands "$top/docs/USE.md"
 }
