@@ -11,7 +11,7 @@ import re
 import sqlite3
 import struct
 import time
-from contextlib import closing, contextmanager
+from contextlib import closing, contextmanager, suppress
 from itertools import chain
 from typing import Iterable, Iterator, Sequence
 from urllib.parse import quote
@@ -25,7 +25,8 @@ ADD = "INSERT INTO names VALUES {} ON CONFLICT (key) DO UPDATE SET name = NULL W
 ROW = "(?, ?)"
 # Several rows in one statement take two thirds of the time.
 ROWS_AT_ONCE = 20
-KEYS_AT_ONCE = 1000
+# SQLite takes 32,766 at most in one statement.
+KEYS_AT_ONCE = 10_000
 FIND_SEVERAL = "SELECT key, CAST(name AS BLOB) FROM names WHERE key IN ({})"
 FIND = "SELECT CAST(name AS BLOB) FROM names WHERE key = ?"
 TABLES = "SELECT name FROM sqlite_master WHERE type = 'table'"
@@ -37,15 +38,31 @@ MOST_WAIT = 600
 STEP = 0.25
 CACHE_KIB = 16_384
 CONTROL = re.compile(rb"[\x00-\x1f\x7f]|\xc2[\x80-\x9f]")
+# The bytes of which it has none.
+PLAIN = bytes(byte for byte in range(256) if not CONTROL.match(bytes([byte])) and byte != 0xC2)
 
 
 def signed(key: int) -> int:
     return key - ((key >> 63) << 64)
 
 
+def signed_keys(numbers: Sequence[int]) -> Sequence[int | None]:
+    """The same for all numbers at once; None of those that are no keys."""
+    with suppress(struct.error):
+        return struct.unpack(f"<{len(numbers)}q", struct.pack(f"<{len(numbers)}Q", *numbers))
+    return [None if number >> 64 else signed(number) for number in numbers]
+
+
 def printed(name: bytes) -> bytes:
     """A name as it is printed: in one line, and with no byte that a terminal obeys."""
     return CONTROL.sub(lambda found: b"".join(b"\\x%02x" % byte for byte in found[0]), name)
+
+
+def all_printed(names: dict[int | None, bytes]) -> dict[int | None, bytes]:
+    """All names as they are printed. Few have a byte that is printed otherwise, and such a byte is found faster alone."""
+    if b"".join(names.values()).translate(None, PLAIN):
+        return {key: printed(name) for key, name in names.items()}
+    return names
 
 
 def shown(name: bytes) -> str:
@@ -109,16 +126,15 @@ class Names:
         row = self.file.execute(FIND, (key,)).fetchone()
         return None if row is None else row[0]
 
-    def several(self, keys: Iterable[int]) -> dict[int, bytes]:
-        """The names of those keys that have one."""
+    def several(self, keys: Iterable[int | None]) -> dict[int | None, bytes]:
+        """The names of those signed keys that have one."""
         # In their order, each page of the table is met once.
-        several = [key for key in keys if not key >> 64]
-        due = sorted(struct.unpack(f"<{len(several)}q", struct.pack(f"<{len(several)}Q", *several)))
-        found: dict[int, bytes] = {}
+        due = sorted(key for key in keys if key is not None)
+        found: dict[int | None, bytes] = {}
         for begin in range(0, len(due), KEYS_AT_ONCE):
             some = due[begin : begin + KEYS_AT_ONCE]
             found.update(self.file.execute(FIND_SEVERAL.format(", ".join("?" * len(some))), some))
-        return {key % (1 << 64): name for key, name in found.items()}
+        return found
 
     def due(self, key: int, place: str) -> bytes:
         """The name of a key as it is printed. A key without one is refused, with the place that it comes from."""

@@ -150,6 +150,9 @@ check_names() {
     gives 'labels by no names of another trace' 1 "$unnamed" \
         'keys: standard input, line 2: key 7 has no name in names, which has those of another trace\n' \
         label_visits names
+    gives 'labels no number that is no key' 1 '18446744073709551616 1\n' \
+        'keys: standard input, line 1: key 18446744073709551616 has no name in names, which has those of another trace\n' \
+        eval 'echo 18446744073709551616 1 | keys label --names names'
     printf '\x1b[31m \xc2\x9b\x7f\n' | keys pack --hash --names names third
     gives 'labels with nothing that a terminal obeys' 0 '1 \\x1b[31m \\xc2\\x9b\\x7f\n' '' \
         eval "keys unpack third | sed 's/\$/ 1/' | keys label --names names | cut -d' ' -f2-"
@@ -256,6 +259,21 @@ watched_held() {
     watched_until touch let_go
 }
 
+# What shows the progress of the run in d on a terminal: lines, and how many times a whole bar is drawn.
+on_terminal() {
+    script -qec "$top/tools/watch --progress d sevens" /dev/null </dev/null | tr '\r' '\n' | grep . >drawn
+    grep -a '^[a-z]' drawn
+    grep -ac '100%.*3/3 .*fullest 3 of 786432' drawn | sed 's/^[1-9].*/a bar/'
+}
+
+check_bar() {
+    local total='total events 3 reports 1\n'
+    mkdir -p no_bar && echo 'raise ImportError' >no_bar/tqdm.py
+    PYTHONPATH=no_bar gives 'shows lines on a terminal without tqdm' 0 \
+        "events 3 a second 0 fullest 3 of 786432 share 100.0%%\n${total}0\n" '' on_terminal
+    python_with tqdm && gives 'shows a bar on a terminal' 0 "${total}a bar\n" '' on_terminal
+}
+
 check_watch() {
     local report='cone 0 events 13 reports 1 closed\n' key total='total events 13 reports 1\n' stopped
     stopped='watch: d: the run was stopped: killed, refused or full, and `./lert recover d` prints what it left\n'
@@ -277,6 +295,7 @@ check_watch() {
     run sevens >"$work/out"
     gives 'shows the progress of a run' 0 \
         'events 3 a second 0 fullest 3 of 786432 share 100.0%%\ntotal events 3 reports 1\n' '' watch --progress d sevens
+    has script && PATH=$PATH check_bar
     rm d/cone-000.log
     gives 'watches no run without its logs' 1 '' 'watch: d: there are no logs of a run: no cone-000.log\n' \
         watch --wait 0 d
