@@ -9,6 +9,8 @@ mod faults;
 #[cfg(test)]
 mod openings;
 #[cfg(test)]
+mod orders;
+#[cfg(test)]
 mod plays;
 #[cfg(test)]
 mod sinks;

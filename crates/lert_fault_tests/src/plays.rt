@@ -71,8 +71,22 @@ pub fn play(
     cones: &Cones,
     faults: Faults,
 ) -> Ended {
+    let first = trace(alloc, &FIRST_KEYS).expect(rt, "memory");
+    let second = trace(alloc, &SECOND_KEYS).expect(rt, "memory");
+    play_over(rt, alloc, texts, [&first, &second], cones, faults)
+}
+
+/// The same, where the traces `a` and `b` have these bytes.
+pub fn play_over(
+    rt: &(impl Abort + Threads + Wait + Sync),
+    alloc: Global,
+    texts: &[&str],
+    traces: [&[u8]; 2],
+    cones: &Cones,
+    faults: Faults,
+) -> Ended {
     let mut place = MemPlace::new(alloc).expect(rt, "memory");
-    add_all(rt, alloc, &mut place, cones, faults);
+    add_all(rt, alloc, &mut place, traces, cones, faults);
     play_at(rt, alloc, texts, faults, &mut place)
 }
 
@@ -156,16 +170,23 @@ fn calls(rt: &impl Abort, alloc: Global, call: u64) -> CallList {
 }
 
 // Gives a place that was asked for nothing yet all that is to be opened, but what the failing opening asks for.
-fn add_all(rt: &impl Abort, alloc: Global, place: &mut MemPlace, cones: &Cones, faults: Faults)
+fn add_all(
+    rt: &impl Abort,
+    alloc: Global,
+    place: &mut MemPlace,
+    traces: [&[u8]; 2],
+    cones: &Cones,
+    faults: Faults,
+)
     requires { place.old.ledger.asked ≡ [] }
     ensures { place.new.ledger.asked ≡ [] }
 {
     let lacking = faults.opening;
     if lacking != 1 {
-        add_trace(rt, alloc, place, "a", &FIRST_KEYS, faults.reads.0);
+        add_trace(rt, alloc, place, "a", traces[0], faults.reads.0);
     }
     if lacking != 2 {
-        add_trace(rt, alloc, place, "b", &SECOND_KEYS, faults.reads.1);
+        add_trace(rt, alloc, place, "b", traces[1], faults.reads.1);
     }
     if lacking != 3 {
         add_bay(rt, alloc, place, 0, &cones.first, faults.calls.0);
@@ -180,20 +201,19 @@ fn add_trace(
     alloc: Global,
     place: &mut MemPlace,
     name: &str,
-    keys: &[u64],
+    bytes: &[u8],
     failing_read: u64,
 )
     requires { place.old.ledger.asked ≡ [] }
     ensures { place.new.ledger.asked ≡ [] }
 {
-    let source = source(rt, alloc, keys, failing_read);
+    let source = source(rt, alloc, bytes, failing_read);
     place.add_trace(name, source).expect(rt, "memory");
 }
 
-fn source(rt: &impl Abort, alloc: Global, keys: &[u64], failing_read: u64) -> MemSource {
-    let bytes = trace(alloc, keys).expect(rt, "memory");
+fn source(rt: &impl Abort, alloc: Global, bytes: &[u8], failing_read: u64) -> MemSource {
     let calls = calls(rt, alloc, failing_read);
-    MemSource::new(alloc, &bytes, &calls).expect(rt, "memory")
+    MemSource::new(alloc, bytes, &calls).expect(rt, "memory")
 }
 
 fn add_bay(
