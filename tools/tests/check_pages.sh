@@ -19,13 +19,12 @@ for page in ("README.md", "docs/USE.md", "docs/LOOK.md"):
 END
 }
 
-# block_of PAGE WORD NUMBER: the commands of the block that has the word, in which NUMBER seconds are 4.
+# block_of PAGE WORD: the commands of the block that has the word.
 block_of() {
-    python3 - "$top/docs/$1" "$2" "$3" <<'END'
+    python3 - "$top/docs/$1" "$2" <<'END'
 import re, sys
 text = open(sys.argv[1]).read()
-block = next(one for one in re.findall(r"^```\n(.*?)^```\n", text, re.DOTALL | re.MULTILINE) if sys.argv[2] in one)
-print(block.replace(f"--foreground {sys.argv[3]} ", "--foreground 4 "), end="")
+print(next(one for one in re.findall(r"^```\n(.*?)^```\n", text, re.DOTALL | re.MULTILINE) if sys.argv[2] in one), end="")
 END
 }
 
@@ -33,27 +32,46 @@ END
 make_page() {
     rm -rf page && mkdir -p page/bin && ln -s "$top/tools" "$top/lert" page/ || return
     printf '#!/bin/sh\ncat packets.pcap\n' >page/bin/tcpdump
+    printf '#!/bin/sh\necho $$ >tail_id\nexec %s "$@"\n' "$(command -v tail)" >page/bin/tail
     printf '#!/bin/sh\n[ "$*" = "-f -o cat" ] && printf "%%s\\n" no such no && sleep 60\n' >page/bin/journalctl
     printf '#!/bin/sh\n[ "$*" = "-l -T fields -e ip.src" ] && printf "%%s\\n" 7.0.0.7 9.0.0.9 7.0.0.7 && sleep 60\n' \
         >page/bin/tshark
     chmod +x page/bin/*
 }
 
-# two_terminals PAGE WORD NUMBER: runs a block whose last line is for another terminal.
+# two_terminals PAGE WORD: runs a block whose last line is for another terminal.
 two_terminals() {
     local first second
     first=$(block_of "$@" | sed '$d') second=$(block_of "$@" | tail -n 1)
-    timeout 120 bash -c "$second" >seen &
+    timeout 300 bash -c "$second --wait 200" >seen &
     PATH=$PWD/bin:$PATH bash -c "$first"
     wait $!
     sed 's/^0 [0-9]* /seen /; /^[ct]/d' seen
 }
 
+# grows_to SIZE FILE: waits until a file has so many bytes, for at most two minutes.
+grows_to() {
+    local tries
+    for tries in {1..1200}; do
+        [ "$(stat -c %s "$2" 2>/dev/null || echo 0)" -lt "$1" ] || break
+        sleep 0.1
+    done
+}
+
+# Writes a log once it is read, and ends who reads it once nine packets of it are on the disk.
+write_log() {
+    grows_to 32 visits/cone-000.journal
+    yes '10.0.0.7 - - GET' | head -n 150 >>access.log
+    grows_to $((32 + 9 * (5 + 8 + 16 * 8))) visits/cone-000.journal
+    sleep 2
+    command kill "$(cat tail_id)"
+}
+
 # The addresses of a log that grows.
 page_of_log() {
     make_page && cd page && echo old >access.log || return
-    { sleep 2 && yes '10.0.0.7 - - GET' | head -n 150 >>access.log; } &
-    two_terminals LOOK.md access.log 3600 | sed 's/^[0-9]* /run /'
+    write_log &
+    two_terminals LOOK.md access.log | sed 's/^[0-9]* /run /'
     ./lert recover visits | sed -n 's/^[0-9]* /recovered /p'
     cd ..
 }
@@ -79,7 +97,7 @@ END
 
 # Those of packets.
 page_of_packets() {
-    make_page && cd page && make_senders packets.pcap && two_terminals LOOK.md tcpdump 60 | sed 's/^[0-9]* /run /'
+    make_page && cd page && make_senders packets.pcap && two_terminals LOOK.md tcpdump | sed 's/^[0-9]* /run /'
     cd ..
 }
 
@@ -123,7 +141,7 @@ page_of_capture() {
 page_of_picture() {
     make_page && cd page && mkdir docs && ln -s "$top/crates" . || return
     printf '#!/bin/sh\ncd "%s" && PATH="%s" exec git "$@"\n' "$top" "$PATH" >bin/git && chmod +x bin/git
-    PATH=$PWD/bin:$PATH bash -c "$(block_of LOOK.md ls-files 0)" | grep -c '^cone'
+    PATH=$PWD/bin:$PATH bash -c "$(block_of LOOK.md ls-files)" | grep -c '^cone'
     head -c 4 docs/look.png | tail -c 3
     cd ..
 }
