@@ -50,11 +50,35 @@ const SECOND_REPORT: Report = Report {
     at: 1_016,
 };
 
-fn key_at(m: u64) -> u64 {
+// Which keys a cone takes: each one once, or some that are reported.
+#[derive(Clone, Copy)]
+enum Keys {
+    Fillers,
+    Reported,
+}
+
+fn key_at(keys: Keys, m: u64) -> u64
+    requires { m < 2_000 }
+{
+    match keys {
+        Keys::Fillers => 1_000 + m,
+        Keys::Reported => reported_key(m),
+    }
+}
+
+fn reported_key(m: u64) -> u64 {
     match m {
         1..=3 => EARLY,
         10 | 20 | 1_001 => LATE,
         _ => m,
+    }
+}
+
+// What is reported of these keys once there are 1,000, and 1,016.
+fn reports_of(keys: Keys) -> (&'static [Report], &'static [Report]) {
+    match keys {
+        Keys::Fillers => (&[], &[]),
+        Keys::Reported => (&[FIRST_REPORT], &[FIRST_REPORT, SECOND_REPORT]),
     }
 }
 
@@ -74,6 +98,7 @@ fn give<B: Bay>(
     rt: &impl Abort,
     alloc: Global,
     cone: &mut Cone<B, PlainTable>,
+    keys: Keys,
     first: u64,
     last: u64,
 )
@@ -82,54 +107,55 @@ fn give<B: Bay>(
     requires end { last < 2_000 }
 {
     for m in first..last + 1 {
-        let packet = packet(rt, alloc, key_at(m));
+        let packet = packet(rt, alloc, key_at(keys, m));
         assert!(rt; cone.admit(&packet).is_ok());
     }
 }
 
 // What a cone over this bay leaves that took 1,000 keys and was stopped.
-fn left<B: Bay>(rt: &impl Abort, alloc: Global, bay: B) -> B
+fn left<B: Bay>(rt: &impl Abort, alloc: Global, bay: B, keys: Keys) -> B
 where
     B: Drop,
 {
     let room = ConeRoom::new(alloc, &settings_of(rt, LONG)).expect(rt, "memory");
     match Cone::create(room, 0, bay) {
         Ok(mut cone) => {
-            give(rt, alloc, &mut cone, 1, 1_000);
+            give(rt, alloc, &mut cone, keys, 1, 1_000);
             cone.into_bay()
         }
         Err(_) => panic!(rt; "the files are empty"),
     }
 }
 
-fn left_in_memory(rt: &impl Abort, alloc: Global) -> MemBay {
-    left(rt, alloc, empty_bay(rt, alloc))
+fn left_in_memory(rt: &impl Abort, alloc: Global, keys: Keys) -> MemBay {
+    left(rt, alloc, empty_bay(rt, alloc), keys)
 }
 
 // Opens a bay again: why no cone was made, and the bay. A cone that is made has the 1,000 keys, with their report, and
 // goes on to the second one.
-fn reopened<B: Bay>(rt: &impl Abort, alloc: Global, bay: B) -> (Option<ReopenFault>, B)
+fn reopened<B: Bay>(rt: &impl Abort, alloc: Global, bay: B, keys: Keys) -> (Option<ReopenFault>, B)
 where
     B: Drop,
 {
     let room = ConeRoom::new(alloc, &settings_of(rt, LONG)).expect(rt, "memory");
     match reopen(room, 0, bay) {
         Ok(mut cone) => {
-            check_rest(rt, alloc, &mut cone);
+            check_rest(rt, alloc, &mut cone, keys);
             (None, cone.into_bay())
         }
         Err(refused) => (Some(refused.fault), refused.bay),
     }
 }
 
-fn check_rest<B: Bay>(rt: &impl Abort, alloc: Global, cone: &mut Cone<B, PlainTable>)
+fn check_rest<B: Bay>(rt: &impl Abort, alloc: Global, cone: &mut Cone<B, PlainTable>, keys: Keys)
     requires settings { cone.old.listing.settings ≡ LONG }
     requires cone { cone.old.listing.cone ≡ 0 }
 {
+    let (first, second) = reports_of(keys);
     check_state(rt, cone, ConeState::Running, 1_000);
-    check_listed(rt, cone, &[FIRST_REPORT]);
-    give(rt, alloc, cone, 1_001, 1_016);
-    check_listed(rt, cone, &[FIRST_REPORT, SECOND_REPORT]);
+    check_listed(rt, cone, first);
+    give(rt, alloc, cone, keys, 1_001, 1_016);
+    check_listed(rt, cone, second);
 }
 
 // What there is to see of a reopening: the journal's length, the bytes of it that were read before and behind, and why
@@ -142,11 +168,11 @@ struct Seen {
     fault: Option<ReopenFault>,
 }
 
-fn stopped_and_reopened(rt: &impl Abort, alloc: Global) -> Seen {
-    let bay = left_in_memory(rt, alloc);
+fn stopped_and_reopened(rt: &impl Abort, alloc: Global, keys: Keys) -> Seen {
+    let bay = left_in_memory(rt, alloc, keys);
     let len = bay.bytes(JOURNAL).len();
     let before = bay.bytes_read(JOURNAL);
-    let (fault, bay) = reopened(rt, alloc, bay);
+    let (fault, bay) = reopened(rt, alloc, bay, keys);
     Seen {
         len,
         before,
@@ -155,12 +181,18 @@ fn stopped_and_reopened(rt: &impl Abort, alloc: Global) -> Seen {
     }
 }
 
-#[test]
-fn a_reopening_reads_the_newest_bins_alone(rt: HostRuntime) {
-    let seen = stopped_and_reopened(&rt, rt.alloc());
+fn check_read(rt: &impl Abort, alloc: Global, keys: Keys) {
+    let seen = stopped_and_reopened(rt, alloc, keys);
     assert!(rt; seen.len == JOURNAL_LEN && seen.fault.is_none());
     // A packet that is admitted reads nothing of it.
     assert_eq!(rt; seen.behind, seen.before.saturating_add(READ));
+}
+
+#[test]
+fn a_reopening_reads_the_newest_bins_alone(rt: HostRuntime) {
+    for keys in [Keys::Fillers, Keys::Reported] {
+        check_read(&rt, rt.alloc(), keys);
+    }
 }
 
 // A copy of a bay with another byte in the journal.
@@ -197,7 +229,12 @@ fn check_damage(
     byte: u8,
     left: Option<u64>,
 ) {
-    let (fault, _bay) = reopened(rt, alloc, damaged(rt, alloc, bay, place, byte));
+    let (fault, _bay) = reopened(
+        rt,
+        alloc,
+        damaged(rt, alloc, bay, place, byte),
+        Keys::Reported,
+    );
     assert!(rt; fault == left.map(left_at), "at {place}");
 }
 
@@ -210,6 +247,6 @@ fn check_damages(rt: &impl Abort, alloc: Global, bay: &MemBay) {
 
 #[test]
 fn damage_before_the_newest_bins_is_not_found(rt: HostRuntime) {
-    let bay = left_in_memory(&rt, rt.alloc());
+    let bay = left_in_memory(&rt, rt.alloc(), Keys::Reported);
     check_damages(&rt, rt.alloc(), &bay);
 }
