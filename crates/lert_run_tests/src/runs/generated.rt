@@ -48,7 +48,7 @@ fn a_third_write_that_fails_leaves_what_two_wrote(rt: HostRuntime) {
     assert_eq!(rt; sink.bytes().len(), 16_384);
 }
 
-// The numbers are those of a plain count of all keys (tools/drilled).
+// The numbers are those of a plain count of all keys (tools/tests/drilled).
 #[test]
 fn a_drill_prints_a_plain_count(rt: HostRuntime) {
     let none = [
