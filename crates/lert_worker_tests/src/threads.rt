@@ -101,9 +101,11 @@ fn act_beside<R: Threads + Wait + Sync>(
         rt,
         &mut ||
             requires { BelongsTo first lock × (mine.now.by ≡ first.lo) }
+            ensures { BelongsTo first.exit lock × (first.exit.lo ≡ first.entry.lo) × (first.exit.hi ≡ first.entry.hi) }
         { act_twice(rt, &lock, &mut first, mine, flags) },
         &mut ||
             requires { BelongsTo second lock × (theirs.now.by ≡ second.lo) }
+            ensures { BelongsTo second.exit lock × (second.exit.lo ≡ second.entry.lo) × (second.exit.hi ≡ second.entry.hi) }
         { try_and_wait(rt, &lock, &mut second, theirs, flags) },
     );
     lock.join(&mut first, second);
