@@ -1,8 +1,17 @@
-"""The calls of the crates with the names of their clauses, and the laws, as the sources have them."""
+#!/usr/bin/env python3
+"""The calls of the crates with the names of their clauses, and the laws, as the sources have them.
+
+contracts.py --repeated [--most N] [CRATE..]
+    Prints of each crate, or of these, how many clauses its functions have, and how many of them stand word for word in
+    another function of any of them, and the same of what functions ensure alone; and the N texts that stand most often.
+    Names of clauses don't count.
+"""
 
 from __future__ import annotations
 
+import argparse
 import re
+import sys
 from collections import defaultdict
 from pathlib import Path
 from typing import Iterator, NamedTuple
@@ -86,3 +95,73 @@ class Sources:
 
 def crates(top: Path) -> dict[str, Sources]:
     return {folder.name: Sources(folder) for folder in sorted((top / "crates").iterdir()) if folder.is_dir()}
+
+
+# --- clauses that are repeated
+
+BEGINS = re.compile(r"\s*(requires|ensures)\*? (?:\w+ )?(?=\{)")
+
+
+class Clause(NamedTuple):
+    crate: str
+    # The file, and the line of the function.
+    function: tuple[Path, int]
+    # Its kind and what stands between its braces, each gap one blank.
+    text: str
+
+
+def inside(lines: list[str], number: int, at: int) -> str:
+    """What the braces hold that open in a line at a column."""
+    depth, found = 0, []
+    for letter in "\n".join([lines[number][at:], *lines[number + 1 :]]):
+        depth += {"{": 1, "}": -1}.get(letter, 0)
+        found.append(letter)
+        if depth == 0:
+            break
+    return " ".join("".join(found)[1:-1].split())
+
+
+def clauses_of(folder: Path) -> Iterator[Clause]:
+    for file in sorted((folder / "src").rglob("*.rt")):
+        lines, function = file.read_text().splitlines(), 0
+        for number, line in enumerate(lines):
+            if CALL.match(line):
+                function = number
+            elif begin := BEGINS.match(line):
+                yield Clause(folder.name, (file, function), f"{begin[1]} {inside(lines, number, begin.end())}")
+
+
+def show_repeated(folders: list[Path], most: int) -> None:
+    clauses = [clause for folder in folders for clause in clauses_of(folder)]
+    functions: defaultdict[str, set[tuple[Path, int]]] = defaultdict(set)
+    for clause in clauses:
+        functions[clause.text].add(clause.function)
+    counts = {folder.name: [0, 0, 0, 0] for folder in folders}
+    for clause in clauses:
+        is_repeated, ensures = len(functions[clause.text]) > 1, clause.text.startswith("ensures")
+        tells = (True, is_repeated, ensures, ensures and is_repeated)
+        counts[clause.crate] = [count + told for count, told in zip(counts[clause.crate], tells)]
+    print("| crate | clauses | repeated | ensures | repeated |", "|---|---|---|---|---|", sep="\n")
+    for name, row in [*counts.items(), ("all", [sum(column) for column in zip(*counts.values())])]:
+        print("|", " | ".join([name, *(f"{count:,}" for count in row)]), "|")
+    for text in sorted(functions, key=lambda text: (-len(functions[text]), text))[:most]:
+        print(f"{len(functions[text])} times: {text}")
+
+
+def main() -> int:
+    parser = argparse.ArgumentParser(prog="contracts.py", allow_abbrev=False)
+    parser.add_argument("--repeated", action="store_true", required=True, help="count clauses of other functions")
+    parser.add_argument("--most", metavar="N", type=int, default=0, help="print the N texts that stand most often")
+    parser.add_argument("crates", metavar="CRATE", nargs="*", help="these crates alone")
+    words = parser.parse_args()
+    top = Path(__file__).resolve().parents[2] / "crates"
+    if unknown := [name for name in words.crates if not (top / name / "src").is_dir()]:
+        print(f"contracts.py: there is no crate {unknown[0]}", file=sys.stderr)
+        return 1
+    names = words.crates or sorted(folder.name for folder in top.iterdir() if (folder / "src").is_dir())
+    show_repeated([top / name for name in names], words.most)
+    return 0
+
+
+if __name__ == "__main__":
+    sys.exit(main())

@@ -258,7 +258,9 @@ references() { "$top/tools/build/references" "$@"; }
 
 # A small repository, whose crates stand one on another.
 check_rooms() {
-    local crate below=''
+    local crate below='' repeated='| crate | clauses | repeated | ensures | repeated |\n|---|---|---|---|---|\n'
+    repeated+='| lert_a | 2 | 1 | 1 | 0 |\n| lert_b | 2 | 1 | 1 | 0 |\n| all | 4 | 2 | 2 | 0 |\n'
+    repeated+='2 times: requires a ≤ b\n'
     mkdir -p rooms/tools/build && cp "$top"/tools/build/{references,contracts.py,crates.py} rooms/tools/build &&
         : >rooms/crates.txt
     for crate in lert_{a..h}; do
@@ -278,6 +280,10 @@ check_rooms() {
     printf '//! It stands on lert_a.\n// As lert_nowhere does.\n' >rooms/crates/lert_b/src/lib.rt
     gives 'finds a crate that a comment alone has' 1 "lert_b/src/lib.rt, line 2: lert_nowhere isn't there\n" '' \
         rooms/tools/build/references
+    printf 'fn one()\n    requires low { a ≤\n        b }\n    ensures { c ≡ d }\n{\n}\n' >rooms/crates/lert_a/src/lib.rt
+    printf 'pub fn two()\n    requires { a ≤ b }\n    ensures same { c ≡ e }\n{\n}\n' >rooms/crates/lert_b/src/lib.rt
+    gives 'counts clauses of other functions' 0 "$repeated" '' \
+        rooms/tools/build/contracts.py --repeated --most 1 lert_a lert_b
 }
 
 check_documents() {
