@@ -163,14 +163,16 @@ live_full() {
 # The same from a named pipe, while the run, the packer and the service are killed; a slow end, so that the last ones
 # are there to be stopped in order.
 live_killed() {
-    local kill service
+    local kill service status begun=0
     rm -rf l fifo && mkfifo fifo && exec 7<>fifo && : >shown
     "$top/tools/live" --pipe fifo --again --base 64 --packet 16 l >>shown 2>said 7>&- &
     service=$!
     for kill in run packer service end; do
         keys unpack packed | sed 's/^/key /' | head -n 50000 >&7
+        begun=$((begun + 1))
         for _ in {1..300}; do
-            pgrep -P $service >children && [ "$(wc -l <children)" -eq 2 ] && [ -s shown ] && break
+            [ "$(grep -c ': begun' said)" -ge $begun ] && pgrep -P $service >children &&
+                [ "$(wc -l <children)" -eq 2 ] && [ -s shown ] && break
             sleep 0.1
         done
         case $kill in
@@ -181,10 +183,17 @@ live_killed() {
             "$top/tools/live" --pipe fifo --again --base 64 --packet 16 l >>shown 2>>said 7>&- &
             service=$!
             ;;
-        end) sleep 2 && command kill -TERM $service && wait $service ;;
+        end)
+            sleep 2 && command kill -TERM $service
+            wait $service
+            status=$?
+            break
+            ;;
         esac
+        # Lines that come before the service knows would go to what is left of the run.
+        for _ in {1..300}; do [ "$(grep -c -e 'by itself' -e 'had ended' said)" -ge $begun ] && break || sleep 0.1; done
     done
-    echo "status $?"
+    echo "status $status"
     exec 7>&-
     sort -u shown >sorted && mv sorted shown
     judged_live | (read -r events lost count && echo "$((events + lost >= 199000 && events + lost <= 200001)) $((count >= 4))")
