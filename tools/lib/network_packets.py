@@ -21,7 +21,7 @@ PLACES = {ETHERNET: (14, 12), COOKED: (16, 14), COOKED_2: (20, 0)}
 VERSION_4, VERSION_6 = b"\x08\x00", b"\x86\xdd"
 VERSIONS = {VERSION_4: 4, VERSION_6: 6}
 # What may stand before it besides, by its two bytes: tags of 4 bytes, labels of 4 bytes of which the last one is
-# marked, and a session of PPP.
+# marked, and PPP over Ethernet.
 TAGS = {b"\x81\x00", b"\x88\xa8", b"\x91\x00", b"\x92\x00"}
 LABELS = {b"\x88\x47", b"\x88\x48"}
 SESSION = b"\x88\x64"
