@@ -14,8 +14,8 @@ mod levels;
 mod rules;
 /// Eight numbers that keep all rules, with the span and the offset of each level computed once.
 ///
-/// 144 bytes, for all nine levels. No call takes memory. `edge`, `depth` and `lookback` make one division a level at most;
-/// where no edge moves, an event costs one.
+/// 144 bytes, for all nine levels. No call takes memory. `edge` makes one division, `depth` at most one for each level on
+/// disk, and `lookback` one more than `depth`.
 #[derive(Clone, Copy, Drop)]
 pub struct Settings {
     numbers: Numbers,

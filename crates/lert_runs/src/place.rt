@@ -27,7 +27,7 @@ impl Place {
     }
 }
 
-/// The place of `x` in a run text. The run is read up to there.
+/// The place of `x` in a run text. The run is read up to there, and at most nine slots from there on.
 pub fn find(width: u32, run: &[u64], x: u64) -> Place
     requires narrow { 8 ≤ width }
     requires wide { width ≤ 62 }
