@@ -24,11 +24,12 @@ use Rattle.lert_bay.proofs.KeptLaws.{IsLawful, keeps_none}
 use Rattle.lert_cone.proofs.TakeLaws.{handed_on}
 
 -- the clauses of `admit`
-pub record Admits {B : Type 0} (bays : Bays B) (packet : Packet) (old new : Standing B) (result : Result Acked ConeFault) : Type 0 where
-  pub stands_for : OnOk result ((h : List Packet) → StandsFor bays.files bays.leaves bays.faults old h → StandsFor bays.files bays.leaves bays.faults new (h ++ packet ∷ []))
-  pub answers : IfOk result (λ acked. (h : List Packet) → StandsFor bays.files bays.leaves bays.faults old h → Answers bays.files old h packet acked)
-  pub acked : IfOk result (λ acked. acked ≡ record { from = old.events + 1; to = old.events + length packet.keys; reports = length new.reports })
-  pub taken : OnOk result (new ≡ record old {
+abbrev pub Admits : {B : Type 0} → Bays B → Packet → Standing B → Standing B → Result Acked ConeFault → Type 0
+Admits bays packet old new result = record {
+  stands_for : OnOk result ((h : List Packet) → StandsFor bays.files bays.leaves bays.faults old h → StandsFor bays.files bays.leaves bays.faults new (h ++ packet ∷ []));
+  answers : IfOk result (λ acked. (h : List Packet) → StandsFor bays.files bays.leaves bays.faults old h → Answers bays.files old h packet acked);
+  acked : IfOk result (λ acked. acked ≡ record { from = old.events + 1; to = old.events + length packet.keys; reports = length new.reports });
+  taken : OnOk result (new ≡ record old {
     bay = new.bay;
     listing = record old.listing { events = old.listing.events ++ packet.keys };
     rows = new.rows;
@@ -36,12 +37,12 @@ pub record Admits {B : Type 0} (bays : Bays B) (packet : Packet) (old new : Stan
     events = old.events + length packet.keys;
     gate = next_gate old.gate (payload_of packet);
     log = new.log;
-  })
-  pub in_time_so_far : OnOk result ((h : List Packet) → StandsFor bays.files bays.leaves bays.faults old h → WasSound bays.files old → IfTold (bays.files old.bay)
-      (λ _. IsTimelySoFar old.listing.settings.threshold old.listing.settings.bins (events_of (h ++ packet ∷ [])) new.reports))
-  pub stays : OnErr result ((h : List Packet) → StandsFor bays.files bays.leaves bays.faults old h → StandsFor bays.files bays.leaves bays.faults new h)
-  pub unchanged : IfErr result (λ fault. is_refusal fault ≡ true → new ≡ old)
-  pub broke : IfErr result (λ fault. is_refusal fault ≡ false → new ≡ record old {
+  });
+  in_time_so_far : OnOk result ((h : List Packet) → StandsFor bays.files bays.leaves bays.faults old h → WasSound bays.files old → IfTold (bays.files old.bay)
+      (λ _. IsTimelySoFar old.listing.settings.threshold old.listing.settings.bins (events_of (h ++ packet ∷ [])) new.reports));
+  stays : OnErr result ((h : List Packet) → StandsFor bays.files bays.leaves bays.faults old h → StandsFor bays.files bays.leaves bays.faults new h);
+  unchanged : IfErr result (λ fault. is_refusal fault ≡ true → new ≡ old);
+  broke : IfErr result (λ fault. is_refusal fault ≡ false → new ≡ record old {
     bay = new.bay;
     listing = record old.listing { events = new.listing.events };
     rows = new.rows;
@@ -50,20 +51,21 @@ pub record Admits {B : Type 0} (bays : Bays B) (packet : Packet) (old new : Stan
     over = Some packet;
     gate = new.gate;
     log = new.log;
-  })
-  pub same_cone : IsSameCone old new
-  pub closed : (result ≡ Err Closed) ↔ (old.state ≡ Finished)
-  pub broken : (result ≡ Err Broken) ↔ (is_broken old.state ≡ true)
-  pub full : (n len : ℕ) → (result ≡ Err (CapacityFull n len)) ↔ ((old.state ≡ Running) × (n ≡ old.events) × (len ≡ length packet.keys)
-      × (capacity old.listing.settings < n + len))
-  pub bay_failed : IsErrOf result BayFailed → (new.state ≡ BrokenByBay) × HasRisen (bays.faults old.bay) (bays.faults new.bay)
-  pub unsound : (file at : ℕ) → IsErrOf result (Unsound file at) → (new.state ≡ BrokenByRead file at) × ((h : List Packet) → StandsFor bays.files bays.leaves bays.faults old h →
-      WasSound bays.files old → bays.files old.bay ≡ None)
-  pub shows : (file at : ℕ) → IsErrOf result (Unsound file at) → IfTold (bays.files new.bay) (λ seen. Shows new.listing.settings new.rows new.reports (seen 2) file at)
-  pub each_moment : is_broken old.state ≡ false → WasSound bays.files old → IfTold (bays.files old.bay) (λ _. (h : List Packet) → StandsFor bays.files bays.leaves bays.faults old h →
-      (image : Files) → bays.left_since new.bay (bays.moment old.bay) image → IsSoundOver old.listing.settings old.listing.cone h (Some packet) image)
-  pub seen : Turns Anything (bays.files old.bay) (bays.files new.bay)
-  pub kept : KeepsBay bays old.bay new.bay (IsErrOf result BayFailed)
+  });
+  same_cone : IsSameCone old new;
+  closed : (result ≡ Err Closed) ↔ (old.state ≡ Finished);
+  broken : (result ≡ Err Broken) ↔ (is_broken old.state ≡ true);
+  full : (n len : ℕ) → (result ≡ Err (CapacityFull n len)) ↔ ((old.state ≡ Running) × (n ≡ old.events) × (len ≡ length packet.keys)
+      × (capacity old.listing.settings < n + len));
+  bay_failed : IsErrOf result BayFailed → (new.state ≡ BrokenByBay) × HasRisen (bays.faults old.bay) (bays.faults new.bay);
+  unsound : (file at : ℕ) → IsErrOf result (Unsound file at) → (new.state ≡ BrokenByRead file at) × ((h : List Packet) → StandsFor bays.files bays.leaves bays.faults old h →
+      WasSound bays.files old → bays.files old.bay ≡ None);
+  shows : (file at : ℕ) → IsErrOf result (Unsound file at) → IfTold (bays.files new.bay) (λ seen. Shows new.listing.settings new.rows new.reports (seen 2) file at);
+  each_moment : is_broken old.state ≡ false → WasSound bays.files old → IfTold (bays.files old.bay) (λ _. (h : List Packet) → StandsFor bays.files bays.leaves bays.faults old h →
+      (image : Files) → bays.left_since new.bay (bays.moment old.bay) image → IsSoundOver old.listing.settings old.listing.cone h (Some packet) image);
+  seen : Turns Anything (bays.files old.bay) (bays.files new.bay);
+  kept : KeepsBay bays old.bay new.bay (IsErrOf result BayFailed);
+}
 
 module _ {B : Type 0} (bays : Bays B) (lawful : IsLawful bays) (packet : Packet) where
   refused_by : {T : Type 0} (old : Standing B) (fault : ConeFault) → is_refusal fault ≡ true →

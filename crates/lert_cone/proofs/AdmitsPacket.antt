@@ -24,7 +24,7 @@ use Rattle.lert_cone.specs.Wrote.{Anything}
 use Rattle.lert_bay.proofs.KeptLaws.{IsLawful, keeps_as}
 use Rattle.lert_cone.proofs.SoundLaws.{turns_back, counted_more, end_more}
 use Rattle.lert_cone.proofs.AppendLaws.{whole_of, some_more, keys_more}
-use Rattle.lert_cone.proofs.StandLaws.{more_cone, stands_whole, reports_running}
+use Rattle.lert_cone.proofs.StandLaws.{more_cone, stands_whole, reports_running, cone_at}
 use Rattle.lert_cone.proofs.TimeLaws.{timely_so_far}
 use Rattle.lert_cone.proofs.Admits.{Admits}
 
@@ -43,87 +43,15 @@ module _ {B : Type 0} (bays : Bays B) (lawful : IsLawful bays) (packet : Packet)
       is : after.listing ≡ record tally.listing { events = tally.listing.events ++ packet.keys }
       is = did.listing ∙ ap (λ (keys : List ℕ). record { settings = tally.listing.settings; cone = tally.listing.cone; events = keys; closed = tally.listing.closed }) did.taken
 
-      same : IsSameCone (record {
-        bay = bay;
-        made = made;
-        listing = tally.listing;
-        rows = tally.rows;
-        reports = tally.due.reports;
-        events = events;
-        state = state;
-        over = over;
-        gate = journal.gate;
-        log = log;
-        last = last;
-      })
-          (record {
-            bay = bay_after;
-            made = made;
-            listing = after.listing;
-            rows = after.rows;
-            reports = after.due.reports;
-            events = events_after;
-            state = state;
-            over = over;
-            gate = journal_after.gate;
-            log = log_after;
-            last = last;
-          })
+      same : IsSameCone (cone_at bay made tally events state over journal.gate log last)
+          (cone_at bay_after made after events_after state over journal_after.gate log_after last)
       same = record { settings = ap (λ (l : Listing). l.settings) is; cone = ap (λ (l : Listing). l.cone) is; made = refl; last = refl }
 
-      stands_then : (h : List Packet) → StandsFor bays.files bays.leaves bays.faults (record {
-        bay = bay;
-        made = made;
-        listing = tally.listing;
-        rows = tally.rows;
-        reports = tally.due.reports;
-        events = events;
-        state = state;
-        over = over;
-        gate = journal.gate;
-        log = log;
-        last = last;
-      }) h →
-          StandsFor bays.files bays.leaves bays.faults (record {
-            bay = bay_after;
-            made = made;
-            listing = after.listing;
-            rows = after.rows;
-            reports = after.due.reports;
-            events = events_after;
-            state = state;
-            over = over;
-            gate = journal_after.gate;
-            log = log_after;
-            last = last;
-          }) (h ++ packet ∷ [])
+      stands_then : (h : List Packet) → StandsFor bays.files bays.leaves bays.faults (cone_at bay made tally events state over journal.gate log last) h →
+          StandsFor bays.files bays.leaves bays.faults (cone_at bay_after made after events_after state over journal_after.gate log_after last) (h ++ packet ∷ [])
       stands_then h stands =
-          stands_whole bays.files bays.leaves bays.faults (record {
-            bay = bay;
-            made = made;
-            listing = tally.listing;
-            rows = tally.rows;
-            reports = tally.due.reports;
-            events = events;
-            state = state;
-            over = over;
-            gate = journal.gate;
-            log = log;
-            last = last;
-          })
-          (record {
-            bay = bay_after;
-            made = made;
-            listing = after.listing;
-            rows = after.rows;
-            reports = after.due.reports;
-            events = events_after;
-            state = state;
-            over = over;
-            gate = journal_after.gate;
-            log = log_after;
-            last = last;
-          }) h (h ++ packet ∷ []) same
+          stands_whole bays.files bays.leaves bays.faults (cone_at bay made tally events state over journal.gate log last)
+          (cone_at bay_after made after events_after state over journal_after.gate log_after last) h (h ++ packet ∷ []) same
           (ap is_broken running) (stands.none_over (ap is_broken running)) (some_more h packet stands.some some) (omega (arith, counted_more h packet, stands.counted, events_are)) (omega
           (arith, events_are, within))
           (λ sound seen told.
@@ -134,132 +62,25 @@ module _ {B : Type 0} (bays : Bays B) (lawful : IsLawful bays) (packet : Packet)
           (ap (λ (j : Log). j.gate) did.moved ∙ (ap (λ g. next_gate g (payload_of packet)) whole.gate_is ∙ end_more h packet)))
           stands
 
-      new_is : ◌≡◌ {A = Standing B} (record {
-        bay = bay_after;
-        made = made;
-        listing = after.listing;
-        rows = after.rows;
-        reports = after.due.reports;
-        events = events_after;
-        state = state;
-        over = over;
-        gate = journal_after.gate;
-        log = log_after;
-        last = last;
-      })
-          (record {
-            bay = bay_after;
-            made = made;
+      new_is : ◌≡◌ {A = Standing B} (cone_at bay_after made after events_after state over journal_after.gate log_after last)
+          (record (cone_at bay_after made after (events + length packet.keys) state over (next_gate journal.gate (payload_of packet)) log_after last) {
             listing = record tally.listing { events = tally.listing.events ++ packet.keys };
-            rows = after.rows;
-            reports = after.due.reports;
-            events = events + length packet.keys;
-            state = state;
-            over = over;
-            gate = next_gate journal.gate (payload_of packet);
-            log = log_after;
-            last = last;
           })
-      new_is i = record {
-        bay = bay_after;
-        made = made;
-        listing = is i;
-        rows = after.rows;
-        reports = after.due.reports;
-        events = events_are i;
-        state = state;
-        over = over;
-        gate = (ap (λ
-            (j : Log). j.gate) did.moved) i;
-        log = log_after;
-        last = last;
-      }
+      new_is i = record (cone_at bay_after made after (events_are i) state over ((ap (λ (j : Log). j.gate) did.moved) i) log_after last) { listing = is i }
 
-      timely_then : (h : List Packet) → StandsFor bays.files bays.leaves bays.faults (record {
-        bay = bay;
-        made = made;
-        listing = tally.listing;
-        rows = tally.rows;
-        reports = tally.due.reports;
-        events = events;
-        state = state;
-        over = over;
-        gate = journal.gate;
-        log = log;
-        last = last;
-      }) h →
-          WasSound bays.files (record {
-            bay = bay;
-            made = made;
-            listing = tally.listing;
-            rows = tally.rows;
-            reports = tally.due.reports;
-            events = events;
-            state = state;
-            over = over;
-            gate = journal.gate;
-            log = log;
-            last = last;
-          }) →
+      timely_then : (h : List Packet) → StandsFor bays.files bays.leaves bays.faults (cone_at bay made tally events state over journal.gate log last) h →
+          WasSound bays.files (cone_at bay made tally events state over journal.gate log last) →
           IfTold (bays.files bay) (λ _. IsTimelySoFar tally.listing.settings.threshold tally.listing.settings.bins (events_of (h ++ packet ∷ [])) after.due.reports)
       timely_then h stands sound seen told =
           let then = did.seen.told seen told in
-          let sound_then : WasSound bays.files (record {
-            bay = bay_after;
-            made = made;
-            listing = after.listing;
-            rows = after.rows;
-            reports = after.due.reports;
-            events = events_after;
-            state = state;
-            over = over;
-            gate = journal_after.gate;
-            log = log_after;
-            last = last;
-          }) =
+          let sound_then : WasSound bays.files (cone_at bay_after made after events_after state over journal_after.gate log_after last) =
           subst (λ (l : Listing). IfTold (bays.files made) (λ first. (history : List Packet) × IsSound l.settings l.cone history first)) (sym is) sound in
           subst (λ (settings : Numbers). IsTimelySoFar settings.threshold settings.bins (events_of (h ++ packet ∷ [])) after.due.reports) (ap (λ (l : Listing). l.settings) is)
-          (timely_so_far bays.files bays.leaves bays.faults (record {
-            bay = bay_after;
-            made = made;
-            listing = after.listing;
-            rows = after.rows;
-            reports = after.due.reports;
-            events = events_after;
-            state = state;
-            over = over;
-            gate = journal_after.gate;
-            log = log_after;
-            last = last;
-          })
+          (timely_so_far bays.files bays.leaves bays.faults (cone_at bay_after made after events_after state over journal_after.gate log_after last)
           (h ++ packet ∷ []) (ap is_broken running) (ap (λ (l : Listing). l.closed) is ∙ still) (stands_then h stands) sound_then then.0 then.1)
 
-      pub admitted : Admits bays packet (record {
-        bay = bay;
-        made = made;
-        listing = tally.listing;
-        rows = tally.rows;
-        reports = tally.due.reports;
-        events = events;
-        state = state;
-        over = over;
-        gate = journal.gate;
-        log = log;
-        last = last;
-      })
-          (record {
-            bay = bay_after;
-            made = made;
-            listing = after.listing;
-            rows = after.rows;
-            reports = after.due.reports;
-            events = events_after;
-            state = state;
-            over = over;
-            gate = journal_after.gate;
-            log = log_after;
-            last = last;
-          }) (Ok (record { from = events + 1; to = events_after; reports = reports }))
+      pub admitted : Admits bays packet (cone_at bay made tally events state over journal.gate log last)
+          (cone_at bay_after made after events_after state over journal_after.gate log_after last) (Ok (record { from = events + 1; to = events_after; reports = reports }))
       admitted = record {
         stands_for = stands_then;
         answers = λ h stands. record {
@@ -301,32 +122,8 @@ module _ {B : Type 0} (bays : Bays B) (lawful : IsLawful bays) (packet : Packet)
           room = room_after;
         }) journal journal_after (Ok tt) → events_after ≡ events + length packet.keys → 0 < length packet.keys →
         cone_room_after ≡ cone_room → room_after ≡ cone_room_after →
-        IsCone bays.files bays.leaves bays.faults bays.mark (record {
-          bay = bay;
-          made = made;
-          listing = tally.listing;
-          rows = tally.rows;
-          reports = tally.due.reports;
-          events = events;
-          state = state;
-          over = over;
-          gate = journal.gate;
-          log = log;
-          last = last;
-        }) tally journal cone_room keys_room →
-        IsCone bays.files bays.leaves bays.faults bays.mark (record {
-          bay = bay_after;
-          made = made;
-          listing = after.listing;
-          rows = after.rows;
-          reports = after.due.reports;
-          events = events_after;
-          state = state;
-          over = over;
-          gate = journal_after.gate;
-          log = log_after;
-          last = last;
-        }) after journal_after cone_room_after keys_room
+        IsCone bays.files bays.leaves bays.faults bays.mark (cone_at bay made tally events state over journal.gate log last) tally journal cone_room keys_room →
+        IsCone bays.files bays.leaves bays.faults bays.mark (cone_at bay_after made after events_after state over journal_after.gate log_after last) after journal_after cone_room_after keys_room
     still_cone events_after cone_room cone_room_after keys_room did events_are some room_is lent_is cone =
         let is = did.listing ∙ ap (λ (keys : List ℕ). record {
           settings = tally.listing.settings;

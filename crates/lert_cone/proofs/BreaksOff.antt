@@ -20,7 +20,7 @@ use Rattle.lert_cone.specs.Tally.{Tallied}
 use Rattle.lert_cone.specs.Wrote.{Anything}
 use Rattle.lert_bay.proofs.KeptLaws.{IsLawful, keeps_as}
 use Rattle.lert_cone.proofs.SoundLaws.{turns_back}
-use Rattle.lert_cone.proofs.StandLaws.{stands_broken}
+use Rattle.lert_cone.proofs.StandLaws.{stands_broken, cone_at}
 use Rattle.lert_cone.proofs.FaultLaws.{kept_since, turned_none, untold, is_broken_by, by_bay_of, by_read_of, failed_of, unsound_of, no_refusal}
 use Rattle.lert_cone.proofs.Admits.{Admits}
 
@@ -37,59 +37,11 @@ module _ {B : Type 0} (bays : Bays B) (lawful : IsLawful bays) (packet : Packet)
           log = log_after;
           room = room_after;
         }) journal journal_after (Err fault) →
-        Admits bays packet (record {
-          bay = bay;
-          made = made;
-          listing = tally.listing;
-          rows = tally.rows;
-          reports = tally.due.reports;
-          events = events;
-          state = state;
-          over = over;
-          gate = journal.gate;
-          log = log;
-          last = last;
-        })
-        (record {
-          bay = bay_after;
-          made = made;
-          listing = after.listing;
-          rows = after.rows;
-          reports = after.due.reports;
-          events = events;
-          state = state_after;
-          over = over_after;
-          gate = journal_after.gate;
-          log = log_after;
-          last = last;
-        }) (Err (cone_fault fault))
+        Admits bays packet (cone_at bay made tally events state over journal.gate log last)
+        (cone_at bay_after made after events state_after over_after journal_after.gate log_after last) (Err (cone_fault fault))
     broken_off state_after over_after fault state_is over_is risen did =
-        let same : IsSameCone (record {
-          bay = bay;
-          made = made;
-          listing = tally.listing;
-          rows = tally.rows;
-          reports = tally.due.reports;
-          events = events;
-          state = state;
-          over = over;
-          gate = journal.gate;
-          log = log;
-          last = last;
-        })
-        (record {
-          bay = bay_after;
-          made = made;
-          listing = after.listing;
-          rows = after.rows;
-          reports = after.due.reports;
-          events = events;
-          state = state_after;
-          over = over_after;
-          gate = journal_after.gate;
-          log = log_after;
-          last = last;
-        }) =
+        let same : IsSameCone (cone_at bay made tally events state over journal.gate log last)
+        (cone_at bay_after made after events state_after over_after journal_after.gate log_after last) =
         record { settings = ap (λ (l : Listing). l.settings) did.listing; cone = ap (λ (l : Listing). l.cone) did.listing; made = refl; last = refl } in
         record {
           stands_for = tt;
@@ -98,32 +50,8 @@ module _ {B : Type 0} (bays : Bays B) (lawful : IsLawful bays) (packet : Packet)
           taken = tt;
           in_time_so_far = tt;
           stays = λ h stands.
-              stands_broken bays.files bays.leaves bays.faults (record {
-                bay = bay;
-                made = made;
-                listing = tally.listing;
-                rows = tally.rows;
-                reports = tally.due.reports;
-                events = events;
-                state = state;
-                over = over;
-                gate = journal.gate;
-                log = log;
-                last = last;
-              })
-              (record {
-                bay = bay_after;
-                made = made;
-                listing = after.listing;
-                rows = after.rows;
-                reports = after.due.reports;
-                events = events;
-                state = state_after;
-                over = over_after;
-                gate = journal_after.gate;
-                log = log_after;
-                last = last;
-              }) h same
+              stands_broken bays.files bays.leaves bays.faults (cone_at bay made tally events state over journal.gate log last)
+              (cone_at bay_after made after events state_after over_after journal_after.gate log_after last) h same
               (ap is_broken state_is ∙ is_broken_by fault) refl
               (λ by_bay. risen_since (bays.faults made) (bays.faults bay) (bays.faults bay_after) risen did.kept.never_falls
               (did.kept.failed (ap Err (by_bay_of fault (sym state_is ∙ by_bay)))))
@@ -138,19 +66,7 @@ module _ {B : Type 0} (bays : Bays B) (lawful : IsLawful bays) (packet : Packet)
               (did.each_moment was.0 was.1 h (stands.whole (ap is_broken running) sound was.0 was.1)))))
               stands;
           unchanged = λ refusal. absurd (false≢true (sym (no_refusal fault) ∙ refusal));
-          broke = λ _ i. record {
-            bay = bay_after;
-            made = made;
-            listing = did.listing i;
-            rows = after.rows;
-            reports = after.due.reports;
-            events = events;
-            state = state_after;
-            over = over_is i;
-            gate = journal_after.gate;
-            log = log_after;
-            last = last;
-          };
+          broke = λ _ i. record (cone_at bay_after made after events state_after (over_is i) journal_after.gate log_after last) { listing = did.listing i };
           same_cone = same;
           closed = (
             (λ given. absurd (let inner : cone_fault fault ≡ Closed = cc in false≢true (sym (no_refusal fault) ∙ ap is_refusal inner))),

@@ -3,6 +3,7 @@ pub mod AdmitsPacket
 pub mod AdoptLaws
 pub mod AdoptStands
 pub mod AppendLaws
+pub mod Bays
 pub mod BeginLaws
 pub mod BinLaws
 pub mod BreaksOff

@@ -34,18 +34,6 @@ use Rattle.lert_cone.proofs.ReplayLaws.{journal_on_way, on_way_read, sound_recou
 use Rattle.lert_cone.proofs.ReplayStands.{next_there, read_settled, seen_as, shut_there}
 use Rattle.lert_cone.proofs.ReplayStep.{told_once}
 
--- bays, seen by these members
-abbrev pub bays_of : {B : Type 0} → (B → ℕ) → (B → ℕ) → (B → Option Files) → (B → Files → Type 0) → (B → ℕ) → (B → ℕ → Files → Type 0) → (B → ℕ → ℕ) → Bays B
-bays_of faults mark files leaves moment left_since handed_out = record {
-  faults = faults;
-  mark = mark;
-  files = files;
-  leaves = leaves;
-  moment = moment;
-  left_since = left_since;
-  handed_out = handed_out;
-}
-
 -- a packet that stands at the gate of a journal, said of another name of it
 pub held_at : {s : Numbers} {cone most : ℕ} {journal there : Log} {bytes : List ℕ} {packet : Packet} → journal ≡ there → HoldsPacket s cone most bytes journal.gate packet →
     HoldsPacket s cone most bytes there.gate packet
@@ -153,18 +141,7 @@ module _ {B : Type 0} (bays : Bays B) (lawful : IsLawful bays) where
           (λ seen told. closed seen (sym read.reads.seen ∙ told));
       seen = read.reads.seen;
       images = read.reads.images;
-      is = λ i. record {
-        bay = bay_read;
-        made = made;
-        listing = t.listing;
-        rows = t.rows;
-        reports = t.due.reports;
-        events = events;
-        stopped = stopped;
-        gate = after_is i;
-        log = log;
-        last = last;
-      };
+      is = λ i. seen_as bay_read made t events stopped (after_is i) log last;
     }
 
     -- the cone is on its way through the journal of a history

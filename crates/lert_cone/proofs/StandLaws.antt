@@ -38,6 +38,22 @@ use Rattle.lert_cone.proofs.FaultLaws.{turns_as, turns_on}
 
 -- ---- a cone
 
+-- what it is seen as
+abbrev pub cone_at : {B : Type 0} → B → B → Tallied → ℕ → ConeState → Option Packet → ℕ → LogPlace → LogPoint → Standing B
+cone_at bay made tally events state over gate log last = record {
+  bay = bay;
+  made = made;
+  listing = tally.listing;
+  rows = tally.rows;
+  reports = tally.due.reports;
+  events = events;
+  state = state;
+  over = over;
+  gate = gate;
+  log = log;
+  last = last;
+}
+
 -- the reports of a list of these keys
 pub reports_running : (listing : Listing) (keys : List ℕ) → listing.closed ≡ false → listing.events ≡ keys → reports_of listing ≡ look listing.settings keys
 reports_running listing keys still is = ap (λ b. cond b (closing listing.settings listing.events) (look listing.settings listing.events)) still ∙ ap (look listing.settings) is
@@ -89,19 +105,7 @@ module _ {B : Type 0} (files : B → Option Files) (leaves : B → Files → Typ
   } → gate ≡ 32
       → log ≡ record { gate = 8; most = most_record s; named = 0; places = places_at_start s } → tally.rows ≡ replicate s.levels [] → tally.due.reports ≡ [] → IsCounted tally
       → IfTold (files bay) (λ seen. AreNew s cone (leaves bay) seen) → IfTold (files bay) (leaves bay)
-      → StandsFor files leaves faults (record {
-        bay = bay;
-        made = made;
-        listing = tally.listing;
-        rows = tally.rows;
-        reports = tally.due.reports;
-        events = 0;
-        state = Running;
-        over = None;
-        gate = gate;
-        log = log;
-        last = last;
-      }) []
+      → StandsFor files leaves faults (cone_at bay made tally 0 Running None gate log last) []
   new_stands bay made s cone tally gate log last valid is gate_is log_is rows_are none counted new as_read = record {
     some = All-nil (λ packet. 0 < length packet.keys);
     counted = refl;
@@ -132,19 +136,7 @@ module _ {B : Type 0} (files : B → Option Files) (leaves : B → Files → Typ
       → IsCounted tally → journal ≡ record { file = 0; gate = 32; most = most_payload s } → log ≡ record { gate = 8; most = most_record s; named = 0; places = places_at_start s } → room ≡ room_of s →
       keys_room ≡ 4 * s.packet → made ≡ bay
       → IfTold (files bay) (λ seen. AreNew s cone (leaves bay) seen)
-      → IsCone files leaves faults mark (record {
-        bay = bay;
-        made = made;
-        listing = tally.listing;
-        rows = tally.rows;
-        reports = tally.due.reports;
-        events = 0;
-        state = Running;
-        over = None;
-        gate = journal.gate;
-        log = log;
-        last = last;
-      }) tally journal room keys_room
+      → IsCone files leaves faults mark (cone_at bay made tally 0 Running None journal.gate log last) tally journal room keys_room
   new_cone mark bay made s cone tally journal log last room keys_room valid is counted journal_is log_is room_is keys_room_is made_is new = record {
     file = ap (λ (j : Log). j.file) journal_is;
     most = ap (λ (j : Log). j.most) journal_is ∙ ap (λ (l : Listing). most_payload l.settings) (sym is);
@@ -231,32 +223,8 @@ module _ {B : Type 0} (files : B → Option Files) (leaves : B → Files → Typ
       → faults bay ≤ faults last → Turns Anything (files bay) (files last) → mark last ≡ mark bay → IsShutIfTold (files last) (leaves last) 0 journal_after.gate
       → IsLogging after log_after room_after →
       IsShutIfTold (files last) (leaves last) 1 log_after.gate
-      → IsCone files leaves faults mark (record {
-        bay = bay;
-        made = made;
-        listing = tally.listing;
-        rows = tally.rows;
-        reports = tally.due.reports;
-        events = events;
-        state = state;
-        over = over;
-        gate = journal.gate;
-        log = log;
-        last = point;
-      }) tally journal room keys_room
-      → IsCone files leaves faults mark (record {
-        bay = last;
-        made = made;
-        listing = after.listing;
-        rows = after.rows;
-        reports = after.due.reports;
-        events = events_after;
-        state = state;
-        over = over;
-        gate = journal_after.gate;
-        log = log_after;
-        last = point;
-      }) after journal_after room_after keys_room
+      → IsCone files leaves faults mark (cone_at bay made tally events state over journal.gate log point) tally journal room keys_room
+      → IsCone files leaves faults mark (cone_at last made after events_after state over journal_after.gate log_after point) after journal_after room_after keys_room
   more_cone mark bay made last tally after events events_after room room_after keys_room state over journal journal_after log log_after point packet running is counted events_is journal_is room_is
       some fits falls turns marked shut logging log_shut cone = record {
         file = ap (λ (j : Log). j.file) journal_is ∙ cone.file;
@@ -285,32 +253,8 @@ module _ {B : Type 0} (files : B → Option Files) (leaves : B → Files → Typ
       (point : LogPoint)
       → state ≡ Running → ended ≡ Finished → after.listing ≡ record tally.listing { closed = true } → IsCounted after → room_after ≡ room → faults bay ≤ faults last
       → Turns Anything (files bay) (files last) → mark last ≡ mark bay
-      → IsCone files leaves faults mark (record {
-        bay = bay;
-        made = made;
-        listing = tally.listing;
-        rows = tally.rows;
-        reports = tally.due.reports;
-        events = events;
-        state = state;
-        over = over;
-        gate = journal.gate;
-        log = log;
-        last = point;
-      }) tally journal room keys_room
-      → IsCone files leaves faults mark (record {
-        bay = last;
-        made = made;
-        listing = after.listing;
-        rows = after.rows;
-        reports = after.due.reports;
-        events = events;
-        state = ended;
-        over = over;
-        gate = journal.gate;
-        log = log_after;
-        last = point;
-      }) after journal room_after keys_room
+      → IsCone files leaves faults mark (cone_at bay made tally events state over journal.gate log point) tally journal room keys_room
+      → IsCone files leaves faults mark (cone_at last made after events ended over journal.gate log_after point) after journal room_after keys_room
   ended_cone mark bay made last tally after events room room_after keys_room state ended over journal log log_after point running finished is counted room_is falls turns marked cone = record {
     file = cone.file;
     most = cone.most ∙ ap (λ (l : Listing). most_payload l.settings) (sym is);

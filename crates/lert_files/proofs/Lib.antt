@@ -1,3 +1,4 @@
+pub mod Bays
 pub mod AgreedLaws
 mod Examples
 pub mod GateLaws

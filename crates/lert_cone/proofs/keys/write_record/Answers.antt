@@ -3,20 +3,12 @@ use Rattle.lert_reports.specs.Stored.{Stored}
 use Rattle.lert_spec.specs.declared.numbers.Numbers.{Numbers}
 use Rattle.lert_spec.specs.declared.report.Report.{Report}
 use Rattle.lert_cone.proofs.RecordLaws.{record_fits, same_record}
-use Rattle.lert_bay.specs.Kept.{Bays}
+use Rattle.lert_cone.proofs.Bays.{Bays, bays_of}
 use Rattle.lert_cone.proofs.keys.write_record.Given as given
 use Rattle.lert_cone.proofs.keys.write_record.Goals as goal
 
 abbrev bays : (g : given.Over) → Bays g.row.B.Denot
-bays g = record {
-  faults = g.B.Faulty.faults;
-  mark = g.B.Faulty.mark;
-  files = g.B.Bay.files;
-  leaves = g.B.Bay.leaves;
-  moment = g.B.Bay.moment;
-  left_since = g.B.Bay.left_since;
-  handed_out = g.B.Bay.handed_out;
-}
+bays g = bays_of g.B.Faulty g.B.Bay
 
 pub returns-clause-few : goal.returns-clause-few
 returns-clause-few g c =

@@ -3,7 +3,7 @@ use Rattle.std.proofs.lemmas.Result.{err_from_is_err_and, IfErr-weaker}
 use Rattle.lert_bay.specs.declared.bay.TheConstants.{JOURNAL}
 use Rattle.lert_bay.specs.Files.{Files}
 use Rattle.lert_spec.specs.Limits.{IsValid}
-use Rattle.lert_bay.specs.Kept.{Bays}
+use Rattle.lert_files.proofs.Bays.{Bays, bays_of}
 use Rattle.lert_bay.proofs.HandedLaws.{up_to_on, up_to_room, up_to_same}
 use Rattle.lert_bay.proofs.KeptLaws.{IsLawful, reading_call, reading_on}
 use Rattle.lert_files.proofs.HeadLaws.{told, headed_back, left_back, other_back, read_front}
@@ -11,15 +11,7 @@ use Rattle.lert_files.proofs.journal_header.read_journal_header.Given as given
 use Rattle.lert_files.proofs.journal_header.read_journal_header.Goals as goal
 
 abbrev bays : (g : given.Over) → Bays g.row.B.Denot
-bays g = record {
-  faults = g.B.Faulty.faults;
-  mark = g.B.Faulty.mark;
-  files = g.B.Bay.files;
-  leaves = g.B.Bay.leaves;
-  moment = g.B.Bay.moment;
-  left_since = g.B.Bay.left_since;
-  handed_out = g.B.Bay.handed_out;
-}
+bays g = bays_of g.B.Faulty g.B.Bay
 
 lawful : (g : given.Over) → IsLawful (bays g)
 lawful g = record { as_read = g.met.B.Bay.as_read; since_now = g.met.B.Bay.since_now; only_now = g.met.B.Bay.only_now; since_earlier = g.met.B.Bay.since_earlier }

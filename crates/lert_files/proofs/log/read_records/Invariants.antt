@@ -2,7 +2,8 @@ use Rattle.std.proofs.Common.{◌≡◌, ◌+◌, ◌-◌, ◌*◌, ◌≤◌, S
 use Rattle.lert_bay.specs.declared.bay.TheConstants.{LOG}
 use Rattle.lert_bay.specs.Files.{Files}
 use Rattle.lert_bay.specs.Settled.{part}
-use Rattle.lert_bay.specs.Kept.{Bays, OnlyReads}
+use Rattle.lert_bay.specs.Kept.{OnlyReads}
+use Rattle.lert_files.proofs.Bays.{Bays, bays_of}
 use Rattle.lert_spec.specs.Edges.{capacity}
 use Rattle.lert_reports.specs.Log.{log_header, most_record, HasLogUpTo}
 use Rattle.lert_reports.specs.LogText.{LogRecord}
@@ -10,15 +11,7 @@ use Rattle.lert_files.specs.Read.{steps, HasRead}
 use Rattle.lert_files.proofs.log.read_records.Given as goal
 
 abbrev pub bays : (g : goal.Over) → Bays g.row.B.Denot
-bays g = record {
-  faults = g.B.Faulty.faults;
-  mark = g.B.Faulty.mark;
-  files = g.B.Bay.files;
-  leaves = g.B.Bay.leaves;
-  moment = g.B.Bay.moment;
-  left_since = g.B.Bay.left_since;
-  handed_out = g.B.Bay.handed_out;
-}
+bays g = bays_of g.B.Faulty g.B.Bay
 
 -- what was read so far is that of some records, which stand up to this gate where the file is told
 abbrev pub invariant-records : goal.invariant-records

@@ -1,6 +1,6 @@
 use Rattle.std.proofs.Common.{◌≡◌, min, length, refl, ap, sym, ◌∙◌, arith}
 use Rattle.lert_bay.specs.declared.bay.TheConstants.{JOURNAL, LOG}
-use Rattle.lert_bay.specs.Kept.{Bays}
+use Rattle.lert_files.proofs.Bays.{Bays, bays_of}
 use Rattle.lert_bay.proofs.KeptLaws.{IsLawful, apart_from_log, reads_call}
 use Rattle.lert_reports.specs.Log.{log_header}
 use Rattle.lert_spec.specs.Trace.{agreed}
@@ -11,15 +11,7 @@ use Rattle.lert_files.proofs.log_header.read_log_header.Given as given
 use Rattle.lert_files.proofs.log_header.read_log_header.Goals as goal
 
 abbrev bays : (g : given.Over) → Bays g.row.B.Denot
-bays g = record {
-  faults = g.B.Faulty.faults;
-  mark = g.B.Faulty.mark;
-  files = g.B.Bay.files;
-  leaves = g.B.Bay.leaves;
-  moment = g.B.Bay.moment;
-  left_since = g.B.Bay.left_since;
-  handed_out = g.B.Bay.handed_out;
-}
+bays g = bays_of g.B.Faulty g.B.Bay
 
 lawful : (g : given.Over) → IsLawful (bays g)
 lawful g = record { as_read = g.met.B.Bay.as_read; since_now = g.met.B.Bay.since_now; only_now = g.met.B.Bay.only_now; since_earlier = g.met.B.Bay.since_earlier }

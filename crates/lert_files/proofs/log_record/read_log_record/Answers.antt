@@ -6,7 +6,7 @@ use Rattle.lert_gatelog.specs.Gated.{IsOpen, Log}
 use Rattle.lert_reports.specs.Log.{most_record, HasLogUpTo}
 use Rattle.lert_reports.specs.LogText.{log_payload_of}
 use Rattle.lert_bay.specs.declared.bay.TheConstants.{LOG}
-use Rattle.lert_bay.specs.Kept.{Bays}
+use Rattle.lert_files.proofs.Bays.{Bays, bays_of}
 use Rattle.lert_bay.proofs.KeptLaws.{IsLawful, reads_as}
 use Rattle.lert_files.proofs.GateLaws.{same_place, same_fault, not_err, malformed_or_failed, gate_leaves, payload_leaves}
 use Rattle.lert_files.proofs.StepLaws.{up_more}
@@ -14,15 +14,7 @@ use Rattle.lert_files.proofs.log_record.read_log_record.Given as given
 use Rattle.lert_files.proofs.log_record.read_log_record.Goals as goal
 
 abbrev bays : (g : given.Over) → Bays g.row.B.Denot
-bays g = record {
-  faults = g.B.Faulty.faults;
-  mark = g.B.Faulty.mark;
-  files = g.B.Bay.files;
-  leaves = g.B.Bay.leaves;
-  moment = g.B.Bay.moment;
-  left_since = g.B.Bay.left_since;
-  handed_out = g.B.Bay.handed_out;
-}
+bays g = bays_of g.B.Faulty g.B.Bay
 
 lawful : (g : given.Over) → IsLawful (bays g)
 lawful g = record { as_read = g.met.B.Bay.as_read; since_now = g.met.B.Bay.since_now; only_now = g.met.B.Bay.only_now; since_earlier = g.met.B.Bay.since_earlier }

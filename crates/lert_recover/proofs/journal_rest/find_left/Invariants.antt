@@ -2,21 +2,14 @@ use Rattle.std.proofs.Common.{◌≡◌, ◌+◌, ◌-◌, ◌*◌, ◌^◌, ◌
 use Rattle.lert_bay.specs.declared.bay.TheConstants.{JOURNAL}
 use Rattle.lert_bay.specs.Files.{Files}
 use Rattle.lert_cone.specs.History.{most_payload}
-use Rattle.lert_bay.specs.Kept.{Bays, ReadsBay}
+use Rattle.lert_bay.specs.Kept.{ReadsBay}
+use Rattle.lert_cone.proofs.Bays.{Bays, bays_of}
 use Rattle.lert_spec.specs.Edges.{capacity}
 use Rattle.lert_recover.specs.Replayed.{JournalEnds, JournalLeavesAt}
 use Rattle.lert_recover.proofs.journal_rest.find_left.Given as goal
 
 abbrev pub bays : (g : goal.Over) → Bays g.row.B.Denot
-bays g = record {
-  faults = g.B.Faulty.faults;
-  mark = g.B.Faulty.mark;
-  files = g.B.Bay.files;
-  leaves = g.B.Bay.leaves;
-  moment = g.B.Bay.moment;
-  left_since = g.B.Bay.left_since;
-  handed_out = g.B.Bay.handed_out;
-}
+bays g = bays_of g.B.Faulty g.B.Bay
 
 -- what is so from here on is so from the first gate on
 abbrev pub invariant-records : goal.invariant-records

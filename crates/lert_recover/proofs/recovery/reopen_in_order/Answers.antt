@@ -6,7 +6,7 @@ use Rattle.std.specs.Prelude.{All, IfOk, MatchResult, if◌then◌else◌}
 use Rattle.lert_base.specs.Packet.{Packet, events_of}
 use Rattle.lert_bay.specs.declared.bay.TheConstants.{JOURNAL, LOG, FRAMES}
 use Rattle.lert_bay.specs.Files.{Files}
-use Rattle.lert_bay.specs.Kept.{Bays}
+use Rattle.lert_cone.proofs.Bays.{Bays, bays_of}
 use Rattle.lert_bay.proofs.KeptLaws.{IsLawful, calls_as}
 use Rattle.lert_gatelog.specs.Gated.{IsClosed}
 use Rattle.lert_cone.specs.declared.state.ConeState.TheVariants.{Finished, Running}
@@ -40,15 +40,7 @@ use Rattle.lert_recover.proofs.recovery.reopen_in_order.Given as given
 use Rattle.lert_recover.proofs.recovery.reopen_in_order.Goals as goal
 
 abbrev bays : (g : given.Over) → Bays g.row.B.Denot
-bays g = record {
-  faults = g.B.Faulty.faults;
-  mark = g.B.Faulty.mark;
-  files = g.B.Bay.files;
-  leaves = g.B.Bay.leaves;
-  moment = g.B.Bay.moment;
-  left_since = g.B.Bay.left_since;
-  handed_out = g.B.Bay.handed_out;
-}
+bays g = bays_of g.B.Faulty g.B.Bay
 
 lawful : (g : given.Over) → IsLawful (bays g)
 lawful g = record { as_read = g.met.B.Bay.as_read; since_now = g.met.B.Bay.since_now; only_now = g.met.B.Bay.only_now; since_earlier = g.met.B.Bay.since_earlier }

@@ -2,7 +2,8 @@ use Rattle.std.proofs.Common.{◌≡◌, ◌+◌, ◌-◌, ◌*◌, ◌^◌, ◌
 use Rattle.lert_base.specs.Packet.{Packet}
 use Rattle.lert_bay.specs.declared.bay.TheConstants.{JOURNAL, FRAMES}
 use Rattle.lert_bay.specs.Files.{Files}
-use Rattle.lert_bay.specs.Kept.{Bays, CallsBay}
+use Rattle.lert_bay.specs.Kept.{CallsBay}
+use Rattle.lert_cone.proofs.Bays.{Bays, bays_of}
 use Rattle.lert_cone.specs.Framed.{HoldsSome}
 use Rattle.lert_cone.specs.KeepsLog.{KeepsLogOf, head_of}
 use Rattle.lert_cone.specs.Replaying.{IsSameReplay}
@@ -14,15 +15,7 @@ use Rattle.lert_recover.specs.Replayed.{FlushesNothing, HasReplayed, IsJournalSa
 use Rattle.lert_recover.proofs.replay.replay_all.Given as goal
 
 abbrev pub bays : (g : goal.Over) → Bays g.row.B.Denot
-bays g = record {
-  faults = g.B.Faulty.faults;
-  mark = g.B.Faulty.mark;
-  files = g.B.Bay.files;
-  leaves = g.B.Bay.leaves;
-  moment = g.B.Bay.moment;
-  left_since = g.B.Bay.left_since;
-  handed_out = g.B.Bay.handed_out;
-}
+bays g = bays_of g.B.Faulty g.B.Bay
 
 -- the packets up to this gate were replayed
 abbrev pub invariant-packets : goal.invariant-packets

@@ -8,7 +8,7 @@ use Rattle.lert_reports.specs.Stored.{Stored}
 use Rattle.lert_io.proofs.Rising.{risen_since}
 use Rattle.lert_base.specs.declared.cone_fault.ConeFault.{ConeFault}
 use Rattle.lert_cone.specs.declared.state.ConeState.TheVariants.{Running}
-use Rattle.lert_bay.specs.Kept.{Bays}
+use Rattle.lert_cone.proofs.Bays.{Bays, bays_of}
 use Rattle.lert_cone.specs.Listing.{Listing}
 use Rattle.lert_cone.specs.InStep.{IsLogging}
 use Rattle.lert_cone.specs.Stands.{Standing, over_of, is_broken, is_finished, cone_fault}
@@ -16,21 +16,13 @@ use Rattle.lert_cone.proofs.Admits.{Admits, not_admitted}
 use Rattle.lert_cone.proofs.AdmitsPacket.{admitted, still_cone}
 use Rattle.lert_cone.proofs.BreaksOff.{broken_off}
 use Rattle.lert_bay.proofs.KeptLaws.{IsLawful}
-use Rattle.lert_cone.proofs.StandLaws.{broken_cone}
+use Rattle.lert_cone.proofs.StandLaws.{broken_cone, cone_at}
 use Rattle.lert_cone.proofs.FaultLaws.{is_broken_by, by_bay_of}
 use Rattle.lert_cone.proofs.cone.Cone.admit.Given as given
 use Rattle.lert_cone.proofs.cone.Cone.admit.Goals as goal
 
 abbrev bays : (g : given.Over) → Bays g.row.B.Denot
-bays g = record {
-  faults = g.B.Faulty.faults;
-  mark = g.B.Faulty.mark;
-  files = g.B.Bay.files;
-  leaves = g.B.Bay.leaves;
-  moment = g.B.Bay.moment;
-  left_since = g.B.Bay.left_since;
-  handed_out = g.B.Bay.handed_out;
-}
+bays g = bays_of g.B.Faulty g.B.Bay
 
 lawful : (g : given.Over) → IsLawful (bays g)
 lawful g = record { as_read = g.met.B.Bay.as_read; since_now = g.met.B.Bay.since_now; only_now = g.met.B.Bay.only_now; since_earlier = g.met.B.Bay.since_earlier }
@@ -38,28 +30,8 @@ lawful g = record { as_read = g.met.B.Bay.as_read; since_now = g.met.B.Bay.since
 -- a refusal before the first step
 pub returns-in_err-test : goal.returns-in_err-test
 returns-in_err-test g c =
-    let all = not_admitted (bays g) (lawful g) (packet_of c.args.entry.now) c.args.self.now c.len-len.result c.len-len.ensures c.test.result c.in_err-test.field-0.0 c.in_err-test.was
-    c.test.ensures.closed c.test.ensures.broken c.test.ensures.full c.test.ensures.refusal c.from_residual.result c.from_residual.ensures.1 in
-    record {
-      stands_for = all.stands_for;
-      answers = all.answers;
-      acked = all.acked;
-      taken = all.taken;
-      in_time_so_far = all.in_time_so_far;
-      stays = all.stays;
-      unchanged = all.unchanged;
-      broke = all.broke;
-      same_cone = all.same_cone;
-      closed = all.closed;
-      broken = all.broken;
-      full = all.full;
-      bay_failed = all.bay_failed;
-      unsound = all.unsound;
-      shows = all.shows;
-      each_moment = all.each_moment;
-      seen = all.seen;
-      kept = all.kept;
-    }
+    not_admitted (bays g) (lawful g) (packet_of c.args.entry.now) c.args.self.now c.len-len.result c.len-len.ensures c.test.result c.in_err-test.field-0.0 c.in_err-test.was
+    c.test.ensures.closed c.test.ensures.broken c.test.ensures.full c.test.ensures.refusal c.from_residual.result c.from_residual.ensures.1
 
 pub take_packet-requires : goal.take_packet-requires
 take_packet-requires g c =
@@ -87,20 +59,7 @@ take_packet-requires g c =
 pub invariant_of-self : goal.invariant_of-self
 invariant_of-self g c =
     let len_is : c.self.inside.buffer.len ≡ length c.self.inside.buffer.items = omega (arith, c.self.inside.buffer.ok) in
-    broken_cone g.B.Bay.files g.B.Bay.leaves g.B.Faulty.faults g.B.Faulty.mark (record {
-      bay = c.self.inside.bay;
-      made = c.self.inside.made.value;
-      listing = c.self.inside.tally.listing;
-      rows = c.self.inside.tally.rows;
-      reports = c.self.inside.tally.due.reports;
-      events = c.self.inside.events;
-      state = c.self.inside.state;
-      over = over_of c.self.inside.over;
-      gate = c.self.inside.journal.gate;
-      log = c.self.inside.log;
-      last = c.self.inside.last;
-    })
-    _ c.self.inside.tally c.take_packet.new.tally c.self.inside.journal c.take_packet.new.journal _ _ _ _
+    broken_cone g.B.Bay.files g.B.Bay.leaves g.B.Faulty.faults g.B.Faulty.mark _ _ c.self.inside.tally c.take_packet.new.tally c.self.inside.journal c.take_packet.new.journal _ _ _ _
     (ap is_broken c.broken_by-self-inside.ensures ∙ is_broken_by c.in-Err.fault)
     (ap (λ (l : Listing). l.settings) c.take_packet.ensures.listing) refl refl c.take_packet.ensures.file c.take_packet.ensures.most
     (sym (length_refill c.self.inside.buffer.len c.self.inside.buffer.items c.take_packet.new.buffer len_is) ∙ len_is) refl c.take_packet.ensures.kept.never_falls
@@ -114,59 +73,17 @@ pub returns-in-Err : goal.returns-in-Err
 returns-in-Err g c =
     let ok = subst (λ (v : Standing g.row.B.Denot). (v.state ≡ Running) × (v.events + c.len-len.result ≤ capacity v.listing.settings)) (sym c.self.view_is) c.in_ok-test.ensures.ok in
     let did = rw c.in-Err.is at c.take_packet.ensures in
-    let here = broken_off (bays g) (lawful g) (packet_of c.args.entry.now) c.self.inside.bay c.self.inside.made.value c.take_packet.new.bay c.self.inside.tally c.take_packet.new.tally
+    let here = broken_off (bays g) (lawful g) (packet_of c.args.entry.now)
+    c.self.inside.bay c.self.inside.made.value c.take_packet.new.bay c.self.inside.tally c.take_packet.new.tally
     c.self.inside.events
     (length c.deref_mut.result.now) (length c.take_packet.new.buffer) c.self.inside.state (over_of c.self.inside.over) c.self.inside.journal c.take_packet.new.journal c.self.inside.log
     c.take_packet.new.log c.self.inside.last
     ok.0 (omega (arith, ok.1, c.len-len.ensures)) _ _ c.in-Err.fault c.broken_by-self-inside.ensures (ap (λ (e : Entry). Some (packet_of e)) c.of.ensures) c.self.invariant.never_falls did in
-    let turned = subst (λ (v : Standing g.row.B.Denot). Admits (bays g) (packet_of c.args.entry.now) v (record {
-      bay = c.take_packet.new.bay;
-      made = c.self.inside.made.value;
-      listing = c.take_packet.new.tally.listing;
-      rows = c.take_packet.new.tally.rows;
-      reports = c.take_packet.new.tally.due.reports;
-      events = c.self.inside.events;
-      state = c.broken_by-self-inside.result;
-      over = Some (packet_of c.of.result.value);
-      gate = c.take_packet.new.journal.gate;
-      log = c.take_packet.new.log;
-      last = c.self.inside.last;
-    }) (Err
-    (cone_fault c.in-Err.fault))) c.self.view_is here in
-    let all = subst (λ (fault : ConeFault). Admits (bays g) (packet_of c.args.entry.now) c.args.self.now (record {
-      bay = c.take_packet.new.bay;
-      made = c.self.inside.made.value;
-      listing = c.take_packet.new.tally.listing;
-      rows = c.take_packet.new.tally.rows;
-      reports = c.take_packet.new.tally.due.reports;
-      events = c.self.inside.events;
-      state = c.broken_by-self-inside.result;
-      over = Some (packet_of c.of.result.value);
-      gate = c.take_packet.new.journal.gate;
-      log = c.take_packet.new.log;
-      last = c.self.inside.last;
-    }) (Err fault))
-    (sym c.from.ensures) turned in
-    record {
-      stands_for = all.stands_for;
-      answers = all.answers;
-      acked = all.acked;
-      taken = all.taken;
-      in_time_so_far = all.in_time_so_far;
-      stays = all.stays;
-      unchanged = all.unchanged;
-      broke = all.broke;
-      same_cone = all.same_cone;
-      closed = all.closed;
-      broken = all.broken;
-      full = all.full;
-      bay_failed = all.bay_failed;
-      unsound = all.unsound;
-      shows = all.shows;
-      each_moment = all.each_moment;
-      seen = all.seen;
-      kept = all.kept;
-    }
+    subst (λ (fault : ConeFault). Admits (bays g) (packet_of c.args.entry.now) c.args.self.now (cone_at c.take_packet.new.bay c.self.inside.made.value c.take_packet.new.tally
+    c.self.inside.events c.broken_by-self-inside.result (Some (packet_of c.of.result.value)) c.take_packet.new.journal.gate c.take_packet.new.log c.self.inside.last) (Err fault))
+    (sym c.from.ensures) (subst (λ (v : Standing g.row.B.Denot). Admits (bays g) (packet_of c.args.entry.now) v (cone_at c.take_packet.new.bay c.self.inside.made.value
+    c.take_packet.new.tally c.self.inside.events c.broken_by-self-inside.result (Some (packet_of c.of.result.value)) c.take_packet.new.journal.gate c.take_packet.new.log
+    c.self.inside.last) (Err (cone_fault c.in-Err.fault))) c.self.view_is here)
 
 -- all keys are taken
 pub invariant_of-self-2 : goal.invariant_of-self-2
@@ -199,37 +116,6 @@ returns g c =
     c.take_packet.new.log c.self.inside.last
     ok.0 (omega (arith, ok.1, c.len-len.ensures)) (c.self.inside.events + c.len-len.result) c.len.result (ap (λ n. c.self.inside.events + n) c.len-len.ensures) journaled.some
     (c.self.invariant.closed (ap is_broken ok.0) ∙ ap is_finished ok.0) (c.len.ensures.count ∙ ap length (ap (λ (v : Stored). v.reports) c.store.ensures)) did in
-    let all = subst (λ (v : Standing g.row.B.Denot). Admits (bays g) (packet_of c.args.entry.now) v (record {
-      bay = c.take_packet.new.bay;
-      made = c.self.inside.made.value;
-      listing = c.take_packet.new.tally.listing;
-      rows = c.take_packet.new.tally.rows;
-      reports = c.take_packet.new.tally.due.reports;
-      events = c.self.inside.events + c.len-len.result;
-      state = c.self.inside.state;
-      over = over_of c.self.inside.over;
-      gate = c.take_packet.new.journal.gate;
-      log = c.take_packet.new.log;
-      last = c.self.inside.last;
-    })
-    (Ok (record { from = c.self.inside.events + 1; to = c.self.inside.events + c.len-len.result; reports = c.len.result }))) c.self.view_is here in
-    record {
-      stands_for = all.stands_for;
-      answers = all.answers;
-      acked = all.acked;
-      taken = all.taken;
-      in_time_so_far = all.in_time_so_far;
-      stays = all.stays;
-      unchanged = all.unchanged;
-      broke = all.broke;
-      same_cone = all.same_cone;
-      closed = all.closed;
-      broken = all.broken;
-      full = all.full;
-      bay_failed = all.bay_failed;
-      unsound = all.unsound;
-      shows = all.shows;
-      each_moment = all.each_moment;
-      seen = all.seen;
-      kept = all.kept;
-    }
+    subst (λ (v : Standing g.row.B.Denot). Admits (bays g) (packet_of c.args.entry.now) v (cone_at c.take_packet.new.bay c.self.inside.made.value c.take_packet.new.tally
+    (c.self.inside.events + c.len-len.result) c.self.inside.state (over_of c.self.inside.over) c.take_packet.new.journal.gate c.take_packet.new.log c.self.inside.last)
+    (Ok (record { from = c.self.inside.events + 1; to = c.self.inside.events + c.len-len.result; reports = c.len.result }))) c.self.view_is here

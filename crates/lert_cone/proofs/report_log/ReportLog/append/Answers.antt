@@ -8,20 +8,12 @@ use Rattle.lert_gatelog.specs.Kept.{InEach, IsWithOrWithout, IsWhollySettled, Ke
 use Rattle.lert_cone.specs.Record.{LogPlace, payload_at, payload_len}
 use Rattle.lert_cone.proofs.TextLaws.{few_new, room_new, reach_new}
 use Rattle.lert_cone.proofs.RecordLaws.{refused_record, text_at, text_long, payload_long, is_appendix}
-use Rattle.lert_bay.specs.Kept.{Bays}
+use Rattle.lert_cone.proofs.Bays.{Bays, bays_of}
 use Rattle.lert_cone.proofs.report_log.ReportLog.append.Given as given
 use Rattle.lert_cone.proofs.report_log.ReportLog.append.Goals as goal
 
 abbrev bays : (g : given.Over) → Bays g.row.B.Denot
-bays g = record {
-  faults = g.B.Faulty.faults;
-  mark = g.B.Faulty.mark;
-  files = g.B.Bay.files;
-  leaves = g.B.Bay.leaves;
-  moment = g.B.Bay.moment;
-  left_since = g.B.Bay.left_since;
-  handed_out = g.B.Bay.handed_out;
-}
+bays g = bays_of g.B.Faulty g.B.Bay
 
 pub write_log-len-requires-clause-few : goal.write_log-len-requires-clause-few
 write_log-len-requires-clause-few g c =

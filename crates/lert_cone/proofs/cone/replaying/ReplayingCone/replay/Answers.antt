@@ -112,18 +112,8 @@ returns-in-Err-replay_keys g c =
             stands = (held_at c.at_gate-self-inside.ensures (c.in-Ok-true.ensures.found seen told c.in-Ok-true.field-0-test));
             follows = c.in-Ok-true.ensures.follows c.in-Ok-true.field-0-test;
           }));
-      broke = λ i. record {
-        bay = c.replay_keys.new.bay;
-        made = c.self.inside.made.value;
-        listing = c.replay_keys.ensures.listing i;
-        rows = c.replay_keys.new.tally.rows;
-        reports = c.replay_keys.new.tally.due.reports;
-        events = c.self.inside.events;
-        stopped = Some c.from-fault.result;
-        gate = c.read_packet.new.journal.gate;
-        log = c.replay_keys.new.log;
-        last = c.self.inside.last;
-      };
+      broke = λ i. record (seen_as c.replay_keys.new.bay c.self.inside.made.value c.replay_keys.new.tally c.self.inside.events (Some c.from-fault.result)
+          c.read_packet.new.journal.gate c.replay_keys.new.log c.self.inside.last) { listing = c.replay_keys.ensures.listing i };
       replays = λ seen told h done way gate_same. subst (λ (fault : ReplayFault). fault ≡ Failed) (sym c.from-fault.ensures)
           (only_by_bay c.in-Err-replay_keys.fault (λ file at same.
           with_keys (bays g) (lawful g) c.self.inside.bay c.read_packet.new.bay _ _ _ _ _ c.read_packet.ensures.keeps c.self.inside.tally
@@ -208,18 +198,8 @@ returns-in_default g c =
             journaled = c.in-Ok-true.ensures.journaled c.in-Ok-true.field-0-test;
             follows = c.in-Ok-true.ensures.follows c.in-Ok-true.field-0-test;
             next_is = c.gate.ensures.value ∙ moved;
-            is = λ i. record {
-              bay = c.replay_keys.new.bay;
-              made = c.self.inside.made.value;
-              listing = listing_is i;
-              rows = c.replay_keys.new.tally.rows;
-              reports = c.replay_keys.new.tally.due.reports;
-              events = events_is i;
-              stopped = c.self.inside.stopped;
-              gate = (sym c.gate.ensures.value) i;
-              log = c.replay_keys.new.log;
-              last = c.self.inside.last;
-            };
+            is = λ i. record (seen_as c.replay_keys.new.bay c.self.inside.made.value c.replay_keys.new.tally (events_is i) c.self.inside.stopped
+                ((sym c.gate.ensures.value) i) c.replay_keys.new.log c.self.inside.last) { listing = listing_is i };
           };
       forward = went_on c.at_gate-self-inside.result.gate c.args.gate c.read_packet.new.journal.gate c.gate.result
           c.self.inside.tally.listing.settings.packet (ap (λ (j : Log). j.gate) c.at_gate-self-inside.ensures) c.gate.ensures.value

@@ -1,7 +1,7 @@
 -- What a replay of one record keeps of its cone, at each of its exits.
 use Rattle.std.proofs.Common.{◌≡◌, ◌∙◌, ◌*◌, ◌++◌, length, take, drop, None, refl, sym, ap, subst, arith}
 use Rattle.lert_base.specs.Entries.{packet_of}
-use Rattle.lert_bay.specs.Kept.{Bays}
+use Rattle.lert_cone.proofs.Bays.{Bays, bays_of}
 use Rattle.lert_bay.proofs.KeptLaws.{IsLawful}
 use Rattle.lert_gatelog.specs.Gated.{Log}
 use Rattle.lert_journal.specs.Payload.{payload_of}
@@ -12,7 +12,7 @@ use Rattle.lert_cone.specs.Listing.{Listing}
 use Rattle.lert_cone.specs.Room.{room_of}
 use Rattle.lert_cone.specs.Replaying.{Replaying}
 use Rattle.lert_cone.specs.Wrote.{Anything}
-use Rattle.lert_cone.proofs.ReplayCalls.{bays_of, length_more, lent_again, listing_more, moved_on}
+use Rattle.lert_cone.proofs.ReplayCalls.{length_more, lent_again, listing_more, moved_on}
 use Rattle.lert_cone.proofs.ReplayCalls.{refilled, refilled_twice}
 use Rattle.lert_cone.proofs.ReplayStands.{near_then, read_settled, read_shut, seen_as, settled_then, stopped_cone}
 use Rattle.lert_cone.proofs.FaultLaws.{turns_as, turns_on}
@@ -20,7 +20,7 @@ use Rattle.lert_cone.proofs.cone.replaying.ReplayingCone.replay.Given as given
 use Rattle.lert_cone.proofs.cone.replaying.ReplayingCone.replay.Goals as goal
 
 abbrev pub bays : (g : given.Over) → Bays g.row.B.Denot
-bays g = bays_of g.B.Faulty.faults g.B.Faulty.mark g.B.Bay.files g.B.Bay.leaves g.B.Bay.moment g.B.Bay.left_since g.B.Bay.handed_out
+bays g = bays_of g.B.Faulty g.B.Bay
 
 pub lawful : (g : given.Over) → IsLawful (bays g)
 lawful g = record { as_read = g.met.B.Bay.as_read; since_now = g.met.B.Bay.since_now; only_now = g.met.B.Bay.only_now; since_earlier = g.met.B.Bay.since_earlier }
