@@ -180,6 +180,3 @@ module _ (s : Numbers) (valid : IsValid s) where
       row_none k zero = refl
       row_none zero (suc n) = refl
       row_none (suc k) (suc n) = row_none k n
-
-  pub young_none : (bins : List Bin) → bins ≡ [] → AreYoung s [] (edge s 0 0) bins
-  young_none bins none = record { is = none ∙ sym (young-none s [] (edge s 0 0) (omega arith)) }

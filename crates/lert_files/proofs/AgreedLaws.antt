@@ -10,15 +10,6 @@ agreed_front (x ∷ text) bytes zero enough = absurd (omega (arith, enough))
 agreed_front (x ∷ text) [] (suc n) enough = refl
 agreed_front (x ∷ text) (y ∷ bytes) (suc n) enough = ap (λ rest. cond (x == y) (suc rest) 0) (agreed_front text bytes n (omega (arith, enough)))
 
-pub agreed_most : (text bytes : List ℕ) → agreed text bytes ≤ length text
-agreed_most [] bytes = omega arith
-agreed_most (x ∷ text) [] = omega arith
-agreed_most (x ∷ text) (y ∷ bytes) =
-    elim (cases_Bool (x == y)) [
-      | inl same ↦ omega (arith, agreed_most text bytes, ap (λ t. cond t (suc (agreed text bytes)) 0) same)
-      | inr other ↦ omega (arith, ap (λ t. cond t (suc (agreed text bytes)) 0) other)
-    ]
-
 -- bytes that begin with the text have all of it in common
 pub agreed_whole : (text bytes : List ℕ) → take (length text) bytes ≡ text → agreed text bytes ≡ length text
 agreed_whole [] bytes same = refl

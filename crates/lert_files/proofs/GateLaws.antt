@@ -13,9 +13,6 @@ use Rattle.lert_files.specs.Read.{GateLeavesAt}
 pub same_place : {T : Type 0} (file at other_file other : ℕ) → ◌≡◌ {A = Result T ReopenFault} (Err (Malformed file at)) (Err (Malformed other_file other)) → at ≡ other
 same_place file at other_file other is = cc
 
-pub same_file : {T : Type 0} (file at other_file other : ℕ) → ◌≡◌ {A = Result T ReopenFault} (Err (Malformed file at)) (Err (Malformed other_file other)) → file ≡ other_file
-same_file file at other_file other is = cc
-
 pub err_is : {T : Type 0} (one other : ReopenFault) → ◌≡◌ {A = Result T ReopenFault} (Err one) (Err other) → one ≡ other
 err_is one other is = cc
 

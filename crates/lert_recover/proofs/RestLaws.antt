@@ -75,13 +75,7 @@ module _ (payload : List ℕ) (small : (k : ℕ) → slice_index payload k < 256
         let there = packet_there s cone bytes gate none opened in
         Too_many (packet_in payload) there.holds running (omega (arith, many, keys_is, there.count)) refl
 
--- a payload that leaves it, and bytes that are no record
-pub found_spoiled : (s : Numbers) (cone n0 : ℕ) (closed : Bool) (n : ℕ) (bytes : List ℕ) (gate at place : ℕ) (payload : List ℕ) → left s cone payload ≡ Some place →
-    IsOpen (most_payload s) bytes gate payload → at ≡ gate + 1 + place →
-    ReplayLeavesAt s cone n0 closed n bytes gate at
-found_spoiled s cone n0 closed n bytes gate at place payload first opened at_is = In_record
-    (inr (record { payload = payload; place = place; stands = opened; first = first; at_is = at_is }))
-
+-- bytes that are no record
 pub found_broken : (s : Numbers) (cone n0 : ℕ) (closed : Bool) (n most : ℕ) (bytes : List ℕ) (gate at : ℕ) → most ≡ most_payload s → BreaksAt most bytes gate at →
     ReplayLeavesAt s cone n0 closed n bytes gate at
 found_broken s cone n0 closed n most bytes gate at most_is breaks = In_record (inl (subst (λ m. BreaksAt m bytes gate at) most_is breaks))

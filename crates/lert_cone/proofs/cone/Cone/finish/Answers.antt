@@ -14,12 +14,12 @@ use Rattle.lert_cone.specs.declared.state.ConeState.TheVariants.{Running, Finish
 use Rattle.lert_cone.specs.InStep.{IsLogging}
 use Rattle.lert_cone.specs.Listing.{Listing}
 use Rattle.lert_cone.specs.Sound.{IsKept, IsSound, IsSoundAs, IsSoundOver}
-use Rattle.lert_cone.specs.Stands.{Standing, WasSound, over_of, is_broken, is_finished, is_refusal, broken_by}
+use Rattle.lert_cone.specs.Stands.{Standing, StandsFor, over_of, is_broken, is_finished, is_refusal, broken_by}
 use Rattle.lert_reports.specs.Stored.{Stored}
 use Rattle.lert_cone.proofs.SoundLaws.{turns_back}
 use Rattle.lert_io.proofs.Rising.{risen_since}
 use Rattle.lert_cone.proofs.AppendLaws.{whole_of}
-use Rattle.lert_cone.proofs.StandLaws.{stands_whole, stands_broken, ended_cone, broken_cone, reports_finished}
+use Rattle.lert_cone.proofs.StandLaws.{cone_at, stands_whole, stands_broken, ended_cone, broken_cone, reports_finished}
 use Rattle.lert_cone.proofs.FaultLaws.{any_turn, by_bay_of, by_read_of, failed_of, is_broken_by, kept_since, no_refusal, turned_none, turns_as, unsound_of, untold}
 use Rattle.lert_cone.proofs.Refusals.{fault_as, no_failed, no_fault, no_unsound, one_fault}
 use Rattle.lert_cone.proofs.StateLaws.{broke_broken, broke_closed, passed_broken, passed_closed}
@@ -83,105 +83,80 @@ returns-in_err-test_state g c =
     })
 
 -- a refusal in the middle
-pub returns-in-Err-clause-stays : goal.returns-in-Err-clause-stays
-returns-in-Err-clause-stays g c = rw (← c.self.view_is) (λ h stands.
-    let running : c.self.inside.state ≡ Running = subst (λ (v : Standing g.row.B.Denot). v.state ≡ Running) (sym c.self.view_is) c.in_ok-test_state.ensures.ok in
-    stands_broken g.B.Bay.files g.B.Bay.leaves g.B.Faulty.faults _ _ h (record {
-      settings = ap (λ (l : Listing). l.settings) c.finish.ensures.listing;
-      cone = ap (λ
-          (l : Listing). l.cone) c.finish.ensures.listing;
-      made = refl;
-      last = refl;
-    }) (ap is_broken c.broken_by-self-inside.ensures ∙ is_broken_by c.in-Err.fault) refl
-    (λ same. risen_since (g.B.Faulty.faults c.self.inside.made.value) (g.B.Faulty.faults c.self.inside.bay) (g.B.Faulty.faults c.finish.new.bay) c.self.invariant.never_falls
-    c.finish.ensures.keeps.kept.never_falls
-    (c.finish.ensures.keeps.kept.failed (c.in-Err.is ∙ ap Err (by_bay_of c.in-Err.fault (sym c.broken_by-self-inside.ensures ∙ same)))))
-    (λ file at same sound. turned_none (g.B.Bay.files c.self.inside.bay) (g.B.Bay.files c.finish.new.bay) c.finish.ensures.keeps.journal.seen (untold (g.B.Bay.files c.self.inside.bay)
-    (λ seen told. c.finish.ensures.sound seen told h (stands.whole (ap is_broken running) sound seen told).in_step file at (c.in-Err.is ∙ ap Err (by_read_of c.in-Err.fault file at
-    (sym c.broken_by-self-inside.ensures ∙ same))))))
-    (λ sound seen told.
-    let was = turns_back (λ old new. new 0 ≡ old 0) (g.B.Bay.files c.self.inside.bay) (g.B.Bay.files c.finish.new.bay) c.finish.ensures.keeps.journal.seen seen told in
-    let whole = stands.whole (ap is_broken running) sound was.0 was.1 in
-    subst (λ (l : Listing). IsKept (g.B.Bay.leaves c.finish.new.bay) seen (IsSoundOver l.settings l.cone h (over_of c.self.inside.over))) (sym c.finish.ensures.listing)
-    (kept_since (g.B.Bay.leaves c.finish.new.bay) (g.B.Bay.left_since c.finish.new.bay (g.B.Bay.moment c.self.inside.bay)) seen
-    (IsSoundOver c.self.inside.tally.listing.settings c.self.inside.tally.listing.cone h (over_of c.self.inside.over))
-    (g.met.B.Bay.as_read c.finish.new.bay seen told) c.finish.ensures.keeps.journal.now
-    (λ image may. inl (c.finish.ensures.each_moment was.0 was.1 h whole.keys whole.in_step image may))))
-    stands)
-
 pub invariant_of-self : goal.invariant_of-self
 invariant_of-self g c =
     let len_is : c.self.inside.buffer.len ≡ length c.self.inside.buffer.items = omega (arith, c.self.inside.buffer.ok) in
     broken_cone g.B.Bay.files g.B.Bay.leaves g.B.Faulty.faults g.B.Faulty.mark _ _ c.self.inside.tally c.finish.new.tally c.self.inside.journal c.self.inside.journal _ _ _ _
-    (ap is_broken c.broken_by-self-inside.ensures ∙ is_broken_by c.in-Err.fault) (ap (λ
-    (l : Listing). l.settings) c.finish.ensures.listing) refl refl refl refl (sym (length_refill c.self.inside.buffer.len c.self.inside.buffer.items c.finish.new.buffer len_is)
-    ∙ len_is) refl c.finish.ensures.keeps.kept.never_falls
+    (ap is_broken c.broken_by-self-inside.ensures ∙ is_broken_by c.in-Err.fault) (ap (λ (l : Listing). l.settings) c.finish.ensures.listing) refl refl refl refl
+    (sym (length_refill c.self.inside.buffer.len c.self.inside.buffer.items c.finish.new.buffer len_is) ∙ len_is) refl c.finish.ensures.keeps.kept.never_falls
     (any_turn (λ old new. new 0 ≡ old 0) (g.B.Bay.files c.self.inside.bay) (g.B.Bay.files c.finish.new.bay) c.finish.ensures.keeps.journal.seen) c.finish.ensures.keeps.kept.mark
     (λ same. risen_since (g.B.Faulty.faults c.self.inside.made.value) (g.B.Faulty.faults c.self.inside.bay) (g.B.Faulty.faults c.finish.new.bay) c.self.invariant.never_falls
     c.finish.ensures.keeps.kept.never_falls
     (c.finish.ensures.keeps.kept.failed (c.in-Err.is ∙ ap Err (by_bay_of c.in-Err.fault (sym c.broken_by-self-inside.ensures ∙ same)))))
     c.self.invariant
 
-pub returns-in-Err-clause-unsound : goal.returns-in-Err-clause-unsound
-returns-in-Err-clause-unsound g c = rw (← c.self.view_is) (λ file at same.
+pub returns-in-Err : goal.returns-in-Err
+returns-in-Err g c =
     let running : c.self.inside.state ≡ Running = subst (λ (v : Standing g.row.B.Denot). v.state ≡ Running) (sym c.self.view_is) c.in_ok-test_state.ensures.ok in
-    let answer : c.from.result ≡ Unsound file at = one_fault same in
-    let fault_is = unsound_of c.in-Err.fault file at (sym c.from.ensures ∙ answer) in (
-      c.broken_by-self-inside.ensures ∙ ap broken_by fault_is,
-      (λ h stands sound. untold (g.B.Bay.files c.self.inside.bay) (λ seen told. c.finish.ensures.sound seen told h (stands.whole
-          (ap is_broken running) sound seen told).in_step file at (c.in-Err.is ∙ ap Err fault_is))),
-    ))
-
-pub returns-in-Err-clause-each_moment : goal.returns-in-Err-clause-each_moment
-returns-in-Err-clause-each_moment g c = rw (← c.self.view_is) (λ still sound seen told h stands image may.
-    let whole = stands.whole still sound seen told in
-    c.finish.ensures.each_moment seen told h whole.keys whole.in_step image may)
-
-pub returns-in-Err-clause-seen : goal.returns-in-Err-clause-seen
-returns-in-Err-clause-seen g c = rw (← c.self.view_is) (any_turn (λ old new. new 0 ≡ old 0) (g.B.Bay.files c.self.inside.bay) (g.B.Bay.files c.finish.new.bay)
-    c.finish.ensures.keeps.journal.seen)
-
-pub returns-in-Err-clause-kept : goal.returns-in-Err-clause-kept
-returns-in-Err-clause-kept g c = rw (← c.self.view_is) (keeps_as (bays g) (lawful g) c.self.inside.bay c.finish.new.bay _ _
-    (λ same.
-    let answer : c.from.result ≡ BayFailed = one_fault same in
-    c.in-Err.is ∙ ap Err (failed_of c.in-Err.fault (sym c.from.ensures ∙ answer)))
-    c.finish.ensures.keeps.kept)
-
-pub returns-in-Err-clause-stands_for : goal.returns-in-Err-clause-stands_for
-returns-in-Err-clause-stands_for g c = tt
-
-pub returns-in-Err-clause-answers : goal.returns-in-Err-clause-answers
-returns-in-Err-clause-answers g c = tt
-
-pub returns-in-Err-clause-reports : goal.returns-in-Err-clause-reports
-returns-in-Err-clause-reports g c = tt
-
-pub returns-in-Err-clause-finished : goal.returns-in-Err-clause-finished
-returns-in-Err-clause-finished g c = tt
-
-pub returns-in-Err-clause-whole : goal.returns-in-Err-clause-whole
-returns-in-Err-clause-whole g c = λ seen told. tt
-
-pub returns-in-Err-clause-in_time : goal.returns-in-Err-clause-in_time
-returns-in-Err-clause-in_time g c = tt
-
-pub returns-in-Err-clause-sound_closed : goal.returns-in-Err-clause-sound_closed
-returns-in-Err-clause-sound_closed g c = tt
-
-pub returns-in-Err-clause-same_cone : goal.returns-in-Err-clause-same_cone
-returns-in-Err-clause-same_cone g c = rw (← c.self.view_is) (record {
-  settings = ap (λ (l : Listing). l.settings) c.finish.ensures.listing;
-  cone = ap (λ (l : Listing). l.cone) c.finish.ensures.listing;
-  made = refl;
-  last = refl;
-})
-
-pub returns-in-Err-clause-never_full : goal.returns-in-Err-clause-never_full
-returns-in-Err-clause-never_full g c = λ n len same. false≢true (sym (no_refusal c.in-Err.fault) ∙ ap is_refusal (sym c.from.ensures ∙ one_fault same))
-
-pub returns-in-Err-clause-unchanged : goal.returns-in-Err-clause-unchanged
-returns-in-Err-clause-unchanged g c = λ same. absurd (false≢true (sym (ap is_refusal c.from.ensures ∙ no_refusal c.in-Err.fault) ∙ same))
+    rw (← c.self.view_is) (record {
+      stands_for = tt;
+      answers = tt;
+      reports = tt;
+      finished = tt;
+      in_time = tt;
+      stays = λ h stands.
+          stands_broken g.B.Bay.files g.B.Bay.leaves g.B.Faulty.faults _ _ h (record {
+            settings = ap (λ (l : Listing). l.settings) c.finish.ensures.listing;
+            cone = ap (λ (l : Listing). l.cone) c.finish.ensures.listing;
+            made = refl;
+            last = refl;
+          }) (ap is_broken c.broken_by-self-inside.ensures ∙ is_broken_by c.in-Err.fault) refl
+          (λ same. risen_since (g.B.Faulty.faults c.self.inside.made.value) (g.B.Faulty.faults c.self.inside.bay) (g.B.Faulty.faults c.finish.new.bay) c.self.invariant.never_falls
+          c.finish.ensures.keeps.kept.never_falls
+          (c.finish.ensures.keeps.kept.failed (c.in-Err.is ∙ ap Err (by_bay_of c.in-Err.fault (sym c.broken_by-self-inside.ensures ∙ same)))))
+          (λ file at same sound. turned_none (g.B.Bay.files c.self.inside.bay) (g.B.Bay.files c.finish.new.bay) c.finish.ensures.keeps.journal.seen (untold (g.B.Bay.files c.self.inside.bay)
+          (λ seen told. c.finish.ensures.sound seen told h (stands.whole (ap is_broken running) sound seen told).in_step file at (c.in-Err.is ∙ ap Err (by_read_of c.in-Err.fault file at
+          (sym c.broken_by-self-inside.ensures ∙ same))))))
+          (λ sound seen told.
+          let was = turns_back (λ old new. new 0 ≡ old 0) (g.B.Bay.files c.self.inside.bay) (g.B.Bay.files c.finish.new.bay) c.finish.ensures.keeps.journal.seen seen told in
+          let whole = stands.whole (ap is_broken running) sound was.0 was.1 in
+          subst (λ (l : Listing). IsKept (g.B.Bay.leaves c.finish.new.bay) seen (IsSoundOver l.settings l.cone h (over_of c.self.inside.over))) (sym c.finish.ensures.listing)
+          (kept_since (g.B.Bay.leaves c.finish.new.bay) (g.B.Bay.left_since c.finish.new.bay (g.B.Bay.moment c.self.inside.bay)) seen
+          (IsSoundOver c.self.inside.tally.listing.settings c.self.inside.tally.listing.cone h (over_of c.self.inside.over))
+          (g.met.B.Bay.as_read c.finish.new.bay seen told) c.finish.ensures.keeps.journal.now
+          (λ image may. inl (c.finish.ensures.each_moment was.0 was.1 h whole.keys whole.in_step image may))))
+          stands;
+      unchanged = λ same. absurd (false≢true (sym (ap is_refusal c.from.ensures ∙ no_refusal c.in-Err.fault) ∙ same));
+      broke = λ _ i. record (cone_at c.finish.new.bay c.self.inside.made.value c.finish.new.tally c.self.inside.events c.broken_by-self-inside.result (over_of c.self.inside.over)
+          c.self.inside.journal.gate c.finish.new.log c.self.inside.last) { listing = c.finish.ensures.listing i; rows = c.finish.ensures.rows i };
+      same_cone = record { settings = ap (λ (l : Listing). l.settings) c.finish.ensures.listing; cone = ap (λ (l : Listing). l.cone) c.finish.ensures.listing; made = refl; last = refl };
+      closed = broke_closed c.from.result c.self.inside.state (ap is_refusal c.from.ensures ∙ no_refusal c.in-Err.fault) running;
+      broken = broke_broken c.from.result c.self.inside.state (ap is_refusal c.from.ensures ∙ no_refusal c.in-Err.fault) running;
+      never_full = λ n len same. false≢true (sym (no_refusal c.in-Err.fault) ∙ ap is_refusal (sym c.from.ensures ∙ one_fault same));
+      bay_failed = λ same.
+          let answer : c.from.result ≡ BayFailed = one_fault same in
+          let fault_is = failed_of c.in-Err.fault (sym c.from.ensures ∙ answer) in
+          (c.broken_by-self-inside.ensures ∙ ap broken_by fault_is, c.finish.ensures.keeps.kept.failed (c.in-Err.is ∙ ap Err fault_is));
+      unsound = λ file at same.
+          let answer : c.from.result ≡ Unsound file at = one_fault same in
+          let fault_is = unsound_of c.in-Err.fault file at (sym c.from.ensures ∙ answer) in (
+            c.broken_by-self-inside.ensures ∙ ap broken_by fault_is,
+            (λ h stands sound. untold (g.B.Bay.files c.self.inside.bay) (λ seen told. c.finish.ensures.sound seen told h (stands.whole
+                (ap is_broken running) sound seen told).in_step file at (c.in-Err.is ∙ ap Err fault_is))),
+          );
+      shows = λ file at same seen told.
+          let answer : c.from.result ≡ Unsound file at = one_fault same in
+          c.finish.ensures.keeps.shows seen told file at (c.in-Err.is ∙ ap Err (unsound_of c.in-Err.fault file at (sym c.from.ensures ∙ answer)));
+      whole = λ seen told. tt;
+      each_moment = λ still sound seen told h stands image may.
+          let whole = stands.whole still sound seen told in
+          c.finish.ensures.each_moment seen told h whole.keys whole.in_step image may;
+      sound_closed = tt;
+      seen = any_turn (λ old new. new 0 ≡ old 0) (g.B.Bay.files c.self.inside.bay) (g.B.Bay.files c.finish.new.bay) c.finish.ensures.keeps.journal.seen;
+      kept = keeps_as (bays g) (lawful g) c.self.inside.bay c.finish.new.bay _ _ (λ same.
+          let answer : c.from.result ≡ BayFailed = one_fault same in
+          c.in-Err.is ∙ ap Err (failed_of c.in-Err.fault (sym c.from.ensures ∙ answer))) c.finish.ensures.keeps.kept;
+    })
 
 -- the end
 pub invariant_of-self-2 : goal.invariant_of-self-2
@@ -191,12 +166,7 @@ invariant_of-self-2 g c =
     ended_cone g.B.Bay.files g.B.Bay.leaves g.B.Faulty.faults g.B.Faulty.mark c.self.inside.bay c.self.inside.made.value c.finish.new.bay c.self.inside.tally c.finish.new.tally
     c.self.inside.events _ _ _
     c.self.inside.state Finished (over_of c.self.inside.over) c.self.inside.journal c.self.inside.log c.finish.new.log c.self.inside.last
-    running refl (c.finish.ensures.listing ∙ ap (λ closed. record {
-      settings = c.self.inside.tally.listing.settings;
-      cone = c.self.inside.tally.listing.cone;
-      events = c.self.inside.tally.listing.events;
-      closed = closed;
-    }) c.in_default.ensures.closed) c.in_default.ensures.counted (sym
+    running refl (c.finish.ensures.listing ∙ ap (λ closed. record c.self.inside.tally.listing { closed = closed }) c.in_default.ensures.closed) c.in_default.ensures.counted (sym
     (length_refill c.self.inside.buffer.len c.self.inside.buffer.items c.finish.new.buffer len_is) ∙ len_is) c.finish.ensures.keeps.kept.never_falls
     (any_turn (λ old new. new 0 ≡ old 0) (g.B.Bay.files c.self.inside.bay) (g.B.Bay.files c.finish.new.bay) c.finish.ensures.keeps.journal.seen) c.finish.ensures.keeps.kept.mark
     c.self.invariant
@@ -205,27 +175,19 @@ was_running : (g : given.Over) (c : After-len g) → c.self.inside.state ≡ Run
 was_running g c = subst (λ (v : Standing g.row.B.Denot). v.state ≡ Running) (sym c.self.view_is) c.in_ok-test_state.ensures.ok
 
 -- what its counts list now
-ended : (g : given.Over) (c : After-len g) → c.finish.new.tally.listing ≡ record {
-  settings = c.self.inside.tally.listing.settings;
-  cone = c.self.inside.tally.listing.cone;
-  events = c.self.inside.tally.listing.events;
-  closed = true;
-}
-ended g c = c.finish.ensures.listing ∙ ap (λ closed. record {
-  settings = c.self.inside.tally.listing.settings;
-  cone = c.self.inside.tally.listing.cone;
-  events = c.self.inside.tally.listing.events;
-  closed = closed;
-}) c.in_default.ensures.closed
+ended : (g : given.Over) (c : After-len g) → c.finish.new.tally.listing ≡ record c.self.inside.tally.listing { closed = true }
+ended g c = c.finish.ensures.listing ∙ ap (λ closed. record c.self.inside.tally.listing { closed = closed }) c.in_default.ensures.closed
 
-pub returns-clause-stands_for : goal.returns-clause-stands_for
-returns-clause-stands_for g c = rw (← c.self.view_is) (λ h stands.
+stands_then : (g : given.Over) (c : After-len g) (h : List Packet) → StandsFor g.B.Bay.files g.B.Bay.leaves g.B.Faulty.faults (cone_at c.self.inside.bay c.self.inside.made.value
+    c.self.inside.tally c.self.inside.events c.self.inside.state (over_of c.self.inside.over) c.self.inside.journal.gate c.self.inside.log c.self.inside.last) h →
+    StandsFor g.B.Bay.files g.B.Bay.leaves g.B.Faulty.faults (cone_at c.finish.new.bay c.self.inside.made.value c.finish.new.tally c.self.inside.events Finished
+    (over_of c.self.inside.over) c.self.inside.journal.gate c.finish.new.log c.self.inside.last) h
+stands_then g c h stands =
     let running = was_running g c in
     let is = ended g c in
     stands_whole g.B.Bay.files g.B.Bay.leaves g.B.Faulty.faults _ _ h h (record {
       settings = ap (λ (l : Listing). l.settings) is;
-      cone = ap (λ
-          (l : Listing). l.cone) is;
+      cone = ap (λ (l : Listing). l.cone) is;
       made = refl;
       last = refl;
     }) refl (stands.none_over (ap is_broken running)) stands.some stands.counted stands.within
@@ -235,105 +197,50 @@ returns-clause-stands_for g c = rw (← c.self.view_is) (λ h stands.
     whole_of (g.B.Bay.leaves c.finish.new.bay) seen h c.finish.new.tally c.self.inside.journal.gate c.finish.new.log c.in_default.ensures.counted
     (c.in_default.ensures.in_step was.0 was.1 h whole.keys whole.in_step seen told) (g.met.B.Bay.as_read c.finish.new.bay seen told)
     (ap (λ (l : Listing). l.events) is ∙ whole.keys) whole.gate_is)
-    stands)
+    stands
 
-pub returns-clause-whole : goal.returns-clause-whole
-returns-clause-whole g c = rw (← c.self.view_is) c.in_default.ensures.whole
-
-pub returns-clause-stays : goal.returns-clause-stays
-returns-clause-stays g c = tt
-
-pub returns-clause-unchanged : goal.returns-clause-unchanged
-returns-clause-unchanged g c = tt
-
-pub returns-clause-broke : goal.returns-clause-broke
-returns-clause-broke g c = tt
-
-pub returns-clause-same_cone : goal.returns-clause-same_cone
-returns-clause-same_cone g c = rw (← c.self.view_is) (record {
-  settings = ap (λ (l : Listing). l.settings) c.finish.ensures.listing;
-  cone = ap (λ (l : Listing). l.cone) c.finish.ensures.listing;
-  made = refl;
-  last = refl;
-})
-
-pub returns-clause-never_full : goal.returns-clause-never_full
-returns-clause-never_full g c = λ n len same. no_fault same
-
-pub returns-clause-bay_failed : goal.returns-clause-bay_failed
-returns-clause-bay_failed g c = λ same. absurd (no_fault same)
-
-pub returns-clause-unsound : goal.returns-clause-unsound
-returns-clause-unsound g c = λ file at same. absurd (no_fault same)
-
-pub returns-clause-shows : goal.returns-clause-shows
-returns-clause-shows g c = λ file at same. absurd (no_fault same)
-
-pub returns-clause-answers : goal.returns-clause-answers
-returns-clause-answers g c = rw (← c.self.view_is) (λ h stands sound seen told.
+pub returns : goal.returns
+returns g c =
     let running = was_running g c in
     let is = ended g c in
-    let then = c.finish.ensures.keeps.journal.seen.told seen told in
-    let whole = stands.whole (ap is_broken running) sound seen told in
-    let up = c.in_default.ensures.in_step seen told h whole.keys whole.in_step then.0 then.1 in
-    c.len.ensures.count
-    ∙ ap length (ap (λ (v : Stored). v.reports) c.store.ensures ∙ up.reports_are ∙ reports_finished c.finish.new.tally.listing (events_of h) c.in_default.ensures.closed (ap (λ
-    (l : Listing). l.events) is ∙ whole.keys))
-    ∙ ap (λ (l : Listing). length (closing l.settings (events_of h))) is)
-
-pub returns-clause-each_moment : goal.returns-clause-each_moment
-returns-clause-each_moment g c = rw (← c.self.view_is) (λ still sound seen told h stands image may.
-    let whole = stands.whole still sound seen told in
-    c.finish.ensures.each_moment seen told h whole.keys whole.in_step image may)
-
-pub returns-clause-sound_closed : goal.returns-clause-sound_closed
-returns-clause-sound_closed g c = rw (← c.self.view_is) (λ sound seen told h stands.
-    let running = was_running g c in
-    let is = ended g c in
-    let was = turns_back (λ old new. new 0 ≡ old 0) (g.B.Bay.files c.self.inside.bay) (g.B.Bay.files c.finish.new.bay) c.finish.ensures.keeps.journal.seen seen told in
-    let whole = stands.whole (ap is_broken running) sound was.0 was.1 in
-    subst (λ (l : Listing). IsKept (g.B.Bay.leaves c.finish.new.bay) seen (IsSoundAs l.settings l.cone l.closed h)) is
-    (whole_of (g.B.Bay.leaves c.finish.new.bay) seen h c.finish.new.tally c.self.inside.journal.gate c.finish.new.log c.in_default.ensures.counted
-    (c.in_default.ensures.in_step was.0 was.1 h whole.keys whole.in_step seen told) (g.met.B.Bay.as_read c.finish.new.bay seen told)
-    (ap (λ (l : Listing). l.events) is ∙ whole.keys) whole.gate_is).files.kept)
-
-pub returns-clause-seen : goal.returns-clause-seen
-returns-clause-seen g c = rw (← c.self.view_is) (any_turn (λ old new. new 0 ≡ old 0) (g.B.Bay.files c.self.inside.bay) (g.B.Bay.files c.finish.new.bay) c.finish.ensures.keeps.journal.seen)
-
-pub returns-clause-kept : goal.returns-clause-kept
-returns-clause-kept g c = rw (← c.self.view_is) (keeps_as (bays g) (lawful g) c.self.inside.bay c.finish.new.bay _ _ (λ same. absurd (no_fault same))
-    c.finish.ensures.keeps.kept)
-
-pub returns-in-Err-clause-shows : goal.returns-in-Err-clause-shows
-returns-in-Err-clause-shows g c = λ file at same.
-    let answer : c.from.result ≡ Unsound file at = one_fault same in
-    let fault_is = unsound_of c.in-Err.fault file at (sym c.from.ensures ∙ answer) in
-    λ seen told. c.finish.ensures.keeps.shows seen told file at (c.in-Err.is ∙ ap Err fault_is)
-
-pub returns-clause-in_time : goal.returns-clause-in_time
-returns-clause-in_time g c = λ h stands sound seen told.
-    let is = ended g c in
-    let was = subst (λ (v : Standing g.row.B.Denot). WasSound g.B.Bay.files v) (sym c.self.view_is) sound in
-    let after = (returns-clause-seen g c).told seen told in
-    subst (λ (settings : Numbers). IsTimely settings.threshold settings.bins (events_of h) c.finish.new.tally.due.reports) (ap (λ (l : Listing). l.settings) is ∙ ap (λ
-    (v : Standing g.row.B.Denot). v.listing.settings) c.self.view_is)
-    (timely g.B.Bay.files g.B.Bay.leaves g.B.Faulty.faults _ h refl (ap (λ (l : Listing). l.closed) is) (returns-clause-stands_for g c h stands)
-    (subst (λ (l : Listing). IfTold (g.B.Bay.files c.self.inside.made.value) (λ first. (history : List Packet) × IsSound l.settings l.cone history first)) (sym is) was) after.0 after.1)
-
-pub returns-clause-closed : goal.returns-clause-closed
-returns-clause-closed g c = passed_closed c.args.self.now.state c.in_ok-test_state.ensures.ok
-
-pub returns-clause-broken : goal.returns-clause-broken
-returns-clause-broken g c = passed_broken c.args.self.now.state c.in_ok-test_state.ensures.ok
-
-pub returns-in-Err-clause-closed : goal.returns-in-Err-clause-closed
-returns-in-Err-clause-closed g c = broke_closed c.from.result c.args.self.now.state (ap is_refusal c.from.ensures ∙ no_refusal c.in-Err.fault) c.in_ok-test_state.ensures.ok
-
-pub returns-in-Err-clause-broken : goal.returns-in-Err-clause-broken
-returns-in-Err-clause-broken g c = broke_broken c.from.result c.args.self.now.state (ap is_refusal c.from.ensures ∙ no_refusal c.in-Err.fault) c.in_ok-test_state.ensures.ok
-
-pub returns-in-Err-clause-bay_failed : goal.returns-in-Err-clause-bay_failed
-returns-in-Err-clause-bay_failed g c = rw (← c.self.view_is) (λ same.
-    let answer : c.from.result ≡ BayFailed = one_fault same in
-    let fault_is = failed_of c.in-Err.fault (sym c.from.ensures ∙ answer) in
-    (c.broken_by-self-inside.ensures ∙ ap broken_by fault_is, c.finish.ensures.keeps.kept.failed (c.in-Err.is ∙ ap Err fault_is)))
+    let turned = any_turn (λ old new. new 0 ≡ old 0) (g.B.Bay.files c.self.inside.bay) (g.B.Bay.files c.finish.new.bay) c.finish.ensures.keeps.journal.seen in
+    rw (← c.self.view_is) (record {
+      stands_for = stands_then g c;
+      answers = λ h stands sound seen told.
+          let then = turned.told seen told in
+          let whole = stands.whole (ap is_broken running) sound seen told in
+          let up = c.in_default.ensures.in_step seen told h whole.keys whole.in_step then.0 then.1 in
+          c.len.ensures.count
+          ∙ ap length (ap (λ (v : Stored). v.reports) c.store.ensures ∙ up.reports_are
+          ∙ reports_finished c.finish.new.tally.listing (events_of h) c.in_default.ensures.closed (ap (λ (l : Listing). l.events) is ∙ whole.keys))
+          ∙ ap (λ (l : Listing). length (closing l.settings (events_of h))) is;
+      reports = c.len.ensures.count ∙ ap length (ap (λ (v : Stored). v.reports) c.store.ensures);
+      finished = λ i. record (cone_at c.finish.new.bay c.self.inside.made.value c.finish.new.tally c.self.inside.events Finished (over_of c.self.inside.over) c.self.inside.journal.gate
+          c.finish.new.log c.self.inside.last) { listing = is i; rows = c.finish.ensures.rows i };
+      in_time = λ h stands sound seen told.
+          let after = turned.told seen told in
+          subst (λ (settings : Numbers). IsTimely settings.threshold settings.bins (events_of h) c.finish.new.tally.due.reports) (ap (λ (l : Listing). l.settings) is)
+          (timely g.B.Bay.files g.B.Bay.leaves g.B.Faulty.faults _ h refl (ap (λ (l : Listing). l.closed) is) (stands_then g c h stands)
+          (subst (λ (l : Listing). IfTold (g.B.Bay.files c.self.inside.made.value) (λ first. (history : List Packet) × IsSound l.settings l.cone history first)) (sym is) sound)
+          after.0 after.1);
+      stays = tt;
+      unchanged = tt;
+      broke = tt;
+      same_cone = record { settings = ap (λ (l : Listing). l.settings) is; cone = ap (λ (l : Listing). l.cone) is; made = refl; last = refl };
+      closed = passed_closed c.self.inside.state running;
+      broken = passed_broken c.self.inside.state running;
+      never_full = λ n len same. no_fault same;
+      bay_failed = λ same. absurd (no_fault same);
+      unsound = λ file at same. absurd (no_fault same);
+      shows = λ file at same. absurd (no_fault same);
+      whole = c.in_default.ensures.whole;
+      each_moment = λ still sound seen told h stands image may.
+          let whole = stands.whole still sound seen told in
+          c.finish.ensures.each_moment seen told h whole.keys whole.in_step image may;
+      sound_closed = λ sound seen told h stands.
+          subst (λ (l : Listing). IsKept (g.B.Bay.leaves c.finish.new.bay) seen (IsSoundAs l.settings l.cone l.closed h)) is
+          ((stands_then g c h stands).whole refl (subst (λ (l : Listing). IfTold (g.B.Bay.files c.self.inside.made.value) (λ first. (history : List Packet) × IsSound l.settings l.cone history
+          first)) (sym is) sound) seen told).files.kept;
+      seen = turned;
+      kept = keeps_as (bays g) (lawful g) c.self.inside.bay c.finish.new.bay _ _ (λ same. absurd (no_fault same)) c.finish.ensures.keeps.kept;
+    })
