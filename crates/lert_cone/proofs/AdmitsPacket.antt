@@ -41,7 +41,7 @@ module _ {B : Type 0} (bays : Bays B) (lawful : IsLawful bays) (packet : Packet)
           room = room_after;
         }) journal journal_after (Ok tt)) where
       is : after.listing ≡ record tally.listing { events = tally.listing.events ++ packet.keys }
-      is = did.listing ∙ ap (λ (keys : List ℕ). record { settings = tally.listing.settings; cone = tally.listing.cone; events = keys; closed = tally.listing.closed }) did.taken
+      is = did.listing ∙ ap (λ (keys : List ℕ). record tally.listing { events = keys }) did.taken
 
       same : IsSameCone (cone_at bay made tally events state over journal.gate log last)
           (cone_at bay_after made after events_after state over journal_after.gate log_after last)
@@ -125,12 +125,7 @@ module _ {B : Type 0} (bays : Bays B) (lawful : IsLawful bays) (packet : Packet)
         IsCone bays.files bays.leaves bays.faults bays.mark (cone_at bay made tally events state over journal.gate log last) tally journal cone_room keys_room →
         IsCone bays.files bays.leaves bays.faults bays.mark (cone_at bay_after made after events_after state over journal_after.gate log_after last) after journal_after cone_room_after keys_room
     still_cone events_after cone_room cone_room_after keys_room did events_are some room_is lent_is cone =
-        let is = did.listing ∙ ap (λ (keys : List ℕ). record {
-          settings = tally.listing.settings;
-          cone = tally.listing.cone;
-          events = keys;
-          closed = tally.listing.closed;
-        }) did.taken in
+        let is = did.listing ∙ ap (λ (keys : List ℕ). record tally.listing { events = keys }) did.taken in
         more_cone bays.files bays.leaves bays.faults bays.mark bay made bay_after tally after events events_after cone_room
         cone_room_after keys_room state over journal journal_after log log_after last packet running is did.counted
         events_are did.moved room_is some within did.kept.never_falls did.seen did.kept.mark did.shut

@@ -27,32 +27,22 @@ module _ {B : Type 0} (bays : Bays B) (lawful : IsLawful bays) (t : Tallied) (ls
   with_rows : (result : Result (Unit {0}) FlushFault) → Scans bays start bay bay_after t.young (record { settings = ls; rows = t.rows }) levels_after due result →
       (closed : Bool) (given : Result
       (Unit {0}) TakeFault) →
+      CountsEnd bays bay bay_after t (record t { listing = record t.listing { closed = closed }; due = due }) given →
       CountsEnd bays bay bay_after t (record {
-        listing = record { settings = t.listing.settings; cone = t.listing.cone; events = t.listing.events; closed = closed };
-        young = t.young;
-        rows = t.rows;
-        due = due;
-      }) given →
-      CountsEnd bays bay bay_after t (record {
-        listing = record { settings = t.listing.settings; cone = t.listing.cone; events = t.listing.events; closed = closed };
+        listing = record t.listing { closed = closed };
         young = t.young;
         rows = levels_after.rows;
         due = due;
       }) given
   with_rows result scans closed given = subst (λ (rows : List (List BinAt)). CountsEnd bays bay bay_after t (record {
-    listing = record {
-      settings = t.listing.settings;
-      cone = t.listing.cone;
-      events = t.listing.events;
-      closed = closed;
-    };
+    listing = record t.listing { closed = closed };
     young = t.young;
     rows = rows;
     due = due;
   }) given) (sym (ap (λ (v : OnDisk). v.rows) scans.stays))
 
   refused_by : (fault : FlushFault) → Scans bays start bay bay_after t.young (record { settings = ls; rows = t.rows }) levels_after due (Err fault) →
-      CountsEnd bays bay bay_after t (record { listing = t.listing; young = t.young; rows = t.rows; due = due }) (Err (take_fault fault))
+      CountsEnd bays bay bay_after t (record t { due = due }) (Err (take_fault fault))
   refused_by fault scans = record {
     listing = refl;
     rows = refl;
@@ -78,14 +68,9 @@ module _ {B : Type 0} (bays : Bays B) (lawful : IsLawful bays) (t : Tallied) (ls
     settings = ls;
     rows = t.rows;
   }) levels_after due result →
-      (given : Result (Unit {0}) TakeFault) → IsErrAnd given (λ g. g ≡ take_fault fault) → CountsEnd bays bay bay_after t (record {
-        listing = t.listing;
-        young = t.young;
-        rows = levels_after.rows;
-        due = due;
-      }) given
+      (given : Result (Unit {0}) TakeFault) → IsErrAnd given (λ g. g ≡ take_fault fault) → CountsEnd bays bay bay_after t (record t { rows = levels_after.rows; due = due }) given
   not_ended result fault is scans given given_is =
-      subst (λ (r : Result (Unit {0}) TakeFault). CountsEnd bays bay bay_after t (record { listing = t.listing; young = t.young; rows = levels_after.rows; due = due }) r) (handed_on given
+      subst (λ (r : Result (Unit {0}) TakeFault). CountsEnd bays bay bay_after t (record t { rows = levels_after.rows; due = due }) r) (handed_on given
       (take_fault fault) given_is)
       (let failed = subst (λ (r : Result (Unit {0}) FlushFault). Scans bays start bay bay_after t.young (record { settings = ls; rows = t.rows }) levels_after due r) is scans in
       with_rows (Err fault) failed t.listing.closed (Err (take_fault fault)) (refused_by fault failed))
@@ -99,7 +84,7 @@ module _ {B : Type 0} (bays : Bays B) (lawful : IsLawful bays) (t : Tallied) (ls
 
     -- a report finds no room
     pub no_room_left : due.is_full ≡ true → length due.reports ≡ due.settings.room →
-        CountsEnd bays bay bay_after t (record { listing = t.listing; young = t.young; rows = levels_after.rows; due = due }) (Err (Unsound 1 0))
+        CountsEnd bays bay bay_after t (record t { rows = levels_after.rows; due = due }) (Err (Unsound 1 0))
     no_room_left full filled = with_rows (Ok tt) scans t.listing.closed (Err (Unsound 1 0)) (record {
       listing = refl;
       rows = refl;
@@ -119,7 +104,7 @@ module _ {B : Type 0} (bays : Bays B) (lawful : IsLawful bays) (t : Tallied) (ls
     -- all reports are listed
     pub all_counted : due.is_full ≡ false →
         CountsEnd bays bay bay_after t (record {
-          listing = record { settings = t.listing.settings; cone = t.listing.cone; events = t.listing.events; closed = true };
+          listing = record t.listing { closed = true };
           young = t.young;
           rows = levels_after.rows;
           due = due;

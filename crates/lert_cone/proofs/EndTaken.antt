@@ -39,7 +39,7 @@ module _ {B : Type 0} (bays : Bays B) (lawful : IsLawful bays) (old : Workplace 
       (partway_all old.counts.listing.settings history old.counts.listing.events all (late_all history old.counts.listing.events all)) image may
 
   refused_by : (fault : TakeFault) → CountsEnd bays old.bay bay old.counts counts (Err fault) →
-      TakesEnd bays old (record { bay = bay; counts = counts; log = old.log; room = old.room }) (Err fault)
+      TakesEnd bays old (record old { bay = bay; counts = counts }) (Err fault)
   refused_by fault did = record {
     listing = did.listing;
     rows = did.rows;
@@ -60,19 +60,19 @@ module _ {B : Type 0} (bays : Bays B) (lawful : IsLawful bays) (old : Workplace 
 
   -- the levels aren't scanned
   pub end_refused : (result : Result (Unit {0}) TakeFault) (fault : TakeFault) → result ≡ Err fault → CountsEnd bays old.bay bay old.counts counts result →
-      (given : Result (Unit {0}) TakeFault) → IsErrAnd given (λ g. g ≡ fault) → TakesEnd bays old (record { bay = bay; counts = counts; log = old.log; room = old.room }) given
+      (given : Result (Unit {0}) TakeFault) → IsErrAnd given (λ g. g ≡ fault) → TakesEnd bays old (record old { bay = bay; counts = counts }) given
   end_refused result fault is did given given_is =
-      subst (λ (r : Result (Unit {0}) TakeFault). TakesEnd bays old (record { bay = bay; counts = counts; log = old.log; room = old.room }) r) (handed_on given fault given_is)
+      subst (λ (r : Result (Unit {0}) TakeFault). TakesEnd bays old (record old { bay = bay; counts = counts }) r) (handed_on given fault given_is)
       (refused_by fault (subst (λ (r : Result (Unit {0}) TakeFault). CountsEnd bays old.bay bay old.counts counts r) is did))
 
   module _ (did : CountsEnd bays old.bay bay old.counts counts (Ok tt)) where
     is : counts.listing ≡ record old.counts.listing { closed = true }
-    is = did.listing ∙ ap (λ (closed : Bool). record { settings = old.counts.listing.settings; cone = old.counts.listing.cone; events = old.counts.listing.events; closed = closed }) did.closed
+    is = did.listing ∙ ap (λ (closed : Bool). record old.counts.listing { closed = closed }) did.closed
 
     settings_are : counts.listing.settings ≡ old.counts.listing.settings
     settings_are = ap (λ (l : Listing). l.settings) is
 
-    pub can_log_end : CanLog bays (record { bay = bay; counts = counts; log = old.log; room = old.room })
+    pub can_log_end : CanLog bays (record old { bay = bay; counts = counts })
     can_log_end = record {
       logging = record {
         most = can.can_log.logging.most ∙ ap most_record (sym settings_are);

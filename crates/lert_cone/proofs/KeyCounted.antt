@@ -140,26 +140,26 @@ module _ {B : Type 0} (bays : Bays B) (lawful : IsLawful bays) (t : Tallied) (ls
     -- the key is counted
     pub key_counted : (events : List ℕ) → events ≡ t.listing.events ++ key ∷ [] → due.is_full ≡ false →
         CountsKey bays key bay bay_after t (record {
-          listing = record { settings = t.listing.settings; cone = t.listing.cone; events = events; closed = t.listing.closed };
+          listing = record t.listing { events = events };
           young = young_after;
           rows = levels_after.rows;
           due = due;
         }) (Ok tt)
     key_counted events events_are room =
         let after : Tallied = record {
-          listing = record { settings = t.listing.settings; cone = t.listing.cone; events = events; closed = t.listing.closed };
+          listing = record t.listing { events = events };
           young = young_after;
           rows = levels_after.rows;
           due = due;
         } in
         let after_is : after ≡ record {
-          listing = record { settings = t.listing.settings; cone = t.listing.cone; events = t.listing.events ++ key ∷ []; closed = t.listing.closed };
+          listing = record t.listing { events = t.listing.events ++ key ∷ [] };
           young = young_after;
           rows = levels_after.rows;
           due = due;
         } =
         ap (λ (keys : List ℕ). record {
-          listing = record { settings = t.listing.settings; cone = t.listing.cone; events = keys; closed = t.listing.closed };
+          listing = record t.listing { events = keys };
           young = young_after;
           rows = levels_after.rows;
           due = due;

@@ -53,7 +53,7 @@ module _ {B : Type 0} (bays : Bays B) (lawful : IsLawful bays) (place : JournalP
     held seen told history up = held_of (bays.leaves old.bay) seen history old.counts old.log (lawful.as_read old.bay seen told) up
 
   refused_by : (fault : TakeFault) → CountsKey bays key old.bay bay old.counts counts (Err fault) →
-      TakesKeys bays place (key ∷ []) old (record { bay = bay; counts = counts; log = old.log; room = old.room }) (Err fault)
+      TakesKeys bays place (key ∷ []) old (record old { bay = bay; counts = counts }) (Err fault)
   refused_by fault did = record {
     listing = did.listing;
     taken = tt;
@@ -78,9 +78,9 @@ module _ {B : Type 0} (bays : Bays B) (lawful : IsLawful bays) (place : JournalP
 
   -- the key isn't counted
   pub key_refused : (result : Result (Unit {0}) TakeFault) (fault : TakeFault) → result ≡ Err fault → CountsKey bays key old.bay bay old.counts counts result →
-      (given : Result (Unit {0}) TakeFault) → IsErrAnd given (λ g. g ≡ fault) → TakesKeys bays place (key ∷ []) old (record { bay = bay; counts = counts; log = old.log; room = old.room }) given
+      (given : Result (Unit {0}) TakeFault) → IsErrAnd given (λ g. g ≡ fault) → TakesKeys bays place (key ∷ []) old (record old { bay = bay; counts = counts }) given
   key_refused result fault is did given given_is =
-      subst (λ (r : Result (Unit {0}) TakeFault). TakesKeys bays place (key ∷ []) old (record { bay = bay; counts = counts; log = old.log; room = old.room }) r) (handed_on given fault given_is)
+      subst (λ (r : Result (Unit {0}) TakeFault). TakesKeys bays place (key ∷ []) old (record old { bay = bay; counts = counts }) r) (handed_on given fault given_is)
       (refused_by fault (subst (λ (r : Result (Unit {0}) TakeFault). CountsKey bays key old.bay bay old.counts counts r) is did))
 
   -- the key is counted, and passed
@@ -89,7 +89,7 @@ module _ {B : Type 0} (bays : Bays B) (lawful : IsLawful bays) (place : JournalP
     log_then = record old.log { places = places }
 
     is : counts.listing ≡ record old.counts.listing { events = old.counts.listing.events ++ key ∷ [] }
-    is = did.listing ∙ ap (λ (keys : List ℕ). record { settings = old.counts.listing.settings; cone = old.counts.listing.cone; events = keys; closed = old.counts.listing.closed }) did.taken
+    is = did.listing ∙ ap (λ (keys : List ℕ). record old.counts.listing { events = keys }) did.taken
 
     settings_are : counts.listing.settings ≡ old.counts.listing.settings
     settings_are = ap (λ (l : Listing). l.settings) is

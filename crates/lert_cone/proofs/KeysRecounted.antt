@@ -7,7 +7,7 @@ use Rattle.lert_cone.specs.Listing.{Listing}
 
 -- a cone with other keys
 abbrev pub with_keys : Listing → List ℕ → Listing
-with_keys cone events = record { settings = cone.settings; cone = cone.cone; events = events; closed = cone.closed }
+with_keys cone events = record cone { events = events }
 
 pub none_again : (old : Listing) → old ≡ with_keys old (old.events ++ [])
 none_again old = ap (with_keys old) (sym (append-nil old.events))

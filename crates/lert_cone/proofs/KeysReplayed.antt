@@ -57,7 +57,7 @@ module _ {B : Type 0} (bays : Bays B) (lawful : IsLawful bays) (place : JournalP
   early : count ≤ n0 - length old.counts.listing.events
   early = omega (arith, count_is)
 
-  can_log_then : CanLog bays (record { bay = old.bay; counts = counts; log = record old.log { places = places }; room = old.room })
+  can_log_then : CanLog bays (record old { counts = counts; log = record old.log { places = places } })
   can_log_then = record {
     logging = record {
       most = can.can_log.logging.most ∙ ap most_record (sym settings_are);
@@ -90,17 +90,12 @@ module _ {B : Type 0} (bays : Bays B) (lawful : IsLawful bays) (place : JournalP
       over.from
 
   -- all keys are counted again
-  pub all_again : length (drop count keys) ≡ 0 → ReplaysKeys bays n0 place keys old (record {
-    bay = old.bay;
-    counts = counts;
-    log = record old.log { places = places };
-    room = old.room;
-  }) (Ok tt)
+  pub all_again : length (drop count keys) ≡ 0 → ReplaysKeys bays n0 place keys old (record old { counts = counts; log = record old.log { places = places } }) (Ok tt)
   all_again none =
       let whole : take count keys ≡ keys = take_all count keys (omega (arith, none, length-drop count keys)) in
       let events_are : counts.listing.events ≡ old.counts.listing.events ++ take count keys = ap (λ (l : Listing). l.events) listing_is in
       record {
-        listing = listing_is ∙ ap (λ (ks : List ℕ). record { settings = old.counts.listing.settings; cone = old.counts.listing.cone; events = ks; closed = old.counts.listing.closed })
+        listing = listing_is ∙ ap (λ (ks : List ℕ). record old.counts.listing { events = ks })
             (sym events_are);
         taken = events_are ∙ ap (λ ks. old.counts.listing.events ++ ks) whole;
         recounted = recounted;
@@ -141,7 +136,7 @@ module _ {B : Type 0} (bays : Bays B) (lawful : IsLawful bays) (place : JournalP
     enough : n0 ≤ length counts.listing.events
     enough = enough_counted old.counts counts n0 count keys count_is some listing_is
 
-    pub can_take_ahead : CanTake bays (drop count keys) (record { bay = old.bay; counts = counts; log = record old.log { places = places }; room = old.room })
+    pub can_take_ahead : CanTake bays (drop count keys) (record old { counts = counts; log = record old.log { places = places } })
     can_take_ahead = record {
       still = never_true counts.listing.closed (λ closed. absurd (omega (
         arith,
@@ -161,12 +156,8 @@ module _ {B : Type 0} (bays : Bays B) (lawful : IsLawful bays) (place : JournalP
       can_log = can_log_then;
     }
 
-    pub others_ahead : (new : Workplace B) (result : Result (Unit {0}) TakeFault) → TakesKeys bays place (drop count keys) (record {
-      bay = old.bay;
-      counts = counts;
-      log = record old.log { places = places };
-      room = old.room;
-    }) new result →
+    pub others_ahead : (new : Workplace B) (result : Result (Unit {0}) TakeFault) → TakesKeys bays place (drop count keys)
+        (record old { counts = counts; log = record old.log { places = places } }) new result →
         ReplaysKeys bays n0 place keys old new result
     others_ahead new result did =
         let up_to : max n0 (length old.counts.listing.events) ≡ length counts.listing.events = omega (arith, count_is, counted, enough, length-take count keys) in
@@ -174,7 +165,7 @@ module _ {B : Type 0} (bays : Bays B) (lawful : IsLawful bays) (place : JournalP
         λ ks is. (let long : length ks ≡ length counts.listing.events + length (drop count keys) = ap (length {A = ℕ}) is ∙ length-append counts.listing.events (drop count keys) in omega
         (arith, long, enough)) in
         record {
-          listing = did.listing ∙ ap (λ (l : Listing). record { settings = l.settings; cone = l.cone; events = new.counts.listing.events; closed = l.closed }) listing_is;
+          listing = did.listing ∙ ap (λ (l : Listing). record l { events = new.counts.listing.events }) listing_is;
           taken = map_ok result (λ (took : new.counts.listing.events ≡ counts.listing.events ++ drop count keys).
               took ∙ ap (λ (l : Listing). l.events ++ drop count keys) listing_is ∙ append_assoc old.counts.listing.events (take count keys) (drop count keys)
               ∙ ap (λ ks. old.counts.listing.events ++ ks) (take-append-drop count keys)) did.taken;
@@ -190,7 +181,7 @@ module _ {B : Type 0} (bays : Bays B) (lawful : IsLawful bays) (place : JournalP
               way_taken (bays.leaves old.bay) seen history old.counts counts log_then n0 count keys rest (turned seen history next on_way) is early listing_is rows_are due_is enough
               (bays.leaves new.bay) after new.counts
               new.log
-              (did.listing ∙ ap (λ (ks : List ℕ). record { settings = counts.listing.settings; cone = counts.listing.cone; events = ks; closed = counts.listing.closed }) took)
+              (did.listing ∙ ap (λ (ks : List ℕ). record counts.listing { events = ks }) took)
               (up after told_after));
           sound = λ seen told history rest is next on_way.
               did.sound seen told history (next_ahead history next)

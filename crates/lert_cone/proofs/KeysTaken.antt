@@ -88,7 +88,7 @@ module _ {B : Type 0} (bays : Bays B) (lawful : IsLawful bays) (place : JournalP
       (second : TakesKeys bays place back mid new result)
     where
       mid_is : mid.counts.listing ≡ record old.counts.listing { events = old.counts.listing.events ++ front }
-      mid_is = first.listing ∙ ap (λ (keys : List ℕ). record { settings = old.counts.listing.settings; cone = old.counts.listing.cone; events = keys; closed = old.counts.listing.closed })
+      mid_is = first.listing ∙ ap (λ (keys : List ℕ). record old.counts.listing { events = keys })
           first.taken
 
       mid_long : length mid.counts.listing.events ≡ length old.counts.listing.events + length front
@@ -108,7 +108,7 @@ module _ {B : Type 0} (bays : Bays B) (lawful : IsLawful bays) (place : JournalP
 
       pub takes_more : TakesKeys bays place (front ++ back) old new result
       takes_more = record {
-        listing = second.listing ∙ ap (λ (l : Listing). record { settings = l.settings; cone = l.cone; events = new.counts.listing.events; closed = l.closed }) first.listing;
+        listing = second.listing ∙ ap (λ (l : Listing). record l { events = new.counts.listing.events }) first.listing;
         taken = map_ok result (λ (took : new.counts.listing.events ≡ mid.counts.listing.events ++ back).
             took ∙ ap (λ (keys : List ℕ). keys ++ back) first.taken ∙ append_assoc old.counts.listing.events front back) second.taken;
         counted = second.counted;
@@ -171,7 +171,7 @@ module _ {B : Type 0} (bays : Bays B) (lawful : IsLawful bays) (place : JournalP
   module _ (old mid : Workplace B) (keys : List ℕ) (i : ℕ) (first : TakesKeys bays place (take i keys) old mid (Ok tt)) where
     pub next_can : CanTake bays keys old → i < length keys → CanTake bays (get_or keys i 0 ∷ []) mid
     next_can can within =
-        let is = first.listing ∙ ap (λ (ks : List ℕ). record { settings = old.counts.listing.settings; cone = old.counts.listing.cone; events = ks; closed = old.counts.listing.closed })
+        let is = first.listing ∙ ap (λ (ks : List ℕ). record old.counts.listing { events = ks })
         first.taken in
         record {
           still = ap (λ (l : Listing). l.closed) is ∙ can.still;

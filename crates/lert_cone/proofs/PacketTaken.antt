@@ -87,7 +87,7 @@ module _ {B : Type 0} (bays : Bays B) (lawful : IsLawful bays) (old : Workplace 
     log_alone = alone_others bays lawful journal.file 1 (λ same. absurd (omega (arith, same, can.file))) old.bay bay appends.seen appends.others appends.kept.time
 
   refused_by : (failed : Fault) (room : ℕ) → AppendsPacket bays packet old.bay bay journal journal_after (Err failed) →
-      TakesPacket bays packet old (record { bay = bay; counts = old.counts; log = old.log; room = room }) journal journal_after (Err Failed)
+      TakesPacket bays packet old (record old { bay = bay; room = room }) journal journal_after (Err Failed)
   refused_by failed room appends = record {
     listing = refl;
     taken = tt;
@@ -109,20 +109,15 @@ module _ {B : Type 0} (bays : Bays B) (lawful : IsLawful bays) (old : Workplace 
   -- it isn't appended
   pub packet_refused : (result : Result (Unit {0}) Fault) (failed : Fault) → result ≡ Err failed → AppendsPacket bays packet old.bay bay journal journal_after result →
       (room : ℕ) →
-      (given : Result (Unit {0}) TakeFault) → IsErrAnd given (λ fault. fault ≡ Failed) → TakesPacket bays packet old (record {
-        bay = bay;
-        counts = old.counts;
-        log = old.log;
-        room = room;
-      }) journal journal_after given
+      (given : Result (Unit {0}) TakeFault) → IsErrAnd given (λ fault. fault ≡ Failed) → TakesPacket bays packet old (record old { bay = bay; room = room }) journal journal_after given
   packet_refused result failed is appends room given given_is =
-      subst (λ (r : Result (Unit {0}) TakeFault). TakesPacket bays packet old (record { bay = bay; counts = old.counts; log = old.log; room = room }) journal journal_after r)
+      subst (λ (r : Result (Unit {0}) TakeFault). TakesPacket bays packet old (record old { bay = bay; room = room }) journal journal_after r)
       (handed_on given Failed given_is)
       (refused_by failed room (subst (λ (r : Result (Unit {0}) Fault). AppendsPacket bays packet old.bay bay journal journal_after r) is appends))
 
   -- it is appended
   module _ (appends : AppendsPacket bays packet old.bay bay journal journal_after (Ok tt)) where
-    pub can_take_then : (room : ℕ) → room ≡ old.room → CanTake bays packet.keys (record { bay = bay; counts = old.counts; log = old.log; room = room })
+    pub can_take_then : (room : ℕ) → room ≡ old.room → CanTake bays packet.keys (record old { bay = bay; room = room })
     can_take_then room room_is = record {
       still = can.still;
       own = can.journaled.of_cone;
@@ -171,12 +166,7 @@ module _ {B : Type 0} (bays : Bays B) (lawful : IsLawful bays) (old : Workplace 
         last_holds history packet place (length old.counts.listing.events) (gate_is ∙ whole.gate_is) (ap (length {A = ℕ}) whole.keys) first_is
 
     pub packet_taken : (place : JournalPlace) → place.gate ≡ journal.gate → place.first ≡ length old.counts.listing.events + 1 → (room : ℕ) (new : Workplace B) (result : Result (Unit {0}) TakeFault) →
-        TakesKeys bays place packet.keys (record {
-          bay = bay;
-          counts = old.counts;
-          log = old.log;
-          room = room;
-        }) new result →
+        TakesKeys bays place packet.keys (record old { bay = bay; room = room }) new result →
         TakesPacket bays packet old new journal journal_after result
     packet_taken place gate_is first_is room new result did = record {
       listing = did.listing;

@@ -222,7 +222,7 @@ module _ (t : Tallied) (n0 : ℕ) (recounted : IsRecounted t n0) (settings : t.y
     risen = rising_more t.listing.settings recounted.valid n0 t.listing.events t.young (recounted.young before) settings before recounted.n0_fits key tail tail_is next
         (next_is ∙ (λ i. cond (ltb (edge (settings i) 0 n0) (m_is i)) (with_event t.young tail (m_is i)) t.young))
 
-    pub recounted_more : (after : Tallied) → after ≡ record { listing = record t.listing { events = more }; young = next; rows = t.rows; due = t.due } → IsRecounted after n0
+    pub recounted_more : (after : Tallied) → after ≡ record t { listing = record t.listing { events = more }; young = next } → IsRecounted after n0
     recounted_more after after_is =
         let keys : AreKeys more = AreKeys-push t.listing.events key recounted.keys below in
         let own : AreOfCone t.listing.settings t.listing.cone more = AreOfCone-push t.listing.settings t.listing.cone t.listing.events key recounted.own is_own in

@@ -46,11 +46,11 @@ moved_on payload moved is = ap (λ (j : Log). j.gate) moved ∙ ap (λ (j : Log)
 
 -- a listing with keys more
 pub listing_more : (old new : Listing) (keys taken : List ℕ) → new ≡ record old { events = new.events } → new.events ≡ old.events ++ taken → taken ≡ keys →
-    new ≡ record { settings = old.settings; cone = old.cone; events = old.events ++ keys; closed = old.closed }
+    new ≡ record old { events = old.events ++ keys }
 listing_more old new keys taken is took same =
-    is ∙ ap (λ (ks : List ℕ). record { settings = old.settings; cone = old.cone; events = ks; closed = old.closed }) (took ∙ ap (λ ks. old.events ++ ks) same)
+    is ∙ ap (λ (ks : List ℕ). record old { events = ks }) (took ∙ ap (λ ks. old.events ++ ks) same)
 
-pub length_more : (old new : Listing) (keys : List ℕ) (events len : ℕ) → new ≡ record { settings = old.settings; cone = old.cone; events = old.events ++ keys; closed = old.closed } →
+pub length_more : (old new : Listing) (keys : List ℕ) (events len : ℕ) → new ≡ record old { events = old.events ++ keys } →
     length old.events ≡ events → len ≡ length new.events → len ≡ events + length keys
 length_more old new keys events len is counted len_is = omega (arith, len_is, ap (λ (l : Listing). length l.events) is, length-append old.events keys, counted)
 

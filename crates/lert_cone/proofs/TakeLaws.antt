@@ -230,7 +230,7 @@ module _ (t : Tallied) (ls : Numbers) (levels_are : ls ≡ t.listing.settings) (
     cone_end : start.cone ≡ t.listing.cone
     cone_end = ap (λ (d : Dues). d.cone) start_is ∙ counted.due_cone
 
-    pub counted_end : (pieces : List Piece) × TookFrom start due pieces → IsCounted (record { listing = record t.listing { closed = true }; young = t.young; rows = t.rows; due = due })
+    pub counted_end : (pieces : List Piece) × TookFrom start due pieces → IsCounted (record t { listing = record t.listing { closed = true }; due = due })
     counted_end took = record {
       valid = valid;
       fits = counted.fits;
@@ -259,7 +259,7 @@ module _ (t : Tallied) (ls : Numbers) (levels_are : ls ≡ t.listing.settings) (
           (IsTable-tallied t.listing.settings t.listing.events) took_end (closing_is t.listing.settings t.listing.cone t.listing.events valid named counted.keys counted.own) full in
           omega (arith, closing_fits t.listing.settings t.listing.events valid counted.fits)
 
-      pub held_end : due.is_full ≡ false → IsHeld (record { listing = record t.listing { closed = true }; young = t.young; rows = t.rows; due = due }) seen
+      pub held_end : due.is_full ≡ false → IsHeld (record t { listing = record t.listing { closed = true }; due = due }) seen
       held_end room = record {
         frames = held.frames;
         reports = reports_are t.listing.settings t.listing.cone (length t.listing.events) (look t.listing.settings t.listing.events) (closing t.listing.settings t.listing.events)

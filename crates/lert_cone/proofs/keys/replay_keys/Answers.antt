@@ -53,12 +53,7 @@ pub returns-then-is_empty : goal.returns-then-is_empty
 returns-then-is_empty g c =
     let count_is : c.min-count.result ≡ min (c.args.n0 - length c.args.tally.now.listing.events) (length c.args.keys.now) =
     omega (arith, c.min-count.ensures, c.saturating_sub.ensures, c.len.ensures) in
-    let listing_is = c.count_again.ensures.listing ∙ ap (λ (keys : List ℕ). record {
-      settings = c.args.tally.now.listing.settings;
-      cone = c.args.tally.now.listing.cone;
-      events = c.args.tally.now.listing.events ++ keys;
-      closed = c.args.tally.now.listing.closed;
-    }) c.split_at.ensures.front in
+    let listing_is = c.count_again.ensures.listing ∙ ap (λ (keys : List ℕ). record c.args.tally.now.listing { events = c.args.tally.now.listing.events ++ keys }) c.split_at.ensures.front in
     let over : HasPassed (length c.count_again.new.tally.listing.events) c.args.place c.args.log.now.places c.pass.new.self.places =
     subst (λ n. HasPassed n c.args.place c.args.log.now.places c.pass.new.self.places) c.len-2.ensures c.pass.ensures.passed in
     let none : length c.split_at.result.1.now ≡ 0 = eqb-true (length c.split_at.result.1.now) 0 (sym c.is_empty.ensures ∙ c.if-is_empty.true) in
@@ -75,12 +70,7 @@ pub take_keys-requires : goal.take_keys-requires
 take_keys-requires g c =
     let count_is : c.min-count.result ≡ min (c.args.n0 - length c.args.tally.now.listing.events) (length c.args.keys.now) =
     omega (arith, c.min-count.ensures, c.saturating_sub.ensures, c.len.ensures) in
-    let listing_is = c.count_again.ensures.listing ∙ ap (λ (keys : List ℕ). record {
-      settings = c.args.tally.now.listing.settings;
-      cone = c.args.tally.now.listing.cone;
-      events = c.args.tally.now.listing.events ++ keys;
-      closed = c.args.tally.now.listing.closed;
-    }) c.split_at.ensures.front in
+    let listing_is = c.count_again.ensures.listing ∙ ap (λ (keys : List ℕ). record c.args.tally.now.listing { events = c.args.tally.now.listing.events ++ keys }) c.split_at.ensures.front in
     let over : HasPassed (length c.count_again.new.tally.listing.events) c.args.place c.args.log.now.places c.pass.new.self.places =
     subst (λ n. HasPassed n c.args.place c.args.log.now.places c.pass.new.self.places) c.len-2.ensures c.pass.ensures.passed in
     let some : 0 < length c.split_at.result.1.now = omega (arith, eqb-false (length c.split_at.result.1.now) 0 (sym c.is_empty.ensures ∙ c.if-is_empty.false)) in
@@ -98,12 +88,7 @@ pub returns : goal.returns
 returns g c =
     let count_is : c.min-count.result ≡ min (c.args.n0 - length c.args.tally.now.listing.events) (length c.args.keys.now) =
     omega (arith, c.min-count.ensures, c.saturating_sub.ensures, c.len.ensures) in
-    let listing_is = c.count_again.ensures.listing ∙ ap (λ (keys : List ℕ). record {
-      settings = c.args.tally.now.listing.settings;
-      cone = c.args.tally.now.listing.cone;
-      events = c.args.tally.now.listing.events ++ keys;
-      closed = c.args.tally.now.listing.closed;
-    }) c.split_at.ensures.front in
+    let listing_is = c.count_again.ensures.listing ∙ ap (λ (keys : List ℕ). record c.args.tally.now.listing { events = c.args.tally.now.listing.events ++ keys }) c.split_at.ensures.front in
     let over : HasPassed (length c.count_again.new.tally.listing.events) c.args.place c.args.log.now.places c.pass.new.self.places =
     subst (λ n. HasPassed n c.args.place c.args.log.now.places c.pass.new.self.places) c.len-2.ensures c.pass.ensures.passed in
     let some : 0 < length c.split_at.result.1.now = omega (arith, eqb-false (length c.split_at.result.1.now) 0 (sym c.is_empty.ensures ∙ c.if-is_empty.false)) in

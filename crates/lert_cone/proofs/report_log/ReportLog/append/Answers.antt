@@ -53,35 +53,24 @@ append-requires-clause-closed g c = λ seen told image may.
 
 pub returns-in_err-append : goal.returns-in_err-append
 returns-in_err-append g c =
-    refused_record (bays g) c.args.kind c.args.n0 c.args.directory.now c.args.reports.now c.args.bay.now c.append.new.bay c.args.self.now
+    let log : LogPlace = record { gate = c.self.inside.log.gate; most = c.self.inside.log.most; named = c.self.inside.named; places = c.self.inside.places } in
+    let payload = payload_at log c.args.kind c.args.n0 c.args.directory.now c.args.reports.now in
+    let text = text_at log c.args.kind c.args.n0 c.args.directory.now c.args.reports.now c.oldest-place.result c.oldest-place.ensures c.write_log-len.result
+    c.write_log-len.new.into c.write_log-len.ensures.text in
+    rw (← c.self.view_is) (refused_record (bays g) c.args.kind c.args.n0 c.args.directory.now c.args.reports.now c.args.bay.now c.append.new.bay log
     (record { gate = c.append.new.self.gate; most = c.append.new.self.most; named = c.self.inside.named; places = c.self.inside.places }) c.from_residual.result c.in_err-append.field-0.0
     c.from_residual.ensures.1 (record {
       moved = tt;
-      stayed = ap (λ (l : Log). record { gate = l.gate; most = l.most; named = c.self.inside.named; places = c.self.inside.places }) c.in_err-append.ensures.stayed ∙ c.self.view_is;
-      long = (let log : LogPlace = record { gate = c.self.inside.log.gate; most = c.self.inside.log.most; named = c.self.inside.named; places = c.self.inside.places } in
-          subst (λ (v : LogPlace). next_gate v.gate (payload_at v c.args.kind c.args.n0 c.args.directory.now c.args.reports.now) ≡ v.gate + 5
-          + payload_len v c.args.directory.now c.args.reports.now)
-          c.self.view_is
-          (ap (λ n. log.gate + 5 + n) (payload_long log c.args.kind c.args.n0 c.args.directory.now c.args.reports.now)));
+      stayed = ap (λ (l : Log). record { gate = l.gate; most = l.most; named = c.self.inside.named; places = c.self.inside.places }) c.in_err-append.ensures.stayed;
+      long = ap (λ n. log.gate + 5 + n) (payload_long log c.args.kind c.args.n0 c.args.directory.now c.args.reports.now);
       each_moment = λ seen told first payloads all image may.
-          (let log : LogPlace = record { gate = c.self.inside.log.gate; most = c.self.inside.log.most; named = c.self.inside.named; places = c.self.inside.places } in
-          let payload = payload_at log c.args.kind c.args.n0 c.args.directory.now c.args.reports.now in
-          let all_here : InEach (g.B.Bay.leaves c.args.bay.now) c.self.inside.log.file (λ bytes. IsGated c.self.inside.log.most bytes first payloads c.self.inside.log.gate) =
-          λ earlier left. subst (λ (f : ℕ). IsGated log.most (earlier f) first payloads log.gate) (sym c.self.invariant)
-          (subst (λ (v : LogPlace). IsGated v.most (earlier 1) first payloads v.gate)
-          (sym c.self.view_is) (all earlier left)) in
-          subst (λ (v : LogPlace). IsWithOrWithout v.most first payloads v.gate (payload_at v c.args.kind c.args.n0 c.args.directory.now c.args.reports.now) (image 1)) c.self.view_is
-          (subst (λ (f : ℕ). IsWithOrWithout log.most first payloads log.gate payload (image f)) c.self.invariant
-          (c.append.ensures.each_moment seen told first payloads payload
-          (text_at log c.args.kind c.args.n0 c.args.directory.now c.args.reports.now c.oldest-place.result c.oldest-place.ensures c.write_log-len.result c.write_log-len.new.into
-          c.write_log-len.ensures.text) all_here image may)));
+          subst (λ (f : ℕ). IsWithOrWithout log.most first payloads log.gate payload (image f)) c.self.invariant (c.append.ensures.each_moment seen told first payloads payload text
+          (λ earlier left. subst (λ (f : ℕ). IsGated log.most (earlier f) first payloads log.gate) (sym c.self.invariant) (all earlier left)) image may);
       appended = λ seen told first payloads all. tt;
       closed = λ seen told. tt;
       settled = tt;
-      before = λ seen told. subst (λ (v : LogPlace). KeepsBefore (g.B.Bay.leaves c.args.bay.now) (g.B.Bay.left_since c.append.new.bay (g.B.Bay.moment c.args.bay.now)) seen 1 v.gate)
-          c.self.view_is
-          (subst (λ (f : ℕ). KeepsBefore (g.B.Bay.leaves c.args.bay.now) (g.B.Bay.left_since c.append.new.bay (g.B.Bay.moment c.args.bay.now)) seen f c.self.inside.log.gate) c.self.invariant
-          (c.append.ensures.before seen told));
+      before = λ seen told. subst (λ (f : ℕ). KeepsBefore (g.B.Bay.leaves c.args.bay.now) (g.B.Bay.left_since c.append.new.bay (g.B.Bay.moment c.args.bay.now)) seen f log.gate)
+          c.self.invariant (c.append.ensures.before seen told);
       others = λ seen told. subst (λ (f : ℕ). KeepsOthers (g.B.Bay.leaves c.args.bay.now) (g.B.Bay.left_since c.append.new.bay (g.B.Bay.moment c.args.bay.now)) seen f) c.self.invariant
           (c.append.ensures.others seen told);
       seen = subst (λ (f : ℕ). Turns (OthersStay f) (g.B.Bay.files c.args.bay.now) (g.B.Bay.files c.append.new.bay)) c.self.invariant c.append.ensures.seen;
@@ -92,79 +81,52 @@ returns-in_err-append g c =
         mark = c.append.ensures.kept.mark;
         journal = c.append.ensures.kept.journal;
       };
-    })
+    }))
 
 pub returns : goal.returns
-returns g c = record {
-  moved = (let log : LogPlace = record { gate = c.self.inside.log.gate; most = c.self.inside.log.most; named = c.self.inside.named; places = c.self.inside.places } in
-      let gate_is : c.append.new.self.gate ≡ next_gate log.gate (payload_at log c.args.kind c.args.n0 c.args.directory.now c.args.reports.now) =
-      ap (λ (l : Log). l.gate) c.in_ok-append.ensures.moved ∙ omega (
-        arith,
-        text_long log c.args.kind c.args.n0 c.args.directory.now c.args.reports.now c.oldest-place.result c.oldest-place.ensures c.write_log-len.result
-            c.write_log-len.new.into c.write_log-len.ensures.text,
-      ) in
-      let most_is : c.append.new.self.most ≡ log.most = ap (λ (l : Log). l.most) c.in_ok-append.ensures.moved in
-      subst (λ (v : LogPlace). record {
-        gate = c.append.new.self.gate;
-        most = c.append.new.self.most;
+returns g c =
+    let log : LogPlace = record { gate = c.self.inside.log.gate; most = c.self.inside.log.most; named = c.self.inside.named; places = c.self.inside.places } in
+    let payload = payload_at log c.args.kind c.args.n0 c.args.directory.now c.args.reports.now in
+    let text = text_at log c.args.kind c.args.n0 c.args.directory.now c.args.reports.now c.oldest-place.result c.oldest-place.ensures c.write_log-len.result
+    c.write_log-len.new.into c.write_log-len.ensures.text in
+    let gate_is : c.append.new.self.gate ≡ next_gate log.gate payload = ap (λ (l : Log). l.gate) c.in_ok-append.ensures.moved
+    ∙ omega (
+      arith,
+      text_long log c.args.kind c.args.n0 c.args.directory.now c.args.reports.now c.oldest-place.result c.oldest-place.ensures c.write_log-len.result
+          c.write_log-len.new.into c.write_log-len.ensures.text,
+    ) in
+    rw (← c.self.view_is) (record {
+      moved = λ i. record {
+        gate = gate_is i;
+        most = (ap (λ (l : Log). l.most) c.in_ok-append.ensures.moved) i;
         named = length c.args.reports.now;
         places = c.self.inside.places;
-      } ≡ record {
-        gate = next_gate v.gate
-            (payload_at v c.args.kind c.args.n0 c.args.directory.now c.args.reports.now);
-        most = v.most;
-        named = length c.args.reports.now;
-        places = v.places;
-      }) c.self.view_is
-      (λ i. record { gate = gate_is i; most = most_is i; named = length c.args.reports.now; places = c.self.inside.places }));
-  stayed = tt;
-  long = (let log : LogPlace = record { gate = c.self.inside.log.gate; most = c.self.inside.log.most; named = c.self.inside.named; places = c.self.inside.places } in
-      subst (λ (v : LogPlace). next_gate v.gate (payload_at v c.args.kind c.args.n0 c.args.directory.now c.args.reports.now) ≡ v.gate + 5
-      + payload_len v c.args.directory.now c.args.reports.now)
-      c.self.view_is
-      (ap (λ n. log.gate + 5 + n) (payload_long log c.args.kind c.args.n0 c.args.directory.now c.args.reports.now)));
-  each_moment = λ seen told first payloads all image may.
-      (let log : LogPlace = record { gate = c.self.inside.log.gate; most = c.self.inside.log.most; named = c.self.inside.named; places = c.self.inside.places } in
-      let payload = payload_at log c.args.kind c.args.n0 c.args.directory.now c.args.reports.now in
-      let all_here : InEach (g.B.Bay.leaves c.args.bay.now) c.self.inside.log.file (λ bytes. IsGated c.self.inside.log.most bytes first payloads c.self.inside.log.gate) =
-      λ earlier left. subst (λ (f : ℕ). IsGated log.most (earlier f) first payloads log.gate) (sym c.self.invariant)
-      (subst (λ (v : LogPlace). IsGated v.most (earlier 1) first payloads v.gate)
-      (sym c.self.view_is) (all earlier left)) in
-      subst (λ (v : LogPlace). IsWithOrWithout v.most first payloads v.gate (payload_at v c.args.kind c.args.n0 c.args.directory.now c.args.reports.now) (image 1)) c.self.view_is
-      (subst (λ (f : ℕ). IsWithOrWithout log.most first payloads log.gate payload (image f)) c.self.invariant
-      (c.append.ensures.each_moment seen told first payloads payload
-      (text_at log c.args.kind c.args.n0 c.args.directory.now c.args.reports.now c.oldest-place.result c.oldest-place.ensures c.write_log-len.result c.write_log-len.new.into
-      c.write_log-len.ensures.text) all_here image may)));
-  appended = λ seen told first payloads all image may.
-      (let log : LogPlace = record { gate = c.self.inside.log.gate; most = c.self.inside.log.most; named = c.self.inside.named; places = c.self.inside.places } in
-      let payload = payload_at log c.args.kind c.args.n0 c.args.directory.now c.args.reports.now in
-      let all_here : InEach (g.B.Bay.leaves c.args.bay.now) c.self.inside.log.file (λ bytes. IsGated c.self.inside.log.most bytes first payloads c.self.inside.log.gate) =
-      λ earlier left. subst (λ (f : ℕ). IsGated log.most (earlier f) first payloads log.gate) (sym c.self.invariant)
-      (subst (λ (v : LogPlace). IsGated v.most (earlier 1) first payloads v.gate)
-      (sym c.self.view_is) (all earlier left)) in
-      subst (λ (v : LogPlace). IsGated v.most (image 1) first (payloads ++ payload_at v c.args.kind c.args.n0 c.args.directory.now c.args.reports.now ∷ []) c.append.new.self.gate)
-      c.self.view_is
-      (subst (λ (f : ℕ). IsGated log.most (image f) first (payloads ++ payload ∷ []) c.append.new.self.gate) c.self.invariant
-      (c.in_ok-append.ensures.appended seen told first payloads payload
-      (text_at log c.args.kind c.args.n0 c.args.directory.now c.args.reports.now c.oldest-place.result c.oldest-place.ensures c.write_log-len.result c.write_log-len.new.into
-      c.write_log-len.ensures.text) all_here image may)));
-  closed = λ seen told. subst (λ (f : ℕ). InEach (g.B.Bay.leaves c.append.new.bay) f (λ bytes. IsClosed bytes c.append.new.self.gate)) c.self.invariant
-      (c.in_ok-append.ensures.closed seen told);
-  settled = λ seen told. subst (λ (f : ℕ). IsWhollySettled (g.B.Bay.leaves c.append.new.bay) seen f) c.self.invariant (c.in_ok-append.ensures.settled seen told);
-  before = λ seen told. subst (λ (v : LogPlace). KeepsBefore (g.B.Bay.leaves c.args.bay.now) (g.B.Bay.left_since c.append.new.bay (g.B.Bay.moment c.args.bay.now)) seen 1 v.gate) c.self.view_is
-      (subst (λ (f : ℕ). KeepsBefore (g.B.Bay.leaves c.args.bay.now) (g.B.Bay.left_since c.append.new.bay (g.B.Bay.moment c.args.bay.now)) seen f c.self.inside.log.gate) c.self.invariant
-      (c.append.ensures.before seen told));
-  others = λ seen told. subst (λ (f : ℕ). KeepsOthers (g.B.Bay.leaves c.args.bay.now) (g.B.Bay.left_since c.append.new.bay (g.B.Bay.moment c.args.bay.now)) seen f) c.self.invariant
-      (c.append.ensures.others seen told);
-  seen = subst (λ (f : ℕ). Turns (OthersStay f) (g.B.Bay.files c.args.bay.now) (g.B.Bay.files c.append.new.bay)) c.self.invariant c.append.ensures.seen;
-  kept = record {
-    time = c.append.ensures.kept.time;
-    never_falls = c.append.ensures.kept.never_falls;
-    failed = λ never. absurd (false≢true never);
-    mark = c.append.ensures.kept.mark;
-    journal = c.append.ensures.kept.journal;
-  };
-}
+      };
+      stayed = tt;
+      long = ap (λ n. log.gate + 5 + n) (payload_long log c.args.kind c.args.n0 c.args.directory.now c.args.reports.now);
+      each_moment = λ seen told first payloads all image may.
+          subst (λ (f : ℕ). IsWithOrWithout log.most first payloads log.gate payload (image f)) c.self.invariant (c.append.ensures.each_moment seen told first payloads payload text
+          (λ earlier left. subst (λ (f : ℕ). IsGated log.most (earlier f) first payloads log.gate) (sym c.self.invariant) (all earlier left)) image may);
+      appended = λ seen told first payloads all image may.
+          subst (λ (f : ℕ). IsGated log.most (image f) first (payloads ++ payload ∷ []) c.append.new.self.gate) c.self.invariant
+          (c.in_ok-append.ensures.appended seen told first payloads payload text
+          (λ earlier left. subst (λ (f : ℕ). IsGated log.most (earlier f) first payloads log.gate) (sym c.self.invariant) (all earlier left)) image may);
+      closed = λ seen told. subst (λ (f : ℕ). InEach (g.B.Bay.leaves c.append.new.bay) f (λ bytes. IsClosed bytes c.append.new.self.gate)) c.self.invariant
+          (c.in_ok-append.ensures.closed seen told);
+      settled = λ seen told. subst (λ (f : ℕ). IsWhollySettled (g.B.Bay.leaves c.append.new.bay) seen f) c.self.invariant (c.in_ok-append.ensures.settled seen told);
+      before = λ seen told. subst (λ (f : ℕ). KeepsBefore (g.B.Bay.leaves c.args.bay.now) (g.B.Bay.left_since c.append.new.bay (g.B.Bay.moment c.args.bay.now)) seen f log.gate)
+          c.self.invariant (c.append.ensures.before seen told);
+      others = λ seen told. subst (λ (f : ℕ). KeepsOthers (g.B.Bay.leaves c.args.bay.now) (g.B.Bay.left_since c.append.new.bay (g.B.Bay.moment c.args.bay.now)) seen f) c.self.invariant
+          (c.append.ensures.others seen told);
+      seen = subst (λ (f : ℕ). Turns (OthersStay f) (g.B.Bay.files c.args.bay.now) (g.B.Bay.files c.append.new.bay)) c.self.invariant c.append.ensures.seen;
+      kept = record {
+        time = c.append.ensures.kept.time;
+        never_falls = c.append.ensures.kept.never_falls;
+        failed = λ never. absurd (false≢true never);
+        mark = c.append.ensures.kept.mark;
+        journal = c.append.ensures.kept.journal;
+      };
+    })
 
 -- ---- where the slices end, and what stays so of the log
 

@@ -10,22 +10,12 @@ use Rattle.lert_cone.proofs.tally.Tally.recount_key.Goals as goal
 
 pub overflow_add-m : goal.overflow_add-m
 overflow_add-m g c =
-    let recounted : IsRecounted (record {
-      listing = record { settings = c.self.inside.settings; cone = c.self.inside.cone; events = c.self.inside.unread ++ c.self.inside.taken; closed = c.self.inside.closed };
-      young = c.self.inside.zero;
-      rows = c.self.inside.levels.rows;
-      due = due_in c.self.inside.due;
-    }) c.args.n0 = subst (λ (v : Tallied). IsRecounted v c.args.n0) (sym c.self.view_is) c.requires.recounted in
+    let recounted = subst (λ (v : Tallied). IsRecounted v c.args.n0) (sym c.self.view_is) c.requires.recounted in
     omega (arith, c.self.invariant.len_is, recounted.fits, c.self.invariant.valid.positions_fit)
 
 pub flush_behind-flush-requires-clause-fits : goal.flush_behind-flush-requires-clause-fits
 flush_behind-flush-requires-clause-fits g c =
-    let recounted : IsRecounted (record {
-      listing = record { settings = c.self.inside.settings; cone = c.self.inside.cone; events = c.self.inside.unread ++ c.self.inside.taken; closed = c.self.inside.closed };
-      young = c.self.inside.zero;
-      rows = c.self.inside.levels.rows;
-      due = due_in c.self.inside.due;
-    }) c.args.n0 = subst (λ (v : Tallied). IsRecounted v c.args.n0) (sym c.self.view_is) c.requires.recounted in
+    let recounted = subst (λ (v : Tallied). IsRecounted v c.args.n0) (sym c.self.view_is) c.requires.recounted in
     let before : length (c.self.inside.unread ++ c.self.inside.taken) < c.args.n0 = subst (λ (v : Tallied). length v.listing.events < c.args.n0) (sym c.self.view_is) c.requires.within in
     omega (arith, c.self.invariant.len_is, before, recounted.n0_fits)
 
@@ -39,7 +29,7 @@ pub returns-clause-listing : goal.returns-clause-listing
 returns-clause-listing g c =
     ap (λ (keys : List ℕ). record { settings = c.self.inside.settings; cone = c.self.inside.cone; events = keys; closed = c.self.inside.closed })
     (ap (λ keys. c.self.inside.unread ++ keys) c.push.ensures ∙ sym (append_assoc c.self.inside.unread c.self.inside.taken (c.args.key ∷ [])))
-    ∙ ap (λ (v : Tallied). record { settings = v.listing.settings; cone = v.listing.cone; events = v.listing.events ++ c.args.key ∷ []; closed = v.listing.closed }) c.self.view_is
+    ∙ ap (λ (v : Tallied). record v.listing { events = v.listing.events ++ c.args.key ∷ [] }) c.self.view_is
 
 pub returns-clause-rows : goal.returns-clause-rows
 returns-clause-rows g c = ap (λ (v : Tallied). v.rows) c.self.view_is
@@ -49,20 +39,14 @@ returns-clause-due g c = ap (λ (v : Tallied). v.due) c.self.view_is
 
 pub count_again-requires-clause-position : goal.count_again-requires-clause-position
 count_again-requires-clause-position g c =
-    let t : Tallied = record {
-      listing = record { settings = c.self.inside.settings; cone = c.self.inside.cone; events = c.self.inside.unread ++ c.self.inside.taken; closed = c.self.inside.closed };
-      young = c.self.inside.zero;
-      rows = c.self.inside.levels.rows;
-      due = due_in c.self.inside.due;
-    } in
-    let recounted : IsRecounted t c.args.n0 = subst (λ (v : Tallied). IsRecounted v c.args.n0) (sym c.self.view_is) c.requires.recounted in
+    let recounted = subst (λ (v : Tallied). IsRecounted v c.args.n0) (sym c.self.view_is) c.requires.recounted in
     let before : length (c.self.inside.unread ++ c.self.inside.taken) < c.args.n0 = subst (λ (v : Tallied). length v.listing.events < c.args.n0) (sym c.self.view_is) c.requires.within in
     let m_is : c.self.inside.len + 1 ≡ suc (length (c.self.inside.unread ++ c.self.inside.taken)) = omega (arith, c.self.invariant.len_is) in
     let from_is : c.args.from ≡ edge c.self.inside.settings 0 c.args.n0 =
     subst (λ (v : Tallied). c.args.from ≡ edge v.listing.settings 0 c.args.n0) (sym c.self.view_is) c.requires.from in
     let from_young : c.args.from ≡ edge c.self.inside.zero.settings 0 c.args.n0 = from_is ∙ ap (λ (v : Numbers). edge v 0 c.args.n0) (sym c.self.invariant.young_settings) in
     subst (λ e. e < c.self.inside.len + 1 → IsNextPosition c.self.inside.zero (c.self.inside.len + 1)) (sym from_young)
-    (recount_position t c.args.n0 recounted c.self.invariant.young_settings before c.args.key c.tail_of-tail.result (c.self.inside.len + 1) c.tail_of-tail.ensures.value m_is)
+    (recount_position _ c.args.n0 recounted c.self.invariant.young_settings before c.args.key c.tail_of-tail.result (c.self.inside.len + 1) c.tail_of-tail.ensures.value m_is)
 
 pub invariant_of-self : goal.invariant_of-self
 invariant_of-self g c = record {
@@ -85,13 +69,7 @@ invariant_of-self g c = record {
 
 pub returns-clause-recounted : goal.returns-clause-recounted
 returns-clause-recounted g c =
-    let t : Tallied = record {
-      listing = record { settings = c.self.inside.settings; cone = c.self.inside.cone; events = c.self.inside.unread ++ c.self.inside.taken; closed = c.self.inside.closed };
-      young = c.self.inside.zero;
-      rows = c.self.inside.levels.rows;
-      due = due_in c.self.inside.due;
-    } in
-    let recounted : IsRecounted t c.args.n0 = subst (λ (v : Tallied). IsRecounted v c.args.n0) (sym c.self.view_is) c.requires.recounted in
+    let recounted = subst (λ (v : Tallied). IsRecounted v c.args.n0) (sym c.self.view_is) c.requires.recounted in
     let before : length (c.self.inside.unread ++ c.self.inside.taken) < c.args.n0 = subst (λ (v : Tallied). length v.listing.events < c.args.n0) (sym c.self.view_is) c.requires.within in
     let m_is : c.self.inside.len + 1 ≡ suc (length (c.self.inside.unread ++ c.self.inside.taken)) = omega (arith, c.self.invariant.len_is) in
     let own : cone_of c.self.inside.settings c.args.key ≡ c.self.inside.cone =
@@ -99,15 +77,9 @@ returns-clause-recounted g c =
     let from_is : c.args.from ≡ edge c.self.inside.settings 0 c.args.n0 =
     subst (λ (v : Tallied). c.args.from ≡ edge v.listing.settings 0 c.args.n0) (sym c.self.view_is) c.requires.from in
     let from_young : c.args.from ≡ edge c.self.inside.zero.settings 0 c.args.n0 = from_is ∙ ap (λ (v : Numbers). edge v 0 c.args.n0) (sym c.self.invariant.young_settings) in
-    recounted_more t c.args.n0 recounted c.self.invariant.young_settings before c.args.key c.tail_of-tail.result (c.self.inside.len + 1) c.tail_of-tail.ensures.value m_is c.ranges.key.fits own
+    recounted_more _ c.args.n0 recounted c.self.invariant.young_settings before c.args.key c.tail_of-tail.result (c.self.inside.len + 1) c.tail_of-tail.ensures.value m_is c.ranges.key.fits own
     c.count_again.new.zero
-    (c.count_again.ensures ∙ ap (λ e. cond (ltb e (c.self.inside.len + 1)) (with_event c.self.inside.zero c.tail_of-tail.result (c.self.inside.len + 1)) c.self.inside.zero) from_young)
-    (record {
-      listing = record { settings = c.self.inside.settings; cone = c.self.inside.cone; events = c.self.inside.unread ++ c.push.new.self; closed = c.self.inside.closed };
-      young = c.count_again.new.zero;
-      rows = c.self.inside.levels.rows;
-      due = due_in c.self.inside.due;
-    })
+    (c.count_again.ensures ∙ ap (λ e. cond (ltb e (c.self.inside.len + 1)) (with_event c.self.inside.zero c.tail_of-tail.result (c.self.inside.len + 1)) c.self.inside.zero) from_young) _
     (ap (λ (keys : List ℕ). record {
       listing = record { settings = c.self.inside.settings; cone = c.self.inside.cone; events = keys; closed = c.self.inside.closed };
       young = c.count_again.new.zero;

@@ -107,12 +107,7 @@ invariant_of-self-2 g c = record {
 
 pub add-requires-clause-position : goal.add-requires-clause-position
 add-requires-clause-position g c =
-    let counted : IsCounted (record {
-      listing = record { settings = c.self.inside.settings; cone = c.self.inside.cone; events = c.self.inside.unread ++ c.self.inside.taken; closed = c.self.inside.closed };
-      young = c.self.inside.zero;
-      rows = c.self.inside.levels.rows;
-      due = due_in c.self.inside.due;
-    }) = subst (λ (v : Tallied). IsCounted v) (sym c.self.view_is) c.requires.counted in
+    let counted = subst (λ (v : Tallied). IsCounted v) (sym c.self.view_is) c.requires.counted in
     let fits : length (c.self.inside.unread ++ c.self.inside.taken) < capacity c.self.inside.settings =
     subst (λ (v : Tallied). length v.listing.events < capacity v.listing.settings) (sym c.self.view_is) c.requires.fits in
     let m_is : c.self.inside.len + 1 ≡ suc (length (c.self.inside.unread ++ c.self.inside.taken)) = omega (arith, c.self.invariant.len_is) in
