@@ -1,9 +1,9 @@
 -- What a cone keeps on its way through its journal: up to n0 events the files go together with memory as after n0 events, and
 -- from then on as after the keys so far.
-use Rattle.std.proofs.Common.{◌≡◌, ℕ, zero, suc, ◌+◌, ◌-◌, ◌<◌, ◌≤◌, true, false, cond, List, [], ◌++◌, length, take, drop, min, max, refl, sym, ap, ◌∙◌, subst}
+use Rattle.std.proofs.Common.{◌≡◌, ℕ, zero, suc, ◌+◌, ◌-◌, ◌≤◌, true, cond, List, [], ◌++◌, length, take, drop, max, refl, sym, ap, ◌∙◌, subst}
 use Rattle.std.proofs.Common.{inl, inr, arith, length-append}
-use Rattle.std.proofs.Common.{length-take, length-drop, append-nil, append_assoc}
-use Rattle.std.proofs.lemmas.Bool.{cases_eq, cases_lt, cases_Bool, eq-eqb, ne_eqb}
+use Rattle.std.proofs.Common.{length-take, append-nil}
+use Rattle.std.proofs.lemmas.Bool.{cases_eq, cases_lt, eq-eqb, ne_eqb}
 use Rattle.std.proofs.lemmas.List.{take_at, take_all, take-append-drop, length-take-le}
 use Rattle.lert_base.specs.Packet.{Packet, events_of}
 use Rattle.lert_bay.specs.Files.{Files}
@@ -18,11 +18,11 @@ use Rattle.lert_cone.specs.InStep.{IsInStep, IsPartway}
 use Rattle.lert_cone.specs.Listing.{Listing}
 use Rattle.lert_cone.specs.JournalPlaces.{ArePlacesIn, Places}
 use Rattle.lert_cone.specs.Record.{LogPlace}
-use Rattle.lert_cone.specs.Replay.{IsOnWay, IsPast, IsNext, MayFollow, ReplayLeavesAt}
+use Rattle.lert_cone.specs.Replay.{IsOnWay, IsPast, ReplayLeavesAt}
 use Rattle.lert_cone.specs.Sound.{IsJournal, IsSound, but_last}
 use Rattle.lert_cone.specs.Stands.{IsWhole}
 use Rattle.lert_cone.specs.Tally.{Tallied, IsCounted, IsRecounted}
-use Rattle.lert_cone.proofs.GateLaws.{keys_next, keys_cut, never_leaves}
+use Rattle.lert_cone.proofs.GateLaws.{never_leaves}
 use Rattle.lert_cone.proofs.FlushLaws.{last_flush_grows}
 use Rattle.lert_cone.proofs.AppendLaws.{whole_of}
 use Rattle.lert_cone.proofs.StepLaws.{sound_of}

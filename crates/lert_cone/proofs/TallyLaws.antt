@@ -21,7 +21,7 @@ use Rattle.lert_levels.specs.rows.Rows.{IsAt, HoldsBins, range_of, row_of}
 use Rattle.lert_levels.specs.rows.Young.{Young, IsNextPosition, with_event}
 use Rattle.lert_levels.proofs.rows.RangeLaws.{IsCut, cuts_are, depth_moves, depth_stays, ranges_still}
 use Rattle.lert_levels.proofs.rows.Windows.{young_cover}
-use Rattle.lert_levels.proofs.rows.YoungBins.{young-added, young-dropped, young-none}
+use Rattle.lert_levels.proofs.rows.YoungBins.{young-added, young-dropped}
 use Rattle.lert_cone.specs.Tally.{AreYoung, totals_at}
 use Rattle.lert_cone.proofs.TotalLaws.{edge_within}
 

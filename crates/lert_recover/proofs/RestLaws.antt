@@ -1,6 +1,6 @@
 -- What stands at a gate, behind the packets before it.
-use Rattle.std.proofs.Common.{ℕ, ◌≡◌, ◌+◌, ◌-◌, ◌*◌, ◌/◌, ◌<◌, ◌≤◌, ◌^◌, Bool, true, false, Some, None, List, [], ◌∷◌, length, drop, refl, ap, sym}
-use Rattle.std.proofs.Common.{◌∙◌, subst, arith, inl, inr, append-nil}
+use Rattle.std.proofs.Common.{ℕ, ◌≡◌, ◌+◌, ◌-◌, ◌*◌, ◌/◌, ◌<◌, ◌≤◌, ◌^◌, Bool, true, false, None, List, [], ◌∷◌, length, drop, refl, ap, sym}
+use Rattle.std.proofs.Common.{◌∙◌, subst, arith, inl, append-nil}
 use Rattle.std.specs.Prelude.{All, slice_index}
 use Rattle.std.proofs.lemmas.List.{get_or-drop}
 use Rattle.std.proofs.lemmas.List.FromFn.{get_or-map-range_with_len, length-map-range_with_len}
