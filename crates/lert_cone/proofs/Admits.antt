@@ -1,25 +1,14 @@
 -- What a cone answers to a packet: it refuses it before the first step, or breaks off in the middle, or takes it.
-use Rattle.std.proofs.Common.{◌≡◌, ℕ, ◌+◌, ◌<◌, true, false, List, [], ◌∷◌, ◌++◌, length, Some, None, Result, Err, OnOk, OnErr, refl, sym, ap, ◌∙◌}
-use Rattle.std.proofs.Common.{subst, inl}
-use Rattle.std.specs.Prelude.{◌↔◌, IfOk, IfErr, IsErrOf}
-use Rattle.std.specs.Result.{IsErrAnd}
-use Rattle.std.proofs.lemmas.Bool.{false≢true}
-use Rattle.lert_base.specs.Packet.{Packet, events_of}
-use Rattle.lert_bay.specs.Files.{Files, IfTold, Turns}
+use Rattle.std.proofs.{Common.{◌≡◌, ℕ, ◌+◌, ◌<◌, true, false, List, [], ◌∷◌, ◌++◌, length, Some, None, Result, Err, OnOk, OnErr, refl, sym, ap, ◌∙◌, subst, inl}, lemmas.Bool.false≢true}
+use Rattle.std.specs.{Prelude.{◌↔◌, IfOk, IfErr, IsErrOf}, Result.IsErrAnd}
+use Rattle.lert_base.specs.{Packet.{Packet, events_of}, declared.cone_fault.ConeFault.ConeFault, declared.cone_fault.ConeFault.TheVariants.{Closed, Broken, CapacityFull, BayFailed, Unsound}}
+use Rattle.lert_bay.specs.{Files.{Files, IfTold, Turns}, Kept.{Bays, KeepsBay}}
 use Rattle.lert_gatelog.specs.Gated.{next_gate}
 use Rattle.lert_io.specs.Fault.{HasRisen}
 use Rattle.lert_journal.specs.Payload.{payload_of}
-use Rattle.lert_spec.specs.Edges.{capacity}
-use Rattle.lert_spec.specs.Timely.{IsTimelySoFar}
-use Rattle.lert_cone.specs.declared.acked.Acked.{Acked}
-use Rattle.lert_base.specs.declared.cone_fault.ConeFault.{ConeFault}
-use Rattle.lert_base.specs.declared.cone_fault.ConeFault.TheVariants.{Closed, Broken, CapacityFull, BayFailed, Unsound}
-use Rattle.lert_cone.specs.declared.state.ConeState.TheVariants.{Running, Finished, BrokenByBay, BrokenByRead}
-use Rattle.lert_bay.specs.Kept.{Bays, KeepsBay}
-use Rattle.lert_cone.specs.Sound.{IsSoundOver}
-use Rattle.lert_cone.specs.Stands.{Standing, StandsFor, WasSound, Answers, IsSameCone, is_broken, is_refusal}
-use Rattle.lert_cone.specs.Tally.{Shows}
-use Rattle.lert_cone.specs.Wrote.{Anything}
+use Rattle.lert_spec.specs.{Edges.capacity, Timely.IsTimelySoFar}
+use Rattle.lert_cone.specs.{declared.acked.Acked.Acked, declared.state.ConeState.TheVariants.{Running, Finished, BrokenByBay, BrokenByRead}, Sound.IsSoundOver}
+use Rattle.lert_cone.specs.{Stands.{Standing, StandsFor, WasSound, Answers, IsSameCone, is_broken, is_refusal}, Tally.Shows, Wrote.Anything}
 use Rattle.lert_bay.proofs.KeptLaws.{IsLawful, keeps_none}
 use Rattle.lert_cone.proofs.TakeLaws.{handed_on}
 

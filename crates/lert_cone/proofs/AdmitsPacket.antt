@@ -1,32 +1,16 @@
 -- What a cone answers to a packet that it takes.
-use Rattle.std.proofs.Common.{◌≡◌, ℕ, ◌+◌, ◌<◌, ◌≤◌, false, List, [], ◌∷◌, ◌++◌, length, Option, Ok, refl, sym, ap, ◌∙◌, subst, arith}
-use Rattle.std.proofs.lemmas.Bool.{false≢true}
+use Rattle.std.proofs.{Common.{◌≡◌, ℕ, ◌+◌, ◌<◌, ◌≤◌, false, List, [], ◌∷◌, ◌++◌, length, Option, Ok, refl, sym, ap, ◌∙◌, subst, arith}, lemmas.Bool.false≢true}
 use Rattle.lert_base.specs.Packet.{Packet, events_of}
-use Rattle.lert_bay.specs.Files.{IfTold}
+use Rattle.lert_bay.specs.{Files.IfTold, Kept.Bays}
 use Rattle.lert_gatelog.specs.Gated.{Log, next_gate}
 use Rattle.lert_journal.specs.Payload.{payload_of}
-use Rattle.lert_spec.specs.declared.numbers.Numbers.{Numbers}
-use Rattle.lert_spec.specs.Edges.{capacity}
-use Rattle.lert_spec.specs.Look.{look}
-use Rattle.lert_spec.specs.Timely.{IsTimelySoFar}
+use Rattle.lert_spec.specs.{declared.numbers.Numbers.Numbers, Edges.capacity, Look.look, Timely.IsTimelySoFar}
 use Rattle.lert_reports.specs.declared.log_point.LogPoint.{LogPoint}
-use Rattle.lert_cone.specs.declared.state.ConeState.{ConeState}
-use Rattle.lert_cone.specs.declared.state.ConeState.TheVariants.{Running}
-use Rattle.lert_bay.specs.Kept.{Bays}
-use Rattle.lert_cone.specs.InStep.{IsLogging}
-use Rattle.lert_cone.specs.Listing.{Listing}
-use Rattle.lert_cone.specs.Record.{LogPlace}
-use Rattle.lert_cone.specs.Sound.{IsSound}
-use Rattle.lert_cone.specs.Stands.{Standing, StandsFor, WasSound, IsCone, IsSameCone, is_broken, is_finished}
-use Rattle.lert_cone.specs.Takes.{TakesPacket}
-use Rattle.lert_cone.specs.Tally.{Tallied}
-use Rattle.lert_cone.specs.Wrote.{Anything}
+use Rattle.lert_cone.specs.{declared.state.ConeState.ConeState, declared.state.ConeState.TheVariants.Running, InStep.IsLogging, Listing.Listing, Record.LogPlace, Sound.IsSound}
+use Rattle.lert_cone.specs.{Stands.{Standing, StandsFor, WasSound, IsCone, IsSameCone, is_broken, is_finished}, Takes.TakesPacket, Tally.Tallied, Wrote.Anything}
 use Rattle.lert_bay.proofs.KeptLaws.{IsLawful, keeps_as}
-use Rattle.lert_cone.proofs.SoundLaws.{turns_back, counted_more, end_more}
-use Rattle.lert_cone.proofs.AppendLaws.{whole_of, some_more, keys_more}
-use Rattle.lert_cone.proofs.StandLaws.{more_cone, stands_whole, reports_running, cone_at}
-use Rattle.lert_cone.proofs.TimeLaws.{timely_so_far}
-use Rattle.lert_cone.proofs.Admits.{Admits}
+use Rattle.lert_cone.proofs.{SoundLaws.{turns_back, counted_more, end_more}, AppendLaws.{whole_of, some_more, keys_more}, StandLaws.{more_cone, stands_whole, reports_running, cone_at}}
+use Rattle.lert_cone.proofs.{TimeLaws.timely_so_far, Admits.Admits}
 
 module _ {B : Type 0} (bays : Bays B) (lawful : IsLawful bays) (packet : Packet) where
   module _ (bay made bay_after : B) (tally after : Tallied) (events room room_after : ℕ) (state : ConeState) (over : Option Packet) (journal journal_after : Log) (log log_after : LogPlace)

@@ -1,42 +1,20 @@
 -- What sound files and what was read of their log make of a cone that goes through the journal anew.
-use Rattle.std.proofs.Common.{◌≡◌, ℕ, ◌+◌, ◌-◌, ◌^◌, ◌<◌, ◌≤◌, Bool, true, false, cond, List, [], ◌∷◌, length, take, get_or, map, max, All, Option, Some, refl, sym, ap, ◌∙◌, subst, inl, inr}
-use Rattle.std.proofs.Common.{arith}
+use Rattle.std.proofs.Common.{◌≡◌, ℕ, ◌+◌, ◌-◌, ◌^◌, ◌<◌, ◌≤◌, Bool, true, false, cond, List, [], ◌∷◌, length, take, get_or, map, max, All, Option, Some, refl, sym, ap, ◌∙◌, subst, inl, inr, arith}
+use Rattle.std.proofs.{lemmas.Bool.{cases_Bool, cases_eq}, Math.Nat.mul-div-le, lemmas.List.{get_or-map, length-take-le, take_all}, lemmas.List.Elements.{All-nil, All-cons}}
 use Rattle.std.specs.Prelude.{slice_index_or}
-use Rattle.std.proofs.lemmas.Bool.{cases_Bool, cases_eq}
-use Rattle.std.proofs.Math.Nat.{mul-div-le}
-use Rattle.std.proofs.lemmas.List.{get_or-map, length-take-le, take_all}
-use Rattle.std.proofs.lemmas.List.Elements.{All-nil, All-cons}
 use Rattle.lert_base.specs.Packet.{Packet, events_of}
-use Rattle.lert_bay.specs.Files.{Files}
-use Rattle.lert_bay.specs.Settled.{IsSettled}
+use Rattle.lert_bay.specs.{Files.Files, Settled.IsSettled}
 use Rattle.lert_frames.specs.Frame.{HoldsFrame}
 use Rattle.lert_gatelog.specs.Kept.{InEach, IsWhollySettled}
-use Rattle.lert_levels.specs.declared.rows.bin_at.BinAt.{BinAt}
-use Rattle.lert_levels.specs.Flushed.{InNamed}
-use Rattle.lert_levels.specs.rows.Ranges.{filled}
-use Rattle.lert_levels.specs.rows.Rows.{IsAt, AreRows, HoldsBins, range_of, row_of, tallied_in}
+use Rattle.lert_levels.specs.{declared.rows.bin_at.BinAt.BinAt, Flushed.InNamed, rows.Ranges.filled, rows.Rows.{IsAt, AreRows, HoldsBins, range_of, row_of, tallied_in}}
 use Rattle.lert_levels.proofs.rows.RangeLaws.{bins-ranges}
-use Rattle.lert_reports.specs.Log.{HasLog, listed_in, last_n0, last_directory, is_closed, most_record}
-use Rattle.lert_reports.specs.LogText.{LogRecord}
+use Rattle.lert_reports.specs.{Log.{HasLog, listed_in, last_n0, last_directory, is_closed, most_record}, LogText.LogRecord}
 use Rattle.lert_reports.proofs.LogOnce.{one_log}
-use Rattle.lert_spec.specs.declared.numbers.Numbers.{Numbers}
-use Rattle.lert_spec.specs.declared.report.Report.{Report}
-use Rattle.lert_spec.specs.Bins.{Bin, bins}
-use Rattle.lert_spec.specs.Edges.{offset as offset_of, span, edge}
-use Rattle.lert_spec.specs.Limits.{IsValid}
-use Rattle.lert_spec.specs.Look.{look, closing}
-use Rattle.lert_cone.specs.Framed.{last_flush, flushed}
-use Rattle.lert_cone.specs.InStep.{IsInStep}
-use Rattle.lert_cone.specs.Logged.{IsLogOf, frames_of}
-use Rattle.lert_cone.specs.declared.journal_places.JournalPlace.{JournalPlace}
-use Rattle.lert_cone.specs.JournalPlaces.{HoldsPosition, IsPlaceIn, NamesRecord, first_place, last_place, places_from}
-use Rattle.lert_cone.specs.Replay.{IsLastOf, IsOnWay, IsPast}
-use Rattle.lert_cone.specs.Sound.{IsSound, HoldFrames, HoldsDirectory}
-use Rattle.lert_cone.specs.Unread.{unread}
-use Rattle.lert_cone.proofs.FlushLaws.{last_flush_logged}
-use Rattle.lert_cone.proofs.JournalPlaceLaws.{places_none}
-use Rattle.lert_cone.proofs.StepLaws.{journal_since, log_since, frames_since}
-use Rattle.lert_cone.proofs.UnreadLaws.{unread_is}
+use Rattle.lert_spec.specs.{declared.numbers.Numbers.Numbers, declared.report.Report.Report, Bins.{Bin, bins}, Edges.{offset as offset_of, span, edge}, Limits.IsValid, Look.{look, closing}}
+use Rattle.lert_cone.specs.{Framed.{last_flush, flushed}, InStep.IsInStep, Logged.{IsLogOf, frames_of}, declared.journal_places.JournalPlace.JournalPlace}
+use Rattle.lert_cone.specs.{JournalPlaces.{HoldsPosition, IsPlaceIn, NamesRecord, first_place, last_place, places_from}, Replay.{IsLastOf, IsOnWay, IsPast}}
+use Rattle.lert_cone.specs.{Sound.{IsSound, HoldFrames, HoldsDirectory}, Unread.unread}
+use Rattle.lert_cone.proofs.{FlushLaws.last_flush_logged, JournalPlaceLaws.places_none, StepLaws.{journal_since, log_since, frames_since}, UnreadLaws.unread_is}
 
 -- ---- frames
 

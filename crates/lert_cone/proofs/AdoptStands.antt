@@ -2,32 +2,13 @@
 use Rattle.std.proofs.Common.{◌≡◌, ℕ, ◌*◌, ◌^◌, ◌≤◌, Bool, List, length, Option, Some, None, refl, sym, ap, ◌∙◌, subst, arith}
 use Rattle.lert_base.specs.Packet.{Packet}
 use Rattle.lert_bay.specs.Files.{Files, IfTold}
-use Rattle.lert_gatelog.specs.Gated.{Log}
-use Rattle.lert_gatelog.specs.Kept.{IsWhollySettled}
-use Rattle.lert_levels.specs.declared.rows.bin_at.BinAt.{BinAt}
-use Rattle.lert_levels.specs.rows.Rows.{IsAt}
-use Rattle.lert_reports.specs.Log.{HasLog, HasRecords, last_n0, most_record}
-use Rattle.lert_reports.specs.LogText.{LogRecord}
-use Rattle.lert_reports.specs.declared.log_point.LogPoint.{LogPoint}
-use Rattle.lert_spec.specs.declared.numbers.Numbers.{Numbers}
-use Rattle.lert_spec.specs.declared.report.Report.{Report}
-use Rattle.lert_spec.specs.Edges.{capacity, edge}
-use Rattle.lert_spec.specs.Limits.{IsValid}
-use Rattle.lert_cone.specs.History.{most_payload}
-use Rattle.lert_cone.specs.KeepsLog.{IsHeadOf, LogHead}
-use Rattle.lert_cone.specs.Listing.{Listing}
-use Rattle.lert_cone.specs.Logged.{frames_of}
-use Rattle.lert_cone.specs.JournalPlaces.{places_from}
-use Rattle.lert_cone.specs.Record.{LogPlace}
-use Rattle.lert_cone.specs.Replay.{IsLastOf, IsOnWay, IsPast}
-use Rattle.lert_cone.specs.Replaying.{IsReplaying}
-use Rattle.lert_cone.specs.Replays.{Replays}
-use Rattle.lert_cone.specs.Room.{room_of}
-use Rattle.lert_cone.specs.Tally.{Tallied, IsRecounted}
-use Rattle.lert_cone.specs.Wrote.{IsShutIfTold}
-use Rattle.lert_cone.proofs.FaultLaws.{turns_as}
-use Rattle.lert_cone.proofs.ReplayStands.{seen_as}
-use Rattle.lert_cone.proofs.ReplayStep.{told_once}
+use Rattle.lert_gatelog.specs.{Gated.Log, Kept.IsWhollySettled}
+use Rattle.lert_levels.specs.{declared.rows.bin_at.BinAt.BinAt, rows.Rows.IsAt}
+use Rattle.lert_reports.specs.{Log.{HasLog, HasRecords, last_n0, most_record}, LogText.LogRecord, declared.log_point.LogPoint.LogPoint}
+use Rattle.lert_spec.specs.{declared.numbers.Numbers.Numbers, declared.report.Report.Report, Edges.{capacity, edge}, Limits.IsValid}
+use Rattle.lert_cone.specs.{History.most_payload, KeepsLog.{IsHeadOf, LogHead}, Listing.Listing, Logged.frames_of, JournalPlaces.places_from, Record.LogPlace, Replay.{IsLastOf, IsOnWay, IsPast}}
+use Rattle.lert_cone.specs.{Replaying.IsReplaying, Replays.Replays, Room.room_of, Tally.{Tallied, IsRecounted}, Wrote.IsShutIfTold}
+use Rattle.lert_cone.proofs.{FaultLaws.turns_as, ReplayStands.seen_as, ReplayStep.told_once}
 
 -- its memory goes on with the records of the log that was read
 pub adopted_head : (s : Numbers) (cone n0 offset first : ℕ) (closed : Bool) (rows : List (List BinAt)) (reports : List Report) (records : List LogRecord) (log_end : ℕ) (bytes : List ℕ)

@@ -1,33 +1,17 @@
 -- What goes together with memory through the append of a packet to the journal.
-use Rattle.std.proofs.Common.{◌≡◌, ℕ, ◌+◌, ◌-◌, ◌^◌, ◌<◌, ◌≤◌, false, List, [], ◌∷◌, ◌++◌, length, Some, All, Result, Ok, Err, OnOk, refl}
-use Rattle.std.proofs.Common.{sym, ap, ◌∙◌, subst, inl, inr, arith}
-use Rattle.std.proofs.Common.{length-append, append-nil}
-use Rattle.std.proofs.lemmas.Bool.{false≢true}
-use Rattle.std.proofs.lemmas.List.{take_at}
-use Rattle.std.proofs.lemmas.List.Elements.{All-append, All-nil, All-cons}
+use Rattle.std.proofs.Common.{◌≡◌, ℕ, ◌+◌, ◌-◌, ◌^◌, ◌<◌, ◌≤◌, false, List, [], ◌∷◌, ◌++◌, length, Some, All, Result, Ok, Err, OnOk, refl, sym, ap, ◌∙◌, subst, inl, inr, arith, length-append}
+use Rattle.std.proofs.{Common.append-nil, lemmas.Bool.false≢true, lemmas.List.take_at, lemmas.List.Elements.{All-append, All-nil, All-cons}}
 use Rattle.std.specs.Result.{is_err}
 use Rattle.lert_base.specs.Packet.{Packet, events_of}
-use Rattle.lert_bay.specs.Files.{Files}
-use Rattle.lert_bay.specs.Settled.{part}
-use Rattle.lert_gatelog.specs.Gated.{next_gate}
-use Rattle.lert_gatelog.specs.Kept.{InEach, KeepsOthers, KeepsBefore, IsWhollySettled}
-use Rattle.lert_journal.specs.Journal.{HasPackets, HasPacketsOrOneMore}
-use Rattle.lert_journal.specs.Payload.{payload_of, IsJournaled}
+use Rattle.lert_bay.specs.{Files.Files, Settled.part}
+use Rattle.lert_gatelog.specs.{Gated.next_gate, Kept.{InEach, KeepsOthers, KeepsBefore, IsWhollySettled}}
+use Rattle.lert_journal.specs.{Journal.{HasPackets, HasPacketsOrOneMore}, Payload.{payload_of, IsJournaled}}
 use Rattle.lert_levels.specs.rows.Rows.{HoldsBins}
 use Rattle.lert_reports.specs.Log.{HasLog, last_n0}
-use Rattle.lert_spec.specs.declared.numbers.Numbers.{Numbers}
-use Rattle.lert_spec.specs.Edges.{capacity}
-use Rattle.lert_cone.specs.Framed.{last_flush}
-use Rattle.lert_cone.specs.History.{most_payload, end_of}
-use Rattle.lert_cone.specs.InStep.{IsInStep, IsPartway}
-use Rattle.lert_cone.specs.JournalPlaces.{NamesRecord, last_place}
-use Rattle.lert_cone.specs.Record.{LogPlace}
-use Rattle.lert_cone.specs.Sound.{IsJournal, IsSoundAs, IsSoundOver, but_last}
-use Rattle.lert_cone.specs.Stands.{IsWhole}
-use Rattle.lert_cone.specs.Tally.{Tallied, IsCounted}
-use Rattle.lert_cone.proofs.EndStep.{partway_all, late_all}
-use Rattle.lert_cone.proofs.JournalPlaceLaws.{places_more, names_more}
-use Rattle.lert_cone.proofs.SoundLaws.{events_more, counted_more, end_more}
+use Rattle.lert_spec.specs.{declared.numbers.Numbers.Numbers, Edges.capacity}
+use Rattle.lert_cone.specs.{Framed.last_flush, History.{most_payload, end_of}, InStep.{IsInStep, IsPartway}, JournalPlaces.{NamesRecord, last_place}, Record.LogPlace}
+use Rattle.lert_cone.specs.{Sound.{IsJournal, IsSoundAs, IsSoundOver, but_last}, Stands.IsWhole, Tally.{Tallied, IsCounted}}
+use Rattle.lert_cone.proofs.{EndStep.{partway_all, late_all}, JournalPlaceLaws.{places_more, names_more}, SoundLaws.{events_more, counted_more, end_more}}
 use Rattle.lert_cone.proofs.StepLaws.{log_since, frames_since, sound_of, sound_as}
 
 -- ---- what goes together with memory

@@ -1,10 +1,8 @@
 -- What the beginning of a cone says of its fault, and of the frames.
-use Rattle.std.proofs.Common.{◌≡◌, ◌∙◌, Option, Err, IsErrOf, ap, sym, refl}
-use Rattle.std.proofs.lemmas.Bool.{false≢true}
+use Rattle.std.proofs.{Common.{◌≡◌, ◌∙◌, Option, Err, IsErrOf, ap, sym, refl}, lemmas.Bool.false≢true}
 use Rattle.std.specs.Prelude.{Bool, true, false}
 use Rattle.lert_bay.specs.Files.{Files, Turns}
-use Rattle.lert_cone.specs.Sound.{FramesStay}
-use Rattle.lert_cone.specs.declared.refusal.CreateFault.{CreateFault}
+use Rattle.lert_cone.specs.{Sound.FramesStay, declared.refusal.CreateFault.CreateFault}
 use Rattle.lert_cone.proofs.Refusals.{one_fault}
 
 abbrev is_not_fresh : CreateFault → Bool

@@ -1,10 +1,7 @@
 -- The bins of level 0's span: how many have begun, and how many stand behind level 0's edge.
 use Rattle.std.proofs.Common.{◌≡◌, ℕ, ◌+◌, ◌-◌, ◌*◌, ◌/◌, ◌<◌, ◌≤◌, ap, ◌∙◌, inl, inr, arith}
-use Rattle.std.proofs.Math.Nat.{add-mul, div-add-mod, div-eq_of_lt-le, mod-lt, mul-div_right, mul-le-mul_right, mul_comm, one-mul, pow-zero}
-use Rattle.std.proofs.lemmas.Bool.{cases_lt}
-use Rattle.lert_spec.specs.declared.numbers.Numbers.{Numbers}
-use Rattle.lert_spec.specs.Edges.{span, offset, edge}
-use Rattle.lert_spec.specs.Limits.{IsValid}
+use Rattle.std.proofs.{Math.Nat.{add-mul, div-add-mod, div-eq_of_lt-le, mod-lt, mul-div_right, mul-le-mul_right, mul_comm, one-mul, pow-zero}, lemmas.Bool.cases_lt}
+use Rattle.lert_spec.specs.{declared.numbers.Numbers.Numbers, Edges.{span, offset, edge}, Limits.IsValid}
 use Rattle.lert_spec.proofs.EdgeLaws.{steps, span_pos}
 use Rattle.lert_cone.specs.JournalPlaces.{bins_begun}
 

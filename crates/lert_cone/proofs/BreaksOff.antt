@@ -1,28 +1,16 @@
 -- What a cone answers to a packet in the middle of which it breaks off.
-use Rattle.std.proofs.Common.{◌≡◌, ℕ, ◌+◌, ◌≤◌, length, Option, Some, Err, refl, sym, ap, ◌∙◌, subst, arith}
-use Rattle.std.proofs.lemmas.Bool.{false≢true}
-use Rattle.lert_base.specs.Packet.{Packet}
+use Rattle.std.proofs.{Common.{◌≡◌, ℕ, ◌+◌, ◌≤◌, length, Option, Some, Err, refl, sym, ap, ◌∙◌, subst, arith}, lemmas.Bool.false≢true}
+use Rattle.lert_base.specs.{Packet.Packet, declared.cone_fault.ConeFault.TheVariants.{Closed, Broken, CapacityFull, BayFailed, Unsound}}
 use Rattle.lert_gatelog.specs.Gated.{Log}
 use Rattle.lert_io.proofs.Rising.{risen_since}
 use Rattle.lert_spec.specs.Edges.{capacity}
 use Rattle.lert_reports.specs.declared.log_point.LogPoint.{LogPoint}
-use Rattle.lert_base.specs.declared.cone_fault.ConeFault.TheVariants.{Closed, Broken, CapacityFull, BayFailed, Unsound}
-use Rattle.lert_cone.specs.declared.state.ConeState.{ConeState}
-use Rattle.lert_cone.specs.declared.state.ConeState.TheVariants.{Running}
-use Rattle.lert_cone.specs.declared.tally.TakeFault.{TakeFault}
+use Rattle.lert_cone.specs.{declared.state.ConeState.ConeState, declared.state.ConeState.TheVariants.Running, declared.tally.TakeFault.TakeFault, Listing.Listing, Record.LogPlace}
+use Rattle.lert_cone.specs.{Sound.{IsKept, IsSoundOver}, Stands.{IsSameCone, is_broken, is_finished, is_refusal, broken_by, cone_fault}, Takes.TakesPacket, Tally.Tallied, Wrote.Anything}
 use Rattle.lert_bay.specs.Kept.{Bays}
-use Rattle.lert_cone.specs.Listing.{Listing}
-use Rattle.lert_cone.specs.Record.{LogPlace}
-use Rattle.lert_cone.specs.Sound.{IsKept, IsSoundOver}
-use Rattle.lert_cone.specs.Stands.{IsSameCone, is_broken, is_finished, is_refusal, broken_by, cone_fault}
-use Rattle.lert_cone.specs.Takes.{TakesPacket}
-use Rattle.lert_cone.specs.Tally.{Tallied}
-use Rattle.lert_cone.specs.Wrote.{Anything}
 use Rattle.lert_bay.proofs.KeptLaws.{IsLawful, keeps_as}
-use Rattle.lert_cone.proofs.SoundLaws.{turns_back}
-use Rattle.lert_cone.proofs.StandLaws.{stands_broken, cone_at}
-use Rattle.lert_cone.proofs.FaultLaws.{kept_since, turned_none, untold, is_broken_by, by_bay_of, by_read_of, failed_of, unsound_of, no_refusal}
-use Rattle.lert_cone.proofs.Admits.{Admits}
+use Rattle.lert_cone.proofs.{SoundLaws.turns_back, StandLaws.{stands_broken, cone_at}}
+use Rattle.lert_cone.proofs.{FaultLaws.{kept_since, turned_none, untold, is_broken_by, by_bay_of, by_read_of, failed_of, unsound_of, no_refusal}, Admits.Admits}
 
 module _ {B : Type 0} (bays : Bays B) (lawful : IsLawful bays) (packet : Packet) where
   module _ (bay made bay_after : B) (tally after : Tallied) (events room room_after : ℕ) (state : ConeState) (over : Option Packet) (journal journal_after : Log) (log log_after : LogPlace)

@@ -1,9 +1,7 @@
 -- Calls of a bay in turn, over the states that it has between them.
 use Rattle.std.proofs.Common.{◌≡◌, ◌≢◌, ℕ, ◌≤◌, Some}
-use Rattle.lert_bay.specs.Kept.{Bays, OnlyReads, ReadsBay}
+use Rattle.lert_bay.specs.{Kept.{Bays, OnlyReads, ReadsBay}, Files.{Files, IfTold, Turns}, Images.Lasts}
 use Rattle.lert_bay.proofs.KeptLaws.{IsLawful, reads}
-use Rattle.lert_bay.specs.Files.{Files, IfTold, Turns}
-use Rattle.lert_bay.specs.Images.{Lasts}
 use Rattle.lert_gatelog.specs.Kept.{KeepsOthers, IsWhollySettled, OthersStay}
 use Rattle.lert_levels.specs.rows.Landing.{KeepsRest}
 use Rattle.lert_cone.specs.Wrote.{LeavesAlone, IsShutIfTold}

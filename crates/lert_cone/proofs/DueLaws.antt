@@ -1,16 +1,8 @@
 -- What totals bring: the reports of one total more.
-use Rattle.std.proofs.Common.{ℕ, ◌≡◌, ◌+◌, ◌-◌, ◌^◌, ◌<◌, ◌≤◌, suc, Bool, true, false, cond, eqb, leb, not, ◌&&◌, ◌||◌, List, [], ◌∷◌, ◌++◌, length}
-use Rattle.std.proofs.Common.{map, filter, All, Option, Some, None, refl, ap}
-use Rattle.std.proofs.Common.{sym, ◌∙◌, arith, inl, inr, subst, append_assoc, length-append}
-use Rattle.std.proofs.lemmas.Bool.{cases_Bool, cases_eq, eq-eqb, ne_eqb, le-leb, lt-leb, false≢true}
-use Rattle.std.proofs.lemmas.List.{map-append}
+use Rattle.std.proofs.Common.{ℕ, ◌≡◌, ◌+◌, ◌-◌, ◌^◌, ◌<◌, ◌≤◌, suc, Bool, true, false, cond, eqb, leb, not, ◌&&◌, ◌||◌, List, [], ◌∷◌, ◌++◌, length, map, filter, All, Option, Some, None, refl, ap}
+use Rattle.std.proofs.{Common.{sym, ◌∙◌, arith, inl, inr, subst, append_assoc, length-append}, lemmas.Bool.{cases_Bool, cases_eq, eq-eqb, ne_eqb, le-leb, lt-leb, false≢true}, lemmas.List.map-append}
 use Rattle.std.proofs.lemmas.List.Elements.{filter-append}
-use Rattle.lert_spec.specs.declared.numbers.Numbers.{Numbers}
-use Rattle.lert_spec.specs.declared.piece.Piece.{Piece}
-use Rattle.lert_spec.specs.declared.report.Report.{Report}
-use Rattle.lert_spec.specs.Look.{is_listed}
-use Rattle.lert_spec.specs.Mix.{cone_of, tail_of}
-use Rattle.lert_spec.specs.Table.{AscendsFrom, IsTable}
+use Rattle.lert_spec.specs.{declared.numbers.Numbers.Numbers, declared.piece.Piece.Piece, declared.report.Report.Report, Look.is_listed, Mix.{cone_of, tail_of}, Table.{AscendsFrom, IsTable}}
 use Rattle.lert_spec.proofs.TailLaws.{key_with, is_due_piece}
 use Rattle.lert_cone.specs.Due.{Dues, PassesOver, TookFrom, TookTotals, due_reports, due_key, with_report, with_total}
 use Rattle.lert_cone.proofs.KeyLemmas.{key_with_is, other_tail}

@@ -1,23 +1,12 @@
 -- The end through the counts: the totals don't come to the reports, or a report finds no room, or all are listed.
 use Rattle.std.proofs.Common.{◌≡◌, ℕ, ◌^◌, ◌<◌, Bool, true, false, List, length, Result, Ok, Err, Some, refl, sym, ap, ◌∙◌, subst, arith}
 use Rattle.std.specs.Result.{IsErrAnd}
-use Rattle.lert_bay.specs.Files.{Files}
-use Rattle.lert_levels.specs.declared.rows.bin_at.BinAt.{BinAt}
-use Rattle.lert_levels.specs.declared.rows.fault.FlushFault.{FlushFault}
-use Rattle.lert_levels.specs.rows.Checked.{rows_left}
-use Rattle.lert_levels.specs.rows.Loading.{OneBreaks}
-use Rattle.lert_levels.specs.OnDisk.{OnDisk}
-use Rattle.lert_spec.specs.declared.numbers.Numbers.{Numbers}
-use Rattle.lert_spec.specs.declared.report.Report.{Report}
-use Rattle.lert_spec.specs.Bins.{tallied}
-use Rattle.lert_spec.specs.Limits.{IsValid}
-use Rattle.lert_cone.specs.declared.tally.TakeFault.{TakeFault}
-use Rattle.lert_cone.specs.declared.tally.TakeFault.TheVariants.{Failed, Unsound}
-use Rattle.lert_bay.specs.Kept.{Bays}
-use Rattle.lert_bay.proofs.KeptLaws.{IsLawful, reads_as}
-use Rattle.lert_cone.specs.Counts.{CountsEnd, Scans}
-use Rattle.lert_cone.specs.Due.{Dues, TookFrom, started}
+use Rattle.lert_bay.specs.{Files.Files, Kept.Bays}
+use Rattle.lert_levels.specs.{declared.rows.bin_at.BinAt.BinAt, declared.rows.fault.FlushFault.FlushFault, rows.Checked.rows_left, rows.Loading.OneBreaks, OnDisk.OnDisk}
+use Rattle.lert_spec.specs.{declared.numbers.Numbers.Numbers, declared.report.Report.Report, Bins.tallied, Limits.IsValid}
+use Rattle.lert_cone.specs.{declared.tally.TakeFault.TakeFault, declared.tally.TakeFault.TheVariants.{Failed, Unsound}, Counts.{CountsEnd, Scans}, Due.{Dues, TookFrom, started}}
 use Rattle.lert_cone.specs.Tally.{Tallied, IsCounted, IsHeld, take_fault}
+use Rattle.lert_bay.proofs.KeptLaws.{IsLawful, reads_as}
 use Rattle.lert_cone.proofs.KeyCounted.{failed_flush}
 use Rattle.lert_cone.proofs.TakeLaws.{rows_end, fits_end, from_end, young_end, frames_end, counted_end, held_end, never_full_end, sound_fault, shows_frame, shows_full, handed_on}
 

@@ -1,33 +1,17 @@
 -- The end of a cone through the scan and the closing record.
-use Rattle.std.proofs.Common.{◌≡◌, ℕ, ◌+◌, ◌-◌, ◌≤◌, Bool, true, false, List, [], ◌∷◌, ◌++◌, length, map, sym, ap, ◌∙◌, subst, inl, inr, arith, append-nil, take, drop}
-use Rattle.std.proofs.Common.{length-append}
-use Rattle.std.proofs.lemmas.Bool.{false≢true}
-use Rattle.std.proofs.lemmas.Grind.{flat_map-append}
-use Rattle.std.proofs.lemmas.List.{take-append-drop}
+use Rattle.std.proofs.Common.{◌≡◌, ℕ, ◌+◌, ◌-◌, ◌≤◌, Bool, true, false, List, [], ◌∷◌, ◌++◌, length, map, sym, ap, ◌∙◌, subst, inl, inr, arith, append-nil, take, drop, length-append}
+use Rattle.std.proofs.{lemmas.Bool.false≢true, lemmas.Grind.flat_map-append, lemmas.List.take-append-drop}
 use Rattle.lert_base.specs.Packet.{Packet, events_of}
 use Rattle.lert_bay.specs.Files.{Files}
-use Rattle.lert_gatelog.specs.Gated.{IsGated, next_gate}
-use Rattle.lert_gatelog.specs.Kept.{InEach, KeepsOthers, KeepsBefore, IsWhollySettled, IsWithOrWithout}
-use Rattle.lert_levels.specs.declared.rows.bin_at.BinAt.{BinAt}
-use Rattle.lert_levels.specs.rows.Rows.{HoldsBins, directory_text}
-use Rattle.lert_reports.specs.declared.log.LogKind.{LogKind}
-use Rattle.lert_reports.specs.Log.{HasLog, last_n0, listed_in, most_record}
-use Rattle.lert_reports.specs.LogText.{LogRecord, log_payload_of}
-use Rattle.lert_spec.specs.declared.numbers.Numbers.{Numbers}
-use Rattle.lert_spec.specs.Edges.{edge}
-use Rattle.lert_spec.specs.Look.{closing}
-use Rattle.lert_cone.specs.InStep.{IsInStep, IsPartway}
-use Rattle.lert_cone.specs.Listing.{Listing, reports_of}
-use Rattle.lert_cone.specs.Logged.{IsLogOf, next_record}
-use Rattle.lert_cone.specs.JournalPlaces.{ArePlacesIn, Places, MayName, NamesRecord, last_place, oldest_place}
-use Rattle.lert_cone.specs.Record.{LogPlace, payload_at}
-use Rattle.lert_cone.specs.Sound.{IsJournal, IsSound, but_last}
+use Rattle.lert_gatelog.specs.{Gated.{IsGated, next_gate}, Kept.{InEach, KeepsOthers, KeepsBefore, IsWhollySettled, IsWithOrWithout}}
+use Rattle.lert_levels.specs.{declared.rows.bin_at.BinAt.BinAt, rows.Rows.{HoldsBins, directory_text}}
+use Rattle.lert_reports.specs.{declared.log.LogKind.LogKind, Log.{HasLog, last_n0, listed_in, most_record}, LogText.{LogRecord, log_payload_of}}
+use Rattle.lert_spec.specs.{declared.numbers.Numbers.Numbers, Edges.edge, Look.closing}
+use Rattle.lert_cone.specs.{InStep.{IsInStep, IsPartway}, Listing.{Listing, reports_of}, Logged.{IsLogOf, next_record}}
+use Rattle.lert_cone.specs.{JournalPlaces.{ArePlacesIn, Places, MayName, NamesRecord, last_place, oldest_place}, Record.{LogPlace, payload_at}, Sound.{IsJournal, IsSound, but_last}}
 use Rattle.lert_cone.specs.Tally.{Tallied, IsCounted}
-use Rattle.lert_cone.proofs.KeyStep.{next_payload, journal_beside, frames_beside, log_beside, log_behind}
-use Rattle.lert_cone.proofs.LogLaws.{LogsNext, log_at_close}
-use Rattle.lert_cone.proofs.FlushLaws.{last_flush_grows}
-use Rattle.lert_cone.proofs.JournalPlaceLaws.{may_name, names_pushed, oldest_names}
-use Rattle.lert_cone.proofs.StepLaws.{sound_of}
+use Rattle.lert_cone.proofs.{KeyStep.{next_payload, journal_beside, frames_beside, log_beside, log_behind}, LogLaws.{LogsNext, log_at_close}, FlushLaws.last_flush_grows}
+use Rattle.lert_cone.proofs.{JournalPlaceLaws.{may_name, names_pushed, oldest_names}, StepLaws.sound_of}
 
 -- all keys are taken
 pub partway_all : (s : Numbers) (history : List Packet) (events : List ℕ) → events ≡ events_of history → length (events_of (but_last history)) ≤ length events →

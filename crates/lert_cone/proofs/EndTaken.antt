@@ -2,30 +2,16 @@
 use Rattle.std.proofs.Common.{◌≡◌, ℕ, ◌≤◌, Bool, true, List, [], ◌∷◌, ◌++◌, length, map, Result, Ok, Err, Some, refl, sym, ap, ◌∙◌, subst, inl, inr, arith}
 use Rattle.std.specs.Result.{IsErrAnd}
 use Rattle.lert_base.specs.Packet.{Packet, events_of}
-use Rattle.lert_bay.specs.Files.{Files, IfTold}
-use Rattle.lert_gatelog.specs.Gated.{IsGated}
-use Rattle.lert_gatelog.specs.Kept.{InEach, IsWithOrWithout}
+use Rattle.lert_bay.specs.{Files.{Files, IfTold}, Kept.Bays}
+use Rattle.lert_gatelog.specs.{Gated.IsGated, Kept.{InEach, IsWithOrWithout}}
 use Rattle.lert_levels.specs.rows.Rows.{directory_text}
-use Rattle.lert_reports.specs.declared.log.LogKind.{LogKind}
-use Rattle.lert_reports.specs.Log.{most_record}
-use Rattle.lert_reports.specs.LogText.{LogRecord, log_payload_of}
+use Rattle.lert_reports.specs.{declared.log.LogKind.LogKind, Log.most_record, LogText.{LogRecord, log_payload_of}}
 use Rattle.lert_spec.specs.declared.numbers.Numbers.{Numbers}
-use Rattle.lert_cone.specs.declared.tally.TakeFault.{TakeFault}
-use Rattle.lert_cone.specs.declared.tally.TakeFault.TheVariants.{Failed}
-use Rattle.lert_cone.specs.Appends.{AppendsRecord}
-use Rattle.lert_bay.specs.Kept.{Bays}
-use Rattle.lert_cone.specs.Counts.{CountsEnd}
-use Rattle.lert_cone.specs.Listing.{Listing}
-use Rattle.lert_cone.specs.Record.{LogPlace, payload_at}
-use Rattle.lert_cone.specs.Sound.{IsSound}
-use Rattle.lert_cone.specs.Takes.{Workplace, CanLog, CanTake, AreInStep, TakesEnd}
-use Rattle.lert_cone.specs.Tally.{Tallied, IsHeld}
-use Rattle.lert_cone.specs.Wrote.{LeavesAlone}
+use Rattle.lert_cone.specs.{declared.tally.TakeFault.TakeFault, declared.tally.TakeFault.TheVariants.Failed, Appends.AppendsRecord, Counts.CountsEnd, Listing.Listing, Record.{LogPlace, payload_at}}
+use Rattle.lert_cone.specs.{Sound.IsSound, Takes.{Workplace, CanLog, CanTake, AreInStep, TakesEnd}, Tally.{Tallied, IsHeld}, Wrote.LeavesAlone}
 use Rattle.lert_bay.proofs.KeptLaws.{IsLawful, keeps_as, keeps_on}
-use Rattle.lert_cone.proofs.Calls.{now_since, alone_on, alone_others, alone_read, settled_alone, shut_alone}
-use Rattle.lert_cone.proofs.EndStep.{IsEnding, partway_all, late_all, ending_of, sound_close, up_closed}
-use Rattle.lert_cone.proofs.KeyStep.{held_of, sound_now}
-use Rattle.lert_cone.proofs.TakeLaws.{handed_on}
+use Rattle.lert_cone.proofs.{Calls.{now_since, alone_on, alone_others, alone_read, settled_alone, shut_alone}, EndStep.{IsEnding, partway_all, late_all, ending_of, sound_close, up_closed}}
+use Rattle.lert_cone.proofs.{KeyStep.{held_of, sound_now}, TakeLaws.handed_on}
 
 module _ {B : Type 0} (bays : Bays B) (lawful : IsLawful bays) (old : Workplace B) (can : CanTake bays [] old) (bay : B) (counts : Tallied) where
   held : (seen : Files) → bays.files old.bay ≡ Some seen → (history : List Packet) → AreInStep bays old seen history → IsHeld old.counts seen

@@ -1,27 +1,14 @@
 -- The definitions, computed on the files that three keys 7 leave.
-use Rattle.std.proofs.Common.{◌≡◌, ℕ, zero, suc, ◌+◌, ◌-◌, ◌^◌, ◌<◌, ◌≤◌, All, List, [], ◌∷◌, ◌++◌, drop, map, take, Some, None, refl, sym, arith}
+use Rattle.std.proofs.{Common.{◌≡◌, ℕ, zero, suc, ◌+◌, ◌-◌, ◌^◌, ◌<◌, ◌≤◌, All, List, [], ◌∷◌, ◌++◌, drop, map, take, Some, None, refl, sym, arith}, lemmas.List.Elements.{All-nil, All-cons}}
 use Rattle.std.specs.Prelude.{slice_index_or}
-use Rattle.std.proofs.lemmas.List.Elements.{All-nil, All-cons}
-use Rattle.lert_base.specs.Packet.{Packet}
+use Rattle.lert_base.specs.Packet.{Packet, events_of}
 use Rattle.lert_bay.specs.Files.{Files}
 use Rattle.lert_journal.specs.Payload.{IsJournaled}
-use Rattle.lert_spec.specs.declared.numbers.Numbers.{Numbers}
-use Rattle.lert_spec.specs.Mix.{mix, cone_of}
-use Rattle.lert_cone.specs.Framed.{last_flush}
-use Rattle.lert_base.specs.Packet.{events_of}
-use Rattle.lert_cone.specs.declared.journal_places.JournalPlace.{JournalPlace}
-use Rattle.lert_cone.specs.History.{most_payload, end_of}
-use Rattle.lert_cone.specs.JournalPlaces.{HoldsPosition, first_place, oldest_place}
-use Rattle.lert_cone.specs.Sound.{IsSoundClosed, HoldFrames}
-use Rattle.lert_cone.specs.Unread.{unread}
-use Rattle.lert_reports.specs.declared.log.LogKind.{LogKind}
-use Rattle.lert_reports.specs.Log.{HasLog, before_of, last_directory, listed_in}
-use Rattle.lert_reports.specs.LogRules.{AreFrames, KeepsRules}
-use Rattle.lert_reports.specs.LogText.{LogRecord, bin_count}
+use Rattle.lert_spec.specs.{declared.numbers.Numbers.Numbers, Mix.{mix, cone_of}, Bins.bins, Edges.edge, Look.closing}
+use Rattle.lert_cone.specs.{Framed.last_flush, declared.journal_places.JournalPlace.JournalPlace, History.{most_payload, end_of}, JournalPlaces.{HoldsPosition, first_place, oldest_place}}
+use Rattle.lert_cone.specs.{Sound.{IsSoundClosed, HoldFrames}, Unread.unread}
+use Rattle.lert_reports.specs.{declared.log.LogKind.LogKind, Log.{HasLog, before_of, last_directory, listed_in}, LogRules.{AreFrames, KeepsRules}, LogText.{LogRecord, bin_count}}
 use Rattle.lert_reports.proofs.LogLaws.{records_none, records_more}
-use Rattle.lert_spec.specs.Bins.{bins}
-use Rattle.lert_spec.specs.Edges.{edge}
-use Rattle.lert_spec.specs.Look.{closing}
 use Rattle.lert_spec.proofs.MixLaws.{unmixed}
 
 abbrev small : Numbers

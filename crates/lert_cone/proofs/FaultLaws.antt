@@ -1,13 +1,9 @@
 -- What a fault in the middle of a call leaves of a cone and of its bay.
 use Rattle.std.proofs.Common.{◌≡◌, ◌∙◌, ℕ, true, false, Option, Some, None, refl}
 use Rattle.lert_bay.specs.Files.{Files, Turns}
-use Rattle.lert_cone.specs.declared.state.ConeState.TheVariants.{BrokenByBay, BrokenByRead}
+use Rattle.lert_cone.specs.{declared.state.ConeState.TheVariants.{BrokenByBay, BrokenByRead}, declared.tally.TakeFault.TakeFault}
+use Rattle.lert_cone.specs.{declared.tally.TakeFault.TheVariants.{Failed as TakeFailed, Unsound as TakeUnsound}, Sound.IsKept, Stands.{is_broken, is_refusal, broken_by, cone_fault}, Wrote.Anything}
 use Rattle.lert_base.specs.declared.cone_fault.ConeFault.TheVariants.{BayFailed, Unsound}
-use Rattle.lert_cone.specs.declared.tally.TakeFault.{TakeFault}
-use Rattle.lert_cone.specs.declared.tally.TakeFault.TheVariants.{Failed as TakeFailed, Unsound as TakeUnsound}
-use Rattle.lert_cone.specs.Sound.{IsKept}
-use Rattle.lert_cone.specs.Stands.{is_broken, is_refusal, broken_by, cone_fault}
-use Rattle.lert_cone.specs.Wrote.{Anything}
 
 -- a bay that never tells
 pub untold : (told : Option Files) → ((seen : Files) → told ≡ Some seen → ⊥) → told ≡ None

@@ -1,22 +1,13 @@
 -- The flushes of a cone: the last one up to a position, and how many there were.
-use Rattle.std.proofs.Common.{ℕ, zero, suc, ◌≡◌, ◌≢◌, ◌+◌, ◌-◌, ◌*◌, ◌/◌, ◌<◌, ◌≤◌, true, false, cond, List, [], ◌∷◌, ◌++◌, length, refl, ap}
-use Rattle.std.proofs.Common.{ap₂, sym, ◌∙◌, arith, inl, inr, subst, length-append}
-use Rattle.std.proofs.Math.Nat.{mul-div-le, div-add-mod, mod-lt, mul-suc, mul_comm, mul-div_right, pow-zero}
-use Rattle.std.proofs.lemmas.Bool.{cases_lt, cases_eq, eq-eqb, ne_eqb, false≢true}
-use Rattle.std.proofs.lemmas.Nat.{mul-le}
+use Rattle.std.proofs.Common.{ℕ, zero, suc, ◌≡◌, ◌≢◌, ◌+◌, ◌-◌, ◌*◌, ◌/◌, ◌<◌, ◌≤◌, true, false, cond, List, [], ◌∷◌, ◌++◌, length, refl, ap, ap₂, sym, ◌∙◌, arith, inl, inr, subst, length-append}
+use Rattle.std.proofs.{Math.Nat.{mul-div-le, div-add-mod, mod-lt, mul-suc, mul_comm, mul-div_right, pow-zero}, lemmas.Bool.{cases_lt, cases_eq, eq-eqb, ne_eqb, false≢true}, lemmas.Nat.mul-le}
 use Rattle.lert_levels.specs.declared.rows.bin_at.BinAt.{BinAt}
-use Rattle.lert_reports.specs.declared.log.LogBefore.{LogBefore}
-use Rattle.lert_reports.specs.declared.log.LogKind.{LogKind}
-use Rattle.lert_reports.specs.Log.{is_flush, is_closing, AreRecords, is_closed, last_n0, before_of, flushes_in}
-use Rattle.lert_reports.specs.LogRules.{IsInTurn}
+use Rattle.lert_reports.specs.{declared.log.LogBefore.LogBefore, declared.log.LogKind.LogKind, Log.{is_flush, is_closing, AreRecords, is_closed, last_n0, before_of, flushes_in}, LogRules.IsInTurn}
 use Rattle.lert_reports.specs.LogText.{LogRecord, next_flush}
 use Rattle.lert_reports.proofs.LogLaws.{EndsWith, ends, last_keeps, last_n0-push, is_closed-push, flushes_in-push}
-use Rattle.lert_spec.specs.declared.numbers.Numbers.{Numbers}
-use Rattle.lert_spec.specs.Edges.{span, offset, edge}
-use Rattle.lert_spec.specs.Limits.{IsValid}
+use Rattle.lert_spec.specs.{declared.numbers.Numbers.Numbers, Edges.{span, offset, edge}, Limits.IsValid}
 use Rattle.lert_spec.proofs.EdgeLaws.{steps, span_pos, moves_by_one}
-use Rattle.lert_cone.specs.Framed.{last_flush}
-use Rattle.lert_cone.specs.Logged.{IsLogOf}
+use Rattle.lert_cone.specs.{Framed.last_flush, Logged.IsLogOf}
 
 -- ---- the last flush
 

@@ -1,13 +1,8 @@
 -- Since the last flush no bin of an older level changed.
-use Rattle.std.proofs.Common.{ℕ, zero, suc, ◌≡◌, ◌+◌, ◌-◌, ◌≤◌, cond, List, [], ◌∷◌, ◌++◌, length, take, get_or, refl, ap, sym, ◌∙◌, arith, inl, inr}
-use Rattle.std.proofs.lemmas.Bool.{cases_eq, eq-eqb, ne_eqb}
+use Rattle.std.proofs.{Common.{ℕ, zero, suc, ◌≡◌, ◌+◌, ◌-◌, ◌≤◌, cond, List, [], ◌∷◌, ◌++◌, length, take, get_or, refl, ap, sym, ◌∙◌, arith, inl, inr}, lemmas.Bool.{cases_eq, eq-eqb, ne_eqb}}
 use Rattle.std.proofs.lemmas.List.{take_more, length-take, take_all}
-use Rattle.lert_spec.specs.declared.numbers.Numbers.{Numbers}
-use Rattle.lert_spec.specs.Bins.{bins}
-use Rattle.lert_spec.specs.Edges.{edge}
-use Rattle.lert_spec.specs.Limits.{IsValid}
-use Rattle.lert_spec.proofs.BinLaws.{bins-still}
-use Rattle.lert_spec.proofs.EdgeLaws.{moves_together}
+use Rattle.lert_spec.specs.{declared.numbers.Numbers.Numbers, Bins.bins, Edges.edge, Limits.IsValid}
+use Rattle.lert_spec.proofs.{BinLaws.bins-still, EdgeLaws.moves_together}
 use Rattle.lert_cone.specs.Framed.{last_flush, flushed}
 
 module _ (s : Numbers) (valid : IsValid s) where

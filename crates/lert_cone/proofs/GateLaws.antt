@@ -1,22 +1,13 @@
 -- What stands at the gates of a journal that is read anew: the packets of its history in turn, and nothing else.
-use Rattle.std.proofs.Common.{◌≡◌, ℕ, ◌+◌, ◌<◌, ◌≤◌, ◌^◌, Bool, true, false, List, [], ◌∷◌, ◌++◌, length, take, drop, map, All, sym, ap, ◌∙◌, subst}
-use Rattle.std.proofs.Common.{inl, inr, ◌⊎◌, arith, length-append}
-use Rattle.std.proofs.Common.{append-nil, append_assoc}
-use Rattle.std.proofs.Math.Seq.{get_or-append_seam}
-use Rattle.std.proofs.lemmas.Bool.{false≢true}
-use Rattle.std.proofs.lemmas.Grind.{flat_map-append}
-use Rattle.std.proofs.lemmas.List.{take-append-drop}
+use Rattle.std.proofs.Common.{◌≡◌, ℕ, ◌+◌, ◌<◌, ◌≤◌, ◌^◌, Bool, true, false, List, [], ◌∷◌, ◌++◌, length, take, drop, map, All, sym, ap, ◌∙◌, subst, inl, inr, ◌⊎◌, arith, length-append, append-nil}
+use Rattle.std.proofs.{Common.append_assoc, Math.Seq.get_or-append_seam, lemmas.Bool.false≢true, lemmas.Grind.flat_map-append, lemmas.List.take-append-drop}
 use Rattle.lert_base.specs.Packet.{Packet, events_of}
 use Rattle.lert_gatelog.specs.Gated.{IsOpen, IsClosed, Records, next_gate}
 use Rattle.lert_gatelog.proofs.Deciding.{one_payload, open_or_closed}
-use Rattle.lert_journal.specs.Journal.{HoldsPacket, LeavesAt}
-use Rattle.lert_journal.specs.Payload.{payload_of, packet_in, IsJournaled}
-use Rattle.lert_journal.proofs.OneAnswer.{packet_or_left, closed_or_left, one_place_left}
-use Rattle.lert_journal.proofs.PayloadBack.{packet_back}
+use Rattle.lert_journal.specs.{Journal.{HoldsPacket, LeavesAt}, Payload.{payload_of, packet_in, IsJournaled}}
+use Rattle.lert_journal.proofs.{OneAnswer.{packet_or_left, closed_or_left, one_place_left}, PayloadBack.packet_back}
 use Rattle.lert_spec.specs.declared.numbers.Numbers.{Numbers}
-use Rattle.lert_cone.specs.History.{most_payload, end_of}
-use Rattle.lert_cone.specs.Replay.{IsPast, IsNext, MayFollow, ReplayLeavesAt, In_record, Too_few, Past_the_end, Too_many}
-use Rattle.lert_cone.specs.Sound.{IsJournal, KeysFit}
+use Rattle.lert_cone.specs.{History.{most_payload, end_of}, Replay.{IsPast, IsNext, MayFollow, ReplayLeavesAt, In_record, Too_few, Past_the_end, Too_many}, Sound.{IsJournal, KeysFit}}
 use Rattle.lert_cone.proofs.SoundLaws.{events_more, end_more}
 
 -- ---- from packet to packet

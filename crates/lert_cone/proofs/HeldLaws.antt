@@ -1,17 +1,10 @@
 -- What `admit` is under a lock: how it answers and refuses by the cone's terms.
 use Rattle.std.proofs.Common.{◌≡◌, true, List, length, Some, Result, Ok, Err, sym, ap, refl, ◌∙◌, inl, inr, ◌⊎◌, arith}
 use Rattle.std.specs.Prelude.{IfOk, IfErr, IsTrue}
-use Rattle.lert_base.specs.Packet.{Packet, events_of}
-use Rattle.lert_bay.specs.Files.{Turns}
-use Rattle.lert_bay.specs.Kept.{Bays}
-use Rattle.lert_cone.specs.declared.acked.Acked.{Acked}
-use Rattle.lert_base.specs.declared.cone_fault.ConeFault.{ConeFault}
-use Rattle.lert_base.specs.declared.cone_fault.ConeFault.TheVariants.{Closed, Broken, CapacityFull, BayFailed, Unsound}
-use Rattle.lert_cone.specs.declared.state.ConeState.{ConeState}
-use Rattle.lert_cone.specs.declared.state.ConeState.TheVariants.{Running, Finished, BrokenByBay, BrokenByRead}
-use Rattle.lert_cone.specs.Locked.{AnswersUnder, RefusesUnder, is_stopped}
-use Rattle.lert_cone.specs.Stands.{Standing, StandsFor, Answers, is_broken, terms_of}
-use Rattle.lert_cone.specs.Wrote.{Anything}
+use Rattle.lert_base.specs.{Packet.{Packet, events_of}, declared.cone_fault.ConeFault.ConeFault, declared.cone_fault.ConeFault.TheVariants.{Closed, Broken, CapacityFull, BayFailed, Unsound}}
+use Rattle.lert_bay.specs.{Files.Turns, Kept.Bays}
+use Rattle.lert_cone.specs.{declared.acked.Acked.Acked, declared.state.ConeState.ConeState, declared.state.ConeState.TheVariants.{Running, Finished, BrokenByBay, BrokenByRead}}
+use Rattle.lert_cone.specs.{Locked.{AnswersUnder, RefusesUnder, is_stopped}, Stands.{Standing, StandsFor, Answers, is_broken, terms_of}, Wrote.Anything}
 use Rattle.lert_cone.proofs.Admits.{Admits}
 
 stopped_if : (state : ConeState) → is_broken state ≡ true → is_stopped state ≡ true

@@ -1,27 +1,16 @@
 -- The places of the newest bins, as keys are passed and bins begin, and what the oldest of level 0 names.
-use Rattle.std.proofs.Common.{◌≡◌, ℕ, zero, suc, ◌+◌, ◌-◌, ◌*◌, ◌/◌, ◌<◌, ◌≤◌, cond, List, [], ◌∷◌, ◌++◌, All, length, get_or, take, drop, refl, ap, sym}
-use Rattle.std.proofs.Common.{◌∙◌}
-use Rattle.std.proofs.Common.{subst, inl, inr, arith, length-append, length-drop, length-take, append_assoc, get_or-set_other, get_or-set_same}
-use Rattle.std.proofs.Math.ListN.{set}
-use Rattle.std.proofs.Math.Nat.{add-mul, mul-le-mul_right}
-use Rattle.std.proofs.lemmas.Bool.{cases_lt, eq-eqb, ne_eqb}
-use Rattle.std.proofs.lemmas.Grind.{flat_map-append}
-use Rattle.std.proofs.lemmas.List.{get_or-append-add, get_or-take}
+use Rattle.std.proofs.Common.{◌≡◌, ℕ, zero, suc, ◌+◌, ◌-◌, ◌*◌, ◌/◌, ◌<◌, ◌≤◌, cond, List, [], ◌∷◌, ◌++◌, All, length, get_or, take, drop, refl, ap, sym, ◌∙◌, subst, inl, inr, arith, length-append}
+use Rattle.std.proofs.{Common.{length-drop, length-take, append_assoc, get_or-set_other, get_or-set_same}, Math.ListN.set, Math.Nat.{add-mul, mul-le-mul_right}, lemmas.Bool.{cases_lt, eq-eqb, ne_eqb}}
+use Rattle.std.proofs.{lemmas.Grind.flat_map-append, lemmas.List.{get_or-append-add, get_or-take}}
 use Rattle.lert_base.specs.Packet.{Packet, events_of}
 use Rattle.lert_journal.specs.Payload.{IsJournaled}
-use Rattle.lert_reports.specs.Log.{last_n0}
-use Rattle.lert_reports.specs.LogText.{LogRecord}
+use Rattle.lert_reports.specs.{Log.last_n0, LogText.LogRecord}
 use Rattle.lert_reports.proofs.LogLaws.{last_first-push, last_n0-push, last_offset-push}
-use Rattle.lert_spec.specs.declared.numbers.Numbers.{Numbers}
-use Rattle.lert_spec.specs.Edges.{span, edge, capacity}
-use Rattle.lert_spec.specs.Limits.{IsValid}
-use Rattle.lert_spec.proofs.EdgeLaws.{edge_never_falls, steps}
-use Rattle.lert_spec.proofs.LimitLaws.{capacity_to}
-use Rattle.lert_cone.specs.declared.journal_places.JournalPlace.{JournalPlace}
-use Rattle.lert_cone.specs.History.{end_of}
+use Rattle.lert_spec.specs.{declared.numbers.Numbers.Numbers, Edges.{span, edge, capacity}, Limits.IsValid}
+use Rattle.lert_spec.proofs.{EdgeLaws.{edge_never_falls, steps}, LimitLaws.capacity_to}
+use Rattle.lert_cone.specs.{declared.journal_places.JournalPlace.JournalPlace, History.end_of}
 use Rattle.lert_cone.specs.JournalPlaces.{ArePlacesIn, AreOfRecord, HasPassed, HoldsPosition, MayName, Places, NamesRecord, bins_begun, bins_behind, first_place, last_place, oldest_place}
-use Rattle.lert_cone.specs.Replay.{IsPast, IsNext}
-use Rattle.lert_cone.specs.Short.{few}
+use Rattle.lert_cone.specs.{Replay.{IsPast, IsNext}, Short.few}
 use Rattle.lert_cone.proofs.BinLaws.{begun_from, begun_none, begun_to, bin_more, bins_below, bins_between, bins_few, bins_some, bins_within, edge_bins, edge_steps, wide}
 
 -- the packets before it have no more keys than all

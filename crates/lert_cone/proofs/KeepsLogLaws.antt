@@ -1,26 +1,15 @@
 -- A cone's log through calls in turn, and the frames that it names, whether or not the files are sound for a list.
-use Rattle.std.proofs.Common.{◌≡◌, ℕ, suc, ◌+◌, ◌-◌, ◌<◌, ◌≤◌, List, [], ◌∷◌, ◌++◌, All, length, map, get_or, refl, sym, ap, ◌∙◌, subst}
-use Rattle.std.proofs.Common.{append_assoc, append-nil, arith}
+use Rattle.std.proofs.Common.{◌≡◌, ℕ, suc, ◌+◌, ◌-◌, ◌<◌, ◌≤◌, List, [], ◌∷◌, ◌++◌, All, length, map, get_or, refl, sym, ap, ◌∙◌, subst, append_assoc, append-nil, arith}
+use Rattle.std.proofs.{lemmas.List.{get_or-map, length-map}, lemmas.List.Elements.Contains-get_or}
 use Rattle.std.specs.Prelude.{fold, slice_index_or, Contains}
-use Rattle.std.proofs.lemmas.List.{get_or-map, length-map}
-use Rattle.std.proofs.lemmas.List.Elements.{Contains-get_or}
-use Rattle.lert_bay.specs.Files.{Files}
-use Rattle.lert_bay.specs.Settled.{part}
-use Rattle.lert_frames.specs.Frame.{HoldsFrame}
-use Rattle.lert_frames.specs.Place.{frame_place}
-use Rattle.lert_gatelog.proofs.Deciding.{one_list}
-use Rattle.lert_gatelog.proofs.GatedLaws.{gated_behind}
-use Rattle.lert_levels.specs.Flushed.{InNamed}
-use Rattle.lert_levels.specs.declared.rows.bin_at.BinAt.{BinAt}
-use Rattle.lert_levels.specs.rows.Rows.{row_of, range_of, tallied_in}
-use Rattle.lert_reports.specs.Log.{HasRecords, last_directory, last_n0, most_record}
-use Rattle.lert_reports.specs.LogText.{LogRecord, log_payload_of}
+use Rattle.lert_bay.specs.{Files.Files, Settled.part}
+use Rattle.lert_frames.specs.{Frame.HoldsFrame, Place.frame_place}
+use Rattle.lert_gatelog.proofs.{Deciding.one_list, GatedLaws.gated_behind}
+use Rattle.lert_levels.specs.{Flushed.InNamed, declared.rows.bin_at.BinAt.BinAt, rows.Rows.{row_of, range_of, tallied_in}}
+use Rattle.lert_reports.specs.{Log.{HasRecords, last_directory, last_n0, most_record}, LogText.{LogRecord, log_payload_of}}
 use Rattle.lert_spec.specs.declared.numbers.Numbers.{Numbers}
-use Rattle.lert_cone.specs.Framed.{HoldsSome}
-use Rattle.lert_cone.specs.KeepsLog.{AreNextFlushes, IsNextFlush, InDirectory, NamesRows, HoldsNamed, KeepsRecords, KeepsLog}
-use Rattle.lert_cone.specs.Wrote.{IsShut}
-use Rattle.lert_cone.proofs.StepLaws.{first_same}
-use Rattle.lert_cone.proofs.WroteLaws.{torn_behind}
+use Rattle.lert_cone.specs.{Framed.HoldsSome, KeepsLog.{AreNextFlushes, IsNextFlush, InDirectory, NamesRows, HoldsNamed, KeepsRecords, KeepsLog}, Wrote.IsShut}
+use Rattle.lert_cone.proofs.{StepLaws.first_same, WroteLaws.torn_behind}
 
 -- ---- rows, by what a directory names
 

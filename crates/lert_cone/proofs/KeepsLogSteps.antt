@@ -1,41 +1,18 @@
 -- A cone's log through the calls of a bay: reads, calls in turn, a flush, and the record behind a flush.
-use Rattle.std.proofs.Common.{◌≡◌, ◌≢◌, ℕ, ◌-◌, ◌≤◌, List, [], ◌∷◌, ◌++◌, length, map, drop, Option, Some, Result, Ok, Err, OnOk, refl, sym, ap, ◌∙◌, subst, inl, inr}
-use Rattle.std.proofs.Common.{append_assoc, append-nil, arith}
-use Rattle.std.proofs.lemmas.List.{length-map, map-append}
-use Rattle.std.proofs.lemmas.Option.{same_Some}
-use Rattle.lert_bay.specs.Files.{Files, IfTold, Turns}
-use Rattle.lert_bay.specs.Images.{Lasts}
-use Rattle.lert_bay.specs.Kept.{Bays}
-use Rattle.lert_bay.specs.Settled.{part, IsSettled}
+use Rattle.std.proofs.Common.{◌≡◌, ◌≢◌, ℕ, ◌-◌, ◌≤◌, List, [], ◌∷◌, ◌++◌, length, map, drop, Option, Some, Result, Ok, Err, OnOk, refl, sym, ap, ◌∙◌, subst, inl, inr, append_assoc, append-nil, arith}
+use Rattle.std.proofs.{lemmas.List.{length-map, map-append}, lemmas.Option.same_Some}
+use Rattle.lert_bay.specs.{Files.{Files, IfTold, Turns}, Images.Lasts, Kept.Bays, Settled.{part, IsSettled}}
 use Rattle.lert_bay.proofs.KeptLaws.{IsLawful}
-use Rattle.lert_gatelog.specs.Gated.{IsGated, next_gate}
-use Rattle.lert_gatelog.specs.Kept.{InEach, OthersStay}
-use Rattle.lert_levels.specs.Flushed.{InNamed}
-use Rattle.lert_levels.specs.declared.rows.bin_at.BinAt.{BinAt}
-use Rattle.lert_levels.specs.rows.Landing.{KeepsRest, LeavesRest}
-use Rattle.lert_levels.specs.rows.Rows.{AreRows, HoldsBins, IsAt, directory_text}
-use Rattle.lert_reports.specs.declared.log.LogKind.{LogKind}
-use Rattle.lert_reports.specs.Log.{HasRecords, last_n0, most_record}
-use Rattle.lert_reports.specs.LogText.{LogRecord, log_payload, log_payload_of}
+use Rattle.lert_gatelog.specs.{Gated.{IsGated, next_gate}, Kept.{InEach, OthersStay}}
+use Rattle.lert_levels.specs.{Flushed.InNamed, declared.rows.bin_at.BinAt.BinAt, rows.Landing.{KeepsRest, LeavesRest}, rows.Rows.{AreRows, HoldsBins, IsAt, directory_text}}
+use Rattle.lert_reports.specs.{declared.log.LogKind.LogKind, Log.{HasRecords, last_n0, most_record}, LogText.{LogRecord, log_payload, log_payload_of}}
 use Rattle.lert_reports.proofs.LogLaws.{last_directory-push, last_n0-push}
-use Rattle.lert_spec.specs.declared.numbers.Numbers.{Numbers}
-use Rattle.lert_spec.specs.declared.report.Report.{Report}
-use Rattle.lert_spec.specs.Edges.{edge, capacity}
-use Rattle.lert_spec.specs.Limits.{IsValid}
-use Rattle.lert_cone.specs.Appends.{AppendsRecord}
-use Rattle.lert_cone.specs.Framed.{HoldsSome}
-use Rattle.lert_cone.specs.KeepsLog.{IsNextFlush, NamesRows, HoldsNamed, KeepsRecords, KeepsLog, LogHead, IsHeadOf, KeepsLogOf}
-use Rattle.lert_cone.specs.Logged.{frames_of}
-use Rattle.lert_cone.specs.JournalPlaces.{oldest_place}
-use Rattle.lert_cone.specs.Record.{LogPlace, payload_at}
-use Rattle.lert_cone.specs.Replays.{IsUnwritten}
-use Rattle.lert_cone.specs.Wrote.{IsShutIfTold}
+use Rattle.lert_spec.specs.{declared.numbers.Numbers.Numbers, declared.report.Report.Report, Edges.{edge, capacity}, Limits.IsValid}
+use Rattle.lert_cone.specs.{Appends.AppendsRecord, Framed.HoldsSome, KeepsLog.{IsNextFlush, NamesRows, HoldsNamed, KeepsRecords, KeepsLog, LogHead, IsHeadOf, KeepsLogOf}, Logged.frames_of}
+use Rattle.lert_cone.specs.{JournalPlaces.oldest_place, Record.{LogPlace, payload_at}, Replays.IsUnwritten, Wrote.IsShutIfTold}
 use Rattle.lert_cone.proofs.Calls.{now_since}
 use Rattle.lert_cone.proofs.KeepsLogLaws.{begins_each, gate_within, in_named, keeps_log_none, keeps_log_on, named_some, one_end, records_each, records_on, records_push, records_same}
-use Rattle.lert_cone.proofs.LogLaws.{directory_is, frames_are}
-use Rattle.lert_cone.proofs.RecordLaws.{payload_is_at}
-use Rattle.lert_cone.proofs.StepLaws.{frames_since}
-use Rattle.lert_cone.proofs.TakeLaws.{ok_holds}
+use Rattle.lert_cone.proofs.{LogLaws.{directory_is, frames_are}, RecordLaws.payload_is_at, StepLaws.frames_since, TakeLaws.ok_holds}
 
 -- the step from files that were told to those that are
 pub step_of : (step : Files → Files → Type 0) (before after : Option Files) → Turns step before after → (seen : Files) → before ≡ Some seen → (now : Files) → after ≡ Some now → step seen now

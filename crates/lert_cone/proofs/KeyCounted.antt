@@ -1,32 +1,16 @@
 -- A key through the counts: its totals don't come to the reports, or a report finds no room, or it is counted.
-use Rattle.std.proofs.Common.{◌≡◌, ℕ, ◌+◌, ◌^◌, ◌<◌, ◌-◌, ◌≢◌, true, false, List, [], ◌∷◌, ◌++◌, length, Some, Result, Ok, Err, refl, sym, ap}
-use Rattle.std.proofs.Common.{◌∙◌, subst, arith}
+use Rattle.std.proofs.Common.{◌≡◌, ℕ, ◌+◌, ◌^◌, ◌<◌, ◌-◌, ◌≢◌, true, false, List, [], ◌∷◌, ◌++◌, length, Some, Result, Ok, Err, refl, sym, ap, ◌∙◌, subst, arith}
 use Rattle.std.specs.Result.{IsErrAnd}
-use Rattle.lert_bay.specs.Files.{Files}
+use Rattle.lert_bay.specs.{Files.Files, Kept.Bays}
 use Rattle.lert_gatelog.specs.Kept.{InEach}
-use Rattle.lert_levels.specs.declared.rows.fault.FlushFault.{FlushFault}
-use Rattle.lert_levels.specs.declared.rows.fault.FlushFault.TheVariants.{Failed as FlushFailed, Malformed}
-use Rattle.lert_levels.specs.Flushed.{InNamed}
-use Rattle.lert_levels.specs.rows.Landing.{KeepsRest}
-use Rattle.lert_levels.specs.rows.Loading.{OneBreaks}
-use Rattle.lert_levels.specs.OnDisk.{OnDisk}
-use Rattle.lert_levels.specs.rows.Rows.{AreRows, HoldsBins}
-use Rattle.lert_levels.specs.rows.Young.{Young}
-use Rattle.lert_spec.specs.declared.numbers.Numbers.{Numbers}
-use Rattle.lert_spec.specs.declared.report.Report.{Report}
-use Rattle.lert_spec.specs.Edges.{edge}
-use Rattle.lert_spec.specs.Mix.{cone_of}
-use Rattle.lert_cone.specs.declared.tally.TakeFault.{TakeFault}
-use Rattle.lert_cone.specs.declared.tally.TakeFault.TheVariants.{Failed, Unsound}
-use Rattle.lert_bay.specs.Kept.{Bays}
-use Rattle.lert_bay.proofs.KeptLaws.{IsLawful, keeps_as}
-use Rattle.lert_cone.specs.Counts.{GivesTotals, CountsKey}
-use Rattle.lert_cone.specs.Due.{Dues, started}
-use Rattle.lert_cone.specs.Framed.{HoldsSome}
+use Rattle.lert_levels.specs.{declared.rows.fault.FlushFault.FlushFault, declared.rows.fault.FlushFault.TheVariants.{Failed as FlushFailed, Malformed}, Flushed.InNamed, rows.Landing.KeepsRest}
+use Rattle.lert_levels.specs.{rows.Loading.OneBreaks, OnDisk.OnDisk, rows.Rows.{AreRows, HoldsBins}, rows.Young.Young}
+use Rattle.lert_spec.specs.{declared.numbers.Numbers.Numbers, declared.report.Report.Report, Edges.edge, Mix.cone_of}
+use Rattle.lert_cone.specs.{declared.tally.TakeFault.TakeFault, declared.tally.TakeFault.TheVariants.{Failed, Unsound}, Counts.{GivesTotals, CountsKey}, Due.{Dues, started}, Framed.HoldsSome}
 use Rattle.lert_cone.specs.Tally.{Tallied, AreYoung, IsHeld, take_fault}
-use Rattle.lert_cone.proofs.TakeLaws.{IsTaking, young_now, frames_now, others, others_long, others_young, others_frames, others_next, all_long, counted_next, held_next, never_full}
-use Rattle.lert_cone.proofs.TakeLaws.{sound_fault, shows_frame, shows_full, handed_on}
-use Rattle.lert_cone.proofs.TallyLaws.{frames_more}
+use Rattle.lert_bay.proofs.KeptLaws.{IsLawful, keeps_as}
+use Rattle.lert_cone.proofs.TakeLaws.{IsTaking, young_now, frames_now, others, others_long, others_young, others_frames, others_next, all_long, counted_next, held_next, never_full, sound_fault}
+use Rattle.lert_cone.proofs.{TakeLaws.{shows_frame, shows_full, handed_on}, TallyLaws.frames_more}
 
 pub failed_flush : (fault : FlushFault) → take_fault fault ≡ Failed → fault ≡ FlushFailed
 failed_flush FlushFailed same = refl

@@ -1,18 +1,8 @@
 -- Keys of a cone: one by one, and by their tails.
-use Rattle.std.proofs.Common.{ℕ, ◌≡◌, ◌≢◌, ◌+◌, ◌-◌, ◌*◌, ◌/◌, ◌%◌, ◌^◌, ◌<◌, ◌≤◌, zero, suc, cond, eqb, List, [], ◌∷◌, ◌++◌, take, drop}
-use Rattle.std.proofs.Common.{refl, ap, sym, ◌∙◌, arith, inl, inr, slice_range}
-use Rattle.std.proofs.lemmas.Bool.{cases_eq, eq-eqb, ne_eqb}
-use Rattle.std.proofs.lemmas.List.Sums.{sum_by-cons}
-use Rattle.std.proofs.lemmas.Nat.{mul-add-lt, shr_high, mod_low, pow-add}
-use Rattle.lert_spec.specs.declared.numbers.Numbers.{Numbers}
-use Rattle.lert_spec.specs.Bins.{tallied}
-use Rattle.lert_spec.specs.Counts.{count}
-use Rattle.lert_spec.specs.Mix.{mix, cone_of, tail_of}
-use Rattle.lert_spec.specs.Table.{count_of}
-use Rattle.lert_spec.proofs.LookLaws.{AreKeys}
-use Rattle.lert_spec.proofs.MixLaws.{unmixed_below, mix-unmixed, one_key, tail_below}
-use Rattle.lert_spec.proofs.ReportLaws.{times, times-cons_same, times-cons_other}
-use Rattle.lert_spec.proofs.TailLaws.{AreOfCone, key_with}
+use Rattle.std.proofs.Common.{ℕ, ◌≡◌, ◌≢◌, ◌+◌, ◌-◌, ◌*◌, ◌/◌, ◌%◌, ◌^◌, ◌<◌, ◌≤◌, zero, suc, cond, eqb, List, [], ◌∷◌, ◌++◌, take, drop, refl, ap, sym, ◌∙◌, arith, inl, inr, slice_range}
+use Rattle.std.proofs.{lemmas.Bool.{cases_eq, eq-eqb, ne_eqb}, lemmas.List.Sums.sum_by-cons, lemmas.Nat.{mul-add-lt, shr_high, mod_low, pow-add}}
+use Rattle.lert_spec.specs.{declared.numbers.Numbers.Numbers, Bins.tallied, Counts.count, Mix.{mix, cone_of, tail_of}, Table.count_of}
+use Rattle.lert_spec.proofs.{LookLaws.AreKeys, MixLaws.{unmixed_below, mix-unmixed, one_key, tail_below}, ReportLaws.{times, times-cons_same, times-cons_other}, TailLaws.{AreOfCone, key_with}}
 use Rattle.lert_spec.proofs.TallyLaws.{tails, count_of-tallied}
 
 pub AreKeys-push : (events : List ℕ) (key : ℕ) → AreKeys events → key < 2 ^ 64 → AreKeys (events ++ key ∷ [])

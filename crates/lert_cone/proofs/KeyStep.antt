@@ -1,44 +1,19 @@
 -- A key and the end through the calls that they make: the files stay sound, and go together with memory again.
-use Rattle.std.proofs.Common.{◌≡◌, ◌≢◌, ℕ, suc, ◌+◌, ◌-◌, ◌≤◌, Bool, false, cond, List, [], ◌∷◌, ◌++◌, length, drop, map, Some}
-use Rattle.std.proofs.Common.{sym, ap, ◌∙◌, subst, inl, inr, ◌⊎◌, arith}
-use Rattle.std.proofs.Common.{length-append, append_assoc}
-use Rattle.std.proofs.lemmas.Bool.{false≢true, ne_eqb}
-use Rattle.std.proofs.lemmas.List.{take_all}
+use Rattle.std.proofs.Common.{◌≡◌, ◌≢◌, ℕ, suc, ◌+◌, ◌-◌, ◌≤◌, Bool, false, cond, List, [], ◌∷◌, ◌++◌, length, drop, map, Some, sym, ap, ◌∙◌, subst, inl, inr, ◌⊎◌, arith, length-append, append_assoc}
+use Rattle.std.proofs.{lemmas.Bool.{false≢true, ne_eqb}, lemmas.List.take_all}
 use Rattle.lert_base.specs.Packet.{Packet}
-use Rattle.lert_bay.specs.Files.{Files}
-use Rattle.lert_bay.specs.Images.{Lasts}
-use Rattle.lert_bay.specs.Kept.{Bays}
+use Rattle.lert_bay.specs.{Files.Files, Images.Lasts, Kept.Bays, Settled.{Keeps, IsSettled}}
 use Rattle.lert_bay.proofs.KeptLaws.{IsLawful}
-use Rattle.lert_bay.specs.Settled.{Keeps, IsSettled}
-use Rattle.lert_gatelog.specs.Gated.{IsGated, next_gate}
-use Rattle.lert_gatelog.specs.Kept.{InEach, KeepsOthers, KeepsBefore, IsWhollySettled, IsWithOrWithout}
-use Rattle.lert_levels.specs.declared.rows.bin_at.BinAt.{BinAt}
-use Rattle.lert_levels.specs.Flushed.{InNamed}
-use Rattle.lert_levels.specs.rows.Landing.{KeepsRest}
-use Rattle.lert_levels.specs.rows.Rows.{IsAt, AreRows, HoldsBins, directory_text}
-use Rattle.lert_reports.specs.declared.log.LogKind.{LogKind}
-use Rattle.lert_reports.specs.Log.{HasLog, AreRecords, last_n0, listed_in, most_record}
-use Rattle.lert_reports.specs.LogText.{LogRecord, log_payload, log_payload_of}
-use Rattle.lert_spec.specs.declared.numbers.Numbers.{Numbers}
-use Rattle.lert_spec.specs.declared.report.Report.{Report}
-use Rattle.lert_spec.specs.Edges.{edge, capacity}
-use Rattle.lert_spec.specs.Limits.{IsValid}
-use Rattle.lert_spec.specs.Look.{look, closing}
-use Rattle.lert_spec.proofs.LookLaws.{AreKeys}
-use Rattle.lert_spec.proofs.TailLaws.{AreOfCone}
-use Rattle.lert_cone.specs.Framed.{last_flush}
-use Rattle.lert_cone.specs.InStep.{IsInStep, IsPartway}
-use Rattle.lert_cone.specs.Listing.{Listing, reports_of}
-use Rattle.lert_cone.specs.Logged.{IsLogOf, next_record}
-use Rattle.lert_cone.specs.JournalPlaces.{ArePlacesIn, Places, MayName, NamesRecord, last_place, oldest_place}
-use Rattle.lert_cone.specs.Record.{LogPlace, payload_at}
-use Rattle.lert_cone.specs.Sound.{IsJournal, IsSound}
+use Rattle.lert_gatelog.specs.{Gated.{IsGated, next_gate}, Kept.{InEach, KeepsOthers, KeepsBefore, IsWhollySettled, IsWithOrWithout}}
+use Rattle.lert_levels.specs.{declared.rows.bin_at.BinAt.BinAt, Flushed.InNamed, rows.Landing.KeepsRest, rows.Rows.{IsAt, AreRows, HoldsBins, directory_text}}
+use Rattle.lert_reports.specs.{declared.log.LogKind.LogKind, Log.{HasLog, AreRecords, last_n0, listed_in, most_record}, LogText.{LogRecord, log_payload, log_payload_of}}
+use Rattle.lert_spec.specs.{declared.numbers.Numbers.Numbers, declared.report.Report.Report, Edges.{edge, capacity}, Limits.IsValid, Look.{look, closing}}
+use Rattle.lert_spec.proofs.{LookLaws.AreKeys, TailLaws.AreOfCone}
+use Rattle.lert_cone.specs.{Framed.last_flush, InStep.{IsInStep, IsPartway}, Listing.{Listing, reports_of}, Logged.{IsLogOf, next_record}}
+use Rattle.lert_cone.specs.{JournalPlaces.{ArePlacesIn, Places, MayName, NamesRecord, last_place, oldest_place}, Record.{LogPlace, payload_at}, Sound.{IsJournal, IsSound}}
 use Rattle.lert_cone.specs.Tally.{Tallied, IsCounted, IsHeld}
-use Rattle.lert_cone.proofs.LogLaws.{LogsNext, log_between, log_at_flush, payload_is}
-use Rattle.lert_cone.proofs.FlushLaws.{last_flush_grows}
-use Rattle.lert_cone.proofs.JournalPlaceLaws.{edge_grows, may_name, names_pushed, oldest_names}
-use Rattle.lert_cone.proofs.RecordLaws.{payload_is_at}
-use Rattle.lert_cone.proofs.Calls.{alone_rest, now_since, settled_alone}
+use Rattle.lert_cone.proofs.{LogLaws.{LogsNext, log_between, log_at_flush, payload_is}, FlushLaws.last_flush_grows, JournalPlaceLaws.{edge_grows, may_name, names_pushed, oldest_names}}
+use Rattle.lert_cone.proofs.{RecordLaws.payload_is_at, Calls.{alone_rest, now_since, settled_alone}}
 use Rattle.lert_cone.proofs.StepLaws.{journal_since, log_since, frames_since, sound_of, with_or_without, with_record, header_since}
 
 -- a part of the keys is taken

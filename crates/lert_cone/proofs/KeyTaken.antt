@@ -1,43 +1,18 @@
 -- A key through the calls that it makes: it isn't counted, no flush comes with it, or a flush and its record.
-use Rattle.std.proofs.Common.{◌≡◌, ◌≢◌, ℕ, ◌+◌, ◌-◌, ◌≤◌, List, [], ◌∷◌, ◌++◌, length, map, Result, Ok, Err, Some, refl, sym, ap, ◌∙◌, subst, inl, inr}
-use Rattle.std.proofs.Common.{arith, length-append}
-use Rattle.lert_bay.specs.Kept.{Bays}
-use Rattle.lert_bay.specs.Files.{Files, IfTold}
-use Rattle.lert_gatelog.specs.Gated.{IsGated}
-use Rattle.lert_gatelog.specs.Kept.{InEach, IsWithOrWithout, OthersStay}
-use Rattle.lert_levels.specs.Flushed.{InNamed}
-use Rattle.lert_levels.specs.declared.rows.bin_at.BinAt.{BinAt}
-use Rattle.lert_levels.specs.rows.Rows.{AreRows, IsAt, directory_text}
-use Rattle.lert_reports.specs.declared.log.LogKind.{LogKind}
-use Rattle.lert_reports.specs.Log.{most_record}
-use Rattle.lert_reports.specs.LogText.{log_payload_of}
-use Rattle.lert_spec.specs.declared.numbers.Numbers.{Numbers}
-use Rattle.lert_spec.specs.Edges.{edge, capacity}
+use Rattle.std.proofs.Common.{◌≡◌, ◌≢◌, ℕ, ◌+◌, ◌-◌, ◌≤◌, List, [], ◌∷◌, ◌++◌, length, map, Result, Ok, Err, Some, refl, sym, ap, ◌∙◌, subst, inl, inr, arith, length-append}
+use Rattle.lert_bay.specs.{Kept.Bays, Files.{Files, IfTold}}
+use Rattle.lert_gatelog.specs.{Gated.IsGated, Kept.{InEach, IsWithOrWithout, OthersStay}}
+use Rattle.lert_levels.specs.{Flushed.InNamed, declared.rows.bin_at.BinAt.BinAt, rows.Rows.{AreRows, IsAt, directory_text}}
+use Rattle.lert_reports.specs.{declared.log.LogKind.LogKind, Log.most_record, LogText.log_payload_of}
+use Rattle.lert_spec.specs.{declared.numbers.Numbers.Numbers, Edges.{edge, capacity}}
 use Rattle.lert_base.specs.Packet.{Packet}
-use Rattle.lert_cone.specs.declared.journal_places.JournalPlace.{JournalPlace}
-use Rattle.lert_cone.specs.declared.tally.TakeFault.{TakeFault}
-use Rattle.lert_cone.specs.declared.tally.TakeFault.TheVariants.{Failed}
-use Rattle.lert_cone.specs.Appends.{AppendsRecord}
-use Rattle.lert_cone.specs.Counts.{CountsKey}
-use Rattle.lert_cone.specs.Framed.{HoldsSome, last_flush}
-use Rattle.lert_cone.specs.InStep.{IsLogging, IsPartway}
-use Rattle.lert_cone.specs.KeepsLog.{NamesRows}
-use Rattle.lert_cone.specs.Listing.{Listing}
-use Rattle.lert_cone.specs.JournalPlaces.{ArePlacesIn, HasPassed, Places}
-use Rattle.lert_cone.specs.Record.{LogPlace, payload_at}
-use Rattle.lert_cone.specs.Sound.{IsSound}
-use Rattle.lert_cone.specs.Takes.{Workplace, CanLog, CanTake, AreInStep, AreNext, TakesKeys}
-use Rattle.lert_cone.specs.Tally.{Tallied, IsHeld}
+use Rattle.lert_cone.specs.{declared.journal_places.JournalPlace.JournalPlace, declared.tally.TakeFault.TakeFault, declared.tally.TakeFault.TheVariants.Failed, Appends.AppendsRecord, Counts.CountsKey}
+use Rattle.lert_cone.specs.{Framed.{HoldsSome, last_flush}, InStep.{IsLogging, IsPartway}, KeepsLog.NamesRows, Listing.Listing, JournalPlaces.{ArePlacesIn, HasPassed, Places}}
+use Rattle.lert_cone.specs.{Record.{LogPlace, payload_at}, Sound.IsSound, Takes.{Workplace, CanLog, CanTake, AreInStep, AreNext, TakesKeys}, Tally.{Tallied, IsHeld}, Wrote.LeavesAlone}
 use Rattle.lert_bay.proofs.KeptLaws.{IsLawful, keeps_as, keeps_on}
-use Rattle.lert_cone.proofs.Calls.{now_since, alone_on, alone_rest, alone_others, settled_alone, shut_alone}
-use Rattle.lert_cone.proofs.FlushLaws.{flush_passed}
-use Rattle.lert_cone.proofs.KeepsLogSteps.{IsFlushed, log_failed, log_flushed, log_rest}
-use Rattle.lert_cone.proofs.KeyStep.{IsTaken, held_of, sound_rest, taken_of, up_between, sound_append, up_flushed}
-use Rattle.lert_cone.proofs.JournalPlaceLaws.{record_part}
-use Rattle.lert_cone.proofs.RecordLaws.{record_fits, logging_more}
-use Rattle.lert_cone.proofs.SoundLaws.{turns_back}
-use Rattle.lert_cone.proofs.TakeLaws.{handed_on}
-use Rattle.lert_cone.specs.Wrote.{LeavesAlone}
+use Rattle.lert_cone.proofs.{Calls.{now_since, alone_on, alone_rest, alone_others, settled_alone, shut_alone}, FlushLaws.flush_passed, KeepsLogSteps.{IsFlushed, log_failed, log_flushed, log_rest}}
+use Rattle.lert_cone.proofs.{KeyStep.{IsTaken, held_of, sound_rest, taken_of, up_between, sound_append, up_flushed}, JournalPlaceLaws.record_part, RecordLaws.{record_fits, logging_more}}
+use Rattle.lert_cone.proofs.{SoundLaws.turns_back, TakeLaws.handed_on}
 use Rattle.std.specs.Result.{IsErrAnd}
 
 module _ {B : Type 0} (bays : Bays B) (lawful : IsLawful bays) (place : JournalPlace) (old : Workplace B) (key : ℕ) (can : CanTake bays (key ∷ []) old) (bay : B) (counts : Tallied) where

@@ -1,38 +1,17 @@
 -- Keys of a journal that are taken again: all are counted again, or others stand behind those.
-use Rattle.std.proofs.Common.{◌≡◌, ℕ, ◌+◌, ◌-◌, ◌<◌, ◌≤◌, Bool, true, false, List, ◌++◌, All, length, take, drop, min, max, Result, Ok, refl, sym, ap, ◌∙◌}
-use Rattle.std.proofs.Common.{subst, arith, length-append, length-take}
-use Rattle.std.proofs.Common.{length-drop, append_assoc}
-use Rattle.std.proofs.lemmas.List.{take_all, take-append-drop}
-use Rattle.std.proofs.lemmas.List.Elements.{All-drop}
+use Rattle.std.proofs.Common.{◌≡◌, ℕ, ◌+◌, ◌-◌, ◌<◌, ◌≤◌, Bool, true, false, List, ◌++◌, All, length, take, drop, min, max, Result, Ok, refl, sym, ap, ◌∙◌, subst, arith, length-append, length-take}
+use Rattle.std.proofs.{Common.{length-drop, append_assoc}, lemmas.List.{take_all, take-append-drop}, lemmas.List.Elements.All-drop}
 use Rattle.lert_base.specs.Packet.{Packet}
-use Rattle.lert_bay.specs.Files.{Files, IfTold}
+use Rattle.lert_bay.specs.{Files.{Files, IfTold}, Kept.Bays}
 use Rattle.lert_levels.specs.declared.rows.bin_at.BinAt.{BinAt}
 use Rattle.lert_reports.specs.Log.{most_record}
-use Rattle.lert_spec.specs.declared.numbers.Numbers.{Numbers}
-use Rattle.lert_spec.specs.Edges.{capacity}
-use Rattle.lert_spec.specs.Mix.{cone_of}
-use Rattle.lert_cone.specs.declared.journal_places.JournalPlace.{JournalPlace}
-use Rattle.lert_cone.specs.declared.tally.TakeFault.{TakeFault}
-use Rattle.lert_bay.specs.Kept.{Bays}
-use Rattle.lert_cone.specs.Due.{Dues}
-use Rattle.lert_cone.specs.KeepsLog.{KeepsLogOf, LogHead}
-use Rattle.lert_cone.specs.Framed.{HoldsSome, last_flush}
-use Rattle.lert_cone.specs.Listing.{Listing}
-use Rattle.lert_cone.specs.JournalPlaces.{ArePlacesIn, AreOfRecord, HasPassed, Places}
-use Rattle.lert_cone.specs.Record.{LogPlace}
-use Rattle.lert_cone.specs.Replay.{IsOnWay}
-use Rattle.lert_cone.specs.Takes.{Workplace, AreNext, CanLog, CanTake, CanReplay, TakesKeys, ReplaysKeys, replayed_head, taken_head}
-use Rattle.lert_cone.specs.Tally.{Tallied, IsRecounted}
+use Rattle.lert_spec.specs.{declared.numbers.Numbers.Numbers, Edges.capacity, Mix.cone_of}
+use Rattle.lert_cone.specs.{declared.journal_places.JournalPlace.JournalPlace, declared.tally.TakeFault.TakeFault, Due.Dues, KeepsLog.{KeepsLogOf, LogHead}, Framed.{HoldsSome, last_flush}}
+use Rattle.lert_cone.specs.{Listing.Listing, JournalPlaces.{ArePlacesIn, AreOfRecord, HasPassed, Places}, Record.LogPlace, Replay.IsOnWay}
+use Rattle.lert_cone.specs.{Takes.{Workplace, AreNext, CanLog, CanTake, CanReplay, TakesKeys, ReplaysKeys, replayed_head, taken_head}, Tally.{Tallied, IsRecounted}}
 use Rattle.lert_bay.proofs.KeptLaws.{IsLawful, keeps_none}
-use Rattle.lert_cone.proofs.Calls.{alone_none}
-use Rattle.lert_cone.proofs.KeepsLogSteps.{log_as, log_none}
-use Rattle.lert_cone.proofs.KeysTaken.{map_ok}
-use Rattle.lert_cone.proofs.KeyStep.{sound_behind}
-use Rattle.lert_cone.proofs.JournalPlaceLaws.{record_part}
-use Rattle.lert_cone.proofs.RecountLaws.{recounted_behind}
-use Rattle.lert_cone.proofs.ReplayLaws.{on_way_places, sound_recounted}
-use Rattle.lert_cone.proofs.ReplayStep.{way_counted, way_in_step, way_partway, way_taken, enough_counted, told_once}
-use Rattle.lert_cone.proofs.SomeLaws.{some_counted}
+use Rattle.lert_cone.proofs.{Calls.alone_none, KeepsLogSteps.{log_as, log_none}, KeysTaken.map_ok, KeyStep.sound_behind, JournalPlaceLaws.record_part, RecountLaws.recounted_behind}
+use Rattle.lert_cone.proofs.{ReplayLaws.{on_way_places, sound_recounted}, ReplayStep.{way_counted, way_in_step, way_partway, way_taken, enough_counted, told_once}, SomeLaws.some_counted}
 use Rattle.lert_cone.proofs.TakeLaws.{on_ok}
 
 never_true : (b : Bool) → (b ≡ true → ⊥) → b ≡ false

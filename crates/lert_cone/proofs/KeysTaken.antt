@@ -1,30 +1,14 @@
 -- Keys in turn: none, one more, and one that isn't taken.
-use Rattle.std.proofs.Common.{◌≡◌, ℕ, ◌+◌, ◌<◌, ◌≤◌, List, [], ◌∷◌, ◌++◌, All, length, take, drop, get_or, Result, Ok, Err, OnOk, refl, sym, ap, ◌∙◌, subst}
-use Rattle.std.proofs.Common.{inl, inr, arith, length-append}
-use Rattle.std.proofs.Common.{append_assoc, append-nil, length-take}
+use Rattle.std.proofs.Common.{◌≡◌, ℕ, ◌+◌, ◌<◌, ◌≤◌, List, [], ◌∷◌, ◌++◌, All, length, take, drop, get_or, Result, Ok, Err, OnOk, refl, sym, ap, ◌∙◌, subst, inl, inr, arith, length-append}
+use Rattle.std.proofs.{Common.{append_assoc, append-nil, length-take}, lemmas.List.{take_all, take_more, take-append-drop}, lemmas.List.Elements.{All-nil, All-cons}, lemmas.Option.same_Some}
 use Rattle.std.specs.Result.{IsErrAnd}
-use Rattle.std.proofs.lemmas.List.{take_all, take_more, take-append-drop}
-use Rattle.std.proofs.lemmas.List.Elements.{All-nil, All-cons}
-use Rattle.std.proofs.lemmas.Option.{same_Some}
 use Rattle.lert_base.specs.Packet.{Packet}
-use Rattle.lert_bay.specs.Files.{Files}
-use Rattle.lert_spec.specs.declared.numbers.Numbers.{Numbers}
-use Rattle.lert_spec.specs.Edges.{capacity}
-use Rattle.lert_spec.specs.Mix.{cone_of}
-use Rattle.lert_cone.specs.declared.journal_places.JournalPlace.{JournalPlace}
-use Rattle.lert_cone.specs.declared.tally.TakeFault.{TakeFault}
-use Rattle.lert_bay.specs.Kept.{Bays}
-use Rattle.lert_cone.specs.Framed.{HoldsSome, last_flush}
-use Rattle.lert_cone.specs.InStep.{IsPartway}
-use Rattle.lert_cone.specs.KeepsLog.{KeepsLogOf}
-use Rattle.lert_cone.specs.Listing.{Listing}
-use Rattle.lert_cone.specs.Takes.{Workplace, CanTake, AreInStep, AreNext, TakesKeys, taken_head}
+use Rattle.lert_bay.specs.{Files.Files, Kept.Bays}
+use Rattle.lert_spec.specs.{declared.numbers.Numbers.Numbers, Edges.capacity, Mix.cone_of}
+use Rattle.lert_cone.specs.{declared.journal_places.JournalPlace.JournalPlace, declared.tally.TakeFault.TakeFault, Framed.{HoldsSome, last_flush}, InStep.IsPartway, KeepsLog.KeepsLogOf}
+use Rattle.lert_cone.specs.{Listing.Listing, Takes.{Workplace, CanTake, AreInStep, AreNext, TakesKeys, taken_head}}
 use Rattle.lert_bay.proofs.KeptLaws.{IsLawful, keeps_none, keeps_on}
-use Rattle.lert_cone.proofs.Calls.{alone_none, alone_on}
-use Rattle.lert_cone.proofs.KeepsLogSteps.{log_none, log_on}
-use Rattle.lert_cone.proofs.KeyStep.{sound_now, sound_behind}
-use Rattle.lert_cone.proofs.FlushLaws.{last_flush_grows}
-use Rattle.lert_cone.proofs.JournalPlaceLaws.{record_part}
+use Rattle.lert_cone.proofs.{Calls.{alone_none, alone_on}, KeepsLogSteps.{log_none, log_on}, KeyStep.{sound_now, sound_behind}, FlushLaws.last_flush_grows, JournalPlaceLaws.record_part}
 use Rattle.lert_cone.proofs.TakeLaws.{handed_on}
 
 -- what follows from an answer of Ok

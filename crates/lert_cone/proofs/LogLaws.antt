@@ -1,34 +1,16 @@
 -- The records of a cone's log as events come: none at first, one more at each flush, and the closing one.
-use Rattle.std.proofs.Common.{ℕ, zero, suc, ◌≡◌, ◌≢◌, ◌+◌, ◌-◌, ◌*◌, ◌/◌, ◌<◌, ◌≤◌, Bool, true, false, ltb, List, [], ◌∷◌, ◌++◌, length, take}
-use Rattle.std.proofs.Common.{drop, get_or, map, min, max, All, refl, ap, sym, ◌∙◌}
-use Rattle.std.proofs.Common.{arith, inl, inr, subst, length-append, append_assoc}
-use Rattle.std.specs.Prelude.{flat_map, slice_index_or, replicate, count_by}
-use Rattle.std.specs.List.{AllPairs, range_with_len}
-use Rattle.std.proofs.Math.Numerals.{add-one}
-use Rattle.std.proofs.Math.Seq.{drop-append_seam}
-use Rattle.std.proofs.lemmas.List.{append-nil, length-map, take-append-le, take_all, get_or-map, get_or_at, get_or-append-add}
-use Rattle.std.proofs.lemmas.List.Elements.{All-map}
-use Rattle.std.proofs.lemmas.List.Folds.{flat_map-map}
+use Rattle.std.proofs.Common.{ℕ, zero, suc, ◌≡◌, ◌≢◌, ◌+◌, ◌-◌, ◌*◌, ◌/◌, ◌<◌, ◌≤◌, Bool, true, false, ltb, List, [], ◌∷◌, ◌++◌, length, take, drop, get_or, map, min, max, All, refl, ap, sym, ◌∙◌}
+use Rattle.std.proofs.{Common.{arith, inl, inr, subst, length-append, append_assoc}, Math.Numerals.add-one, Math.Seq.drop-append_seam}
+use Rattle.std.proofs.{lemmas.List.{append-nil, length-map, take-append-le, take_all, get_or-map, get_or_at, get_or-append-add}, lemmas.List.Elements.All-map, lemmas.List.Folds.flat_map-map}
 use Rattle.std.proofs.lemmas.List.Sums.{length-filter}
-use Rattle.lert_levels.specs.declared.rows.bin_at.BinAt.{BinAt}
-use Rattle.lert_levels.specs.rows.Ranges.{Range, range_at, ranges}
-use Rattle.lert_levels.specs.rows.Rows.{directory_text, range_of, row_of, IsAt, IsRow, AreRows}
-use Rattle.lert_reports.specs.declared.log.LogKind.{LogKind}
-use Rattle.lert_reports.specs.Log.{AreRecords, is_closed, last_n0, last_at, listed_in, before_of, flushes_in}
-use Rattle.lert_reports.specs.LogRules.{IsInTurn, AreFrames, AreNew, KeepsRules}
+use Rattle.std.specs.{Prelude.{flat_map, slice_index_or, replicate, count_by}, List.{AllPairs, range_with_len}}
+use Rattle.lert_levels.specs.{declared.rows.bin_at.BinAt.BinAt, rows.Ranges.{Range, range_at, ranges}, rows.Rows.{directory_text, range_of, row_of, IsAt, IsRow, AreRows}}
+use Rattle.lert_reports.specs.{declared.log.LogKind.LogKind, Log.{AreRecords, is_closed, last_n0, last_at, listed_in, before_of, flushes_in}, LogRules.{IsInTurn, AreFrames, AreNew, KeepsRules}}
 use Rattle.lert_reports.specs.LogText.{LogRecord, bin_count, directory_bytes, log_payload, log_payload_of, next_flush}
 use Rattle.lert_reports.proofs.LogLaws.{records_none, records_more, ends, listed_in-push, last_n0-push, is_closed-push, last_directory-push, last_at-push}
-use Rattle.lert_spec.specs.declared.numbers.Numbers.{Numbers}
-use Rattle.lert_spec.specs.declared.report.Report.{Report}
-use Rattle.lert_spec.specs.Edges.{span, edge, capacity}
-use Rattle.lert_spec.specs.Limits.{IsValid}
-use Rattle.lert_spec.specs.Look.{look, closing}
-use Rattle.lert_spec.proofs.LookLaws.{AreKeys}
-use Rattle.lert_spec.proofs.TailLaws.{AreOfCone}
-use Rattle.lert_cone.specs.declared.journal_places.JournalPlace.{JournalPlace}
-use Rattle.lert_cone.specs.Framed.{last_flush, flushed}
-use Rattle.lert_cone.specs.Logged.{frames_of, next_record, IsLogOf}
-use Rattle.lert_cone.specs.JournalPlaces.{MayName}
+use Rattle.lert_spec.specs.{declared.numbers.Numbers.Numbers, declared.report.Report.Report, Edges.{span, edge, capacity}, Limits.IsValid, Look.{look, closing}}
+use Rattle.lert_spec.proofs.{LookLaws.AreKeys, TailLaws.AreOfCone}
+use Rattle.lert_cone.specs.{declared.journal_places.JournalPlace.JournalPlace, Framed.{last_flush, flushed}, Logged.{frames_of, next_record, IsLogOf}, JournalPlaces.MayName}
 use Rattle.lert_cone.proofs.FlushLaws.{before_next, flush_stays, flush_there, flushes_are, flushes_at, last_flush_within, longer}
 use Rattle.lert_cone.proofs.MadeReports.{AreReports, BeginsWith, IsReport, apart, closing_are, closing_begins, count_map, flushed_begin, look_are}
 

@@ -1,26 +1,13 @@
 -- The reports of a cone as they are made, of which earlier ones begin later ones.
-use Rattle.std.proofs.Common.{ℕ, zero, suc, ◌≡◌, ◌≢◌, ◌+◌, ◌^◌, ◌<◌, ◌≤◌, Bool, cond, eqb, List, [], ◌∷◌, ◌++◌, length, take, drop, get_or, map}
-use Rattle.std.proofs.Common.{filter, All, refl, ap, sym, ◌∙◌, arith, inl, inr}
-use Rattle.std.proofs.Common.{subst, length-append, append_assoc}
-use Rattle.std.specs.Prelude.{count_by}
-use Rattle.std.specs.List.{AllPairs}
-use Rattle.std.specs.List.Sorted.{IsNonDecreasing}
-use Rattle.std.proofs.lemmas.Bool.{cases_lt, cases_eq, cases_Bool, eq-eqb}
-use Rattle.std.proofs.lemmas.List.{append-nil, length-map, length-take, take-append-le, take-append-drop, get_or-map}
-use Rattle.std.proofs.lemmas.List.Elements.{All-nil, All-cons, All-append, All-map, All-weaker}
+use Rattle.std.proofs.Common.{ℕ, zero, suc, ◌≡◌, ◌≢◌, ◌+◌, ◌^◌, ◌<◌, ◌≤◌, Bool, cond, eqb, List, [], ◌∷◌, ◌++◌, length, take, drop, get_or, map, filter, All, refl, ap, sym, ◌∙◌, arith, inl, inr}
+use Rattle.std.proofs.{Common.{subst, length-append, append_assoc}, lemmas.Bool.{cases_lt, cases_eq, cases_Bool, eq-eqb}}
+use Rattle.std.proofs.{lemmas.List.{append-nil, length-map, length-take, take-append-le, take-append-drop, get_or-map}, lemmas.List.Elements.{All-nil, All-cons, All-append, All-map, All-weaker}}
 use Rattle.std.proofs.lemmas.List.Sums.{sum_by-cons}
-use Rattle.lert_spec.specs.declared.numbers.Numbers.{Numbers}
-use Rattle.lert_spec.specs.declared.report.Report.{Report}
-use Rattle.lert_spec.specs.Counts.{count}
-use Rattle.lert_spec.specs.Edges.{capacity, lookback}
-use Rattle.lert_spec.specs.Limits.{IsValid}
-use Rattle.lert_spec.specs.Look.{insert_mixed, mixed_order, is_due, with_due, look_to, look, closing}
-use Rattle.lert_spec.specs.Mix.{mix, cone_of}
-use Rattle.lert_spec.specs.Timely.{times_listed}
-use Rattle.lert_spec.proofs.LookLaws.{AreKeys, AreKeys-mixed_order, AreKeys-filter, look_to-append}
-use Rattle.lert_spec.proofs.ReportLaws.{insert_before, insert_same, insert_behind}
-use Rattle.lert_spec.proofs.TailLaws.{AreOfCone, AreKeys-take, AreKeys-drop}
-use Rattle.lert_spec.proofs.TimeBound.{IsTimely-closing, IsTimelySoFar-look}
+use Rattle.std.specs.{Prelude.count_by, List.AllPairs, List.Sorted.IsNonDecreasing}
+use Rattle.lert_spec.specs.{declared.numbers.Numbers.Numbers, declared.report.Report.Report, Counts.count, Edges.{capacity, lookback}, Limits.IsValid}
+use Rattle.lert_spec.specs.{Look.{insert_mixed, mixed_order, is_due, with_due, look_to, look, closing}, Mix.{mix, cone_of}, Timely.times_listed}
+use Rattle.lert_spec.proofs.{LookLaws.{AreKeys, AreKeys-mixed_order, AreKeys-filter, look_to-append}, ReportLaws.{insert_before, insert_same, insert_behind}}
+use Rattle.lert_spec.proofs.{TailLaws.{AreOfCone, AreKeys-take, AreKeys-drop}, TimeBound.{IsTimely-closing, IsTimelySoFar-look}}
 use Rattle.lert_cone.specs.Framed.{last_flush, flushed}
 use Rattle.lert_cone.proofs.FlushLaws.{last_flush_within}
 

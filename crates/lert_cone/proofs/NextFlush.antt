@@ -1,11 +1,8 @@
 -- The next flush position, as a number that keys move on.
-use Rattle.std.proofs.Common.{ℕ, suc, ◌≡◌, ◌≢◌, ◌+◌, ◌-◌, ◌*◌, ◌/◌, ◌≤◌, eqb, ap, sym, ◌∙◌, arith, inl, inr, subst}
-use Rattle.std.proofs.Math.Nat.{mul-div_right, mul-div-le, mul-suc, suc-mul}
-use Rattle.std.specs.Prelude.{IsTrue, IsFalse}
+use Rattle.std.proofs.{Common.{ℕ, suc, ◌≡◌, ◌≢◌, ◌+◌, ◌-◌, ◌*◌, ◌/◌, ◌≤◌, eqb, ap, sym, ◌∙◌, arith, inl, inr, subst}, Math.Nat.{mul-div_right, mul-div-le, mul-suc, suc-mul}}
 use Rattle.std.proofs.lemmas.Bool.{cases_eq, eq-eqb, ne_eqb, false≢true}
-use Rattle.lert_spec.specs.declared.numbers.Numbers.{Numbers}
-use Rattle.lert_spec.specs.Edges.{span, offset, edge, depth}
-use Rattle.lert_spec.specs.Limits.{IsValid}
+use Rattle.std.specs.Prelude.{IsTrue, IsFalse}
+use Rattle.lert_spec.specs.{declared.numbers.Numbers.Numbers, Edges.{span, offset, edge, depth}, Limits.IsValid}
 use Rattle.lert_spec.proofs.EdgeLaws.{steps, moves_by_one}
 use Rattle.lert_cone.proofs.TallyLaws.{wide, next_free, flush_moves, edge_still}
 

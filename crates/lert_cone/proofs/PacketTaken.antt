@@ -1,33 +1,17 @@
 -- A packet through the calls that it makes: it isn't appended, or it is, and its keys are taken.
-use Rattle.std.specs.Prelude.{IsErr}
-use Rattle.std.proofs.Common.{◌≡◌, ℕ, ◌+◌, ◌^◌, ◌<◌, ◌≤◌, List, [], ◌∷◌, ◌++◌, All, length, Result, Ok, Err, OnOk, OnErr, Some, refl, ap, ◌∙◌, subst, inl}
-use Rattle.std.proofs.Common.{inr, arith}
-use Rattle.std.specs.Result.{IsErrAnd}
+use Rattle.std.specs.{Prelude.IsErr, Result.IsErrAnd}
+use Rattle.std.proofs.Common.{◌≡◌, ℕ, ◌+◌, ◌^◌, ◌<◌, ◌≤◌, List, [], ◌∷◌, ◌++◌, All, length, Result, Ok, Err, OnOk, OnErr, Some, refl, ap, ◌∙◌, subst, inl, inr, arith}
 use Rattle.lert_base.specs.Packet.{Packet, events_of}
-use Rattle.lert_bay.specs.Files.{Files, IfTold, Turns}
-use Rattle.lert_gatelog.specs.Gated.{IsClosed, Log, next_gate}
-use Rattle.lert_gatelog.specs.Kept.{InEach, KeepsOthers, KeepsBefore, IsWhollySettled, OthersStay}
+use Rattle.lert_bay.specs.{Files.{Files, IfTold, Turns}, Kept.{Bays, KeepsBay}}
+use Rattle.lert_gatelog.specs.{Gated.{IsClosed, Log, next_gate}, Kept.{InEach, KeepsOthers, KeepsBefore, IsWhollySettled, OthersStay}}
 use Rattle.lert_io.specs.declared.faulty.Failed.{Failed as Fault}
-use Rattle.lert_journal.specs.Journal.{HasPackets, HasPacketsOrOneMore}
-use Rattle.lert_journal.specs.Payload.{payload_of}
+use Rattle.lert_journal.specs.{Journal.{HasPackets, HasPacketsOrOneMore}, Payload.payload_of}
 use Rattle.lert_spec.specs.Edges.{capacity}
-use Rattle.lert_cone.specs.declared.journal_places.JournalPlace.{JournalPlace}
-use Rattle.lert_cone.specs.declared.tally.TakeFault.{TakeFault}
-use Rattle.lert_cone.specs.declared.tally.TakeFault.TheVariants.{Failed}
-use Rattle.lert_bay.specs.Kept.{Bays, KeepsBay}
-use Rattle.lert_cone.specs.History.{most_payload}
-use Rattle.lert_cone.specs.InStep.{IsInStep}
-use Rattle.lert_cone.specs.JournalPlaces.{AreOfRecord}
-use Rattle.lert_cone.specs.Sound.{IsSoundOver}
-use Rattle.lert_cone.specs.Takes.{Workplace, CanTake, CanTakePacket, IsWholeAt, TakesKeys, TakesPacket}
-use Rattle.lert_cone.specs.Wrote.{IsShutIfTold, LeavesAlone}
+use Rattle.lert_cone.specs.{declared.journal_places.JournalPlace.JournalPlace, declared.tally.TakeFault.TakeFault, declared.tally.TakeFault.TheVariants.Failed, History.most_payload, InStep.IsInStep}
+use Rattle.lert_cone.specs.{JournalPlaces.AreOfRecord, Sound.IsSoundOver, Takes.{Workplace, CanTake, CanTakePacket, IsWholeAt, TakesKeys, TakesPacket}, Wrote.{IsShutIfTold, LeavesAlone}}
 use Rattle.lert_bay.proofs.KeptLaws.{IsLawful, keeps_on}
-use Rattle.lert_cone.proofs.Calls.{now_since, alone_others, settled_alone, shut_alone}
-use Rattle.lert_cone.proofs.JournalPlaceLaws.{last_holds}
-use Rattle.lert_cone.proofs.SoundLaws.{turns_back}
-use Rattle.lert_cone.proofs.AppendLaws.{sound_appending, up_appended, records_there, each_there, partway_packet, appended_there}
-use Rattle.lert_cone.proofs.FaultLaws.{any_turn, turns_on}
-use Rattle.lert_cone.proofs.TakeLaws.{handed_on, ok_holds}
+use Rattle.lert_cone.proofs.{Calls.{now_since, alone_others, settled_alone, shut_alone}, JournalPlaceLaws.last_holds, SoundLaws.turns_back}
+use Rattle.lert_cone.proofs.{AppendLaws.{sound_appending, up_appended, records_there, each_there, partway_packet, appended_there}, FaultLaws.{any_turn, turns_on}, TakeLaws.{handed_on, ok_holds}}
 
 -- what the append of a packet says: its clauses
 abbrev pub AppendsPacket : {B : Type 0} → Bays B → Packet → B → B → Log → Log → Result (Unit {0}) Fault → Type 0

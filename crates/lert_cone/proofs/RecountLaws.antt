@@ -1,23 +1,12 @@
 -- A cone whose keys come again up to n0, while its rows are those after n0 events already.
-use Rattle.std.proofs.Common.{ℕ, ◌≡◌, ◌≢◌, ◌+◌, ◌-◌, ◌*◌, ◌%◌, ◌^◌, ◌<◌, ◌≤◌, suc, cond, ltb, Bool, true, false, List, [], ◌∷◌}
-use Rattle.std.proofs.Common.{◌++◌, length, ap, sym, ◌∙◌}
-use Rattle.std.proofs.Common.{arith, inl, inr, subst, length-append}
-use Rattle.std.proofs.Math.Nat.{mul-div-le}
-use Rattle.std.proofs.lemmas.Bool.{cases_eq, cases_lt, eq-eqb, ne_eqb, lt-ltb, le-ltb}
-use Rattle.std.proofs.lemmas.Nat.{mul-le}
-use Rattle.lert_spec.specs.declared.numbers.Numbers.{Numbers}
-use Rattle.lert_spec.specs.Edges.{span, offset, edge, capacity}
-use Rattle.lert_spec.specs.Limits.{IsValid}
-use Rattle.lert_spec.specs.Mix.{cone_of, tail_of}
-use Rattle.lert_spec.proofs.LookLaws.{AreKeys}
-use Rattle.lert_spec.proofs.TailLaws.{AreOfCone}
-use Rattle.lert_levels.specs.rows.Ranges.{young_bins}
-use Rattle.lert_levels.specs.rows.Rows.{IsAt, AreRows}
-use Rattle.lert_levels.specs.rows.Young.{Young, IsNextPosition, with_event, added}
+use Rattle.std.proofs.Common.{ℕ, ◌≡◌, ◌≢◌, ◌+◌, ◌-◌, ◌*◌, ◌%◌, ◌^◌, ◌<◌, ◌≤◌, suc, cond, ltb, Bool, true, false, List, [], ◌∷◌, ◌++◌, length, ap, sym, ◌∙◌, arith, inl, inr, subst, length-append}
+use Rattle.std.proofs.{Math.Nat.mul-div-le, lemmas.Bool.{cases_eq, cases_lt, eq-eqb, ne_eqb, lt-ltb, le-ltb}, lemmas.Nat.mul-le}
+use Rattle.lert_spec.specs.{declared.numbers.Numbers.Numbers, Edges.{span, offset, edge, capacity}, Limits.IsValid, Mix.{cone_of, tail_of}}
+use Rattle.lert_spec.proofs.{LookLaws.AreKeys, TailLaws.AreOfCone}
+use Rattle.lert_levels.specs.{rows.Ranges.young_bins, rows.Rows.{IsAt, AreRows}, rows.Young.{Young, IsNextPosition, with_event, added}}
 use Rattle.lert_levels.proofs.rows.YoungBins.{young-added, young-none}
 use Rattle.lert_cone.specs.Tally.{Tallied, IsCounted, IsRecounted, IsRising, AreYoung}
-use Rattle.lert_cone.proofs.KeyLemmas.{AreKeys-push, AreOfCone-push}
-use Rattle.lert_cone.proofs.TallyLaws.{wide, aligned, next_free}
+use Rattle.lert_cone.proofs.{KeyLemmas.{AreKeys-push, AreOfCone-push}, TallyLaws.{wide, aligned, next_free}}
 
 module _ (s : Numbers) (valid : IsValid s) where
   -- the newest event is above the edge of level 0

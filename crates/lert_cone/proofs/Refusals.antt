@@ -1,13 +1,10 @@
 -- What an answer says of its fault.
-use Rattle.std.proofs.Common.{◌≡◌, ◌≢◌, ◌∙◌, ℕ, Option, Result, Ok, Err, IsErrOf, ap, sym}
-use Rattle.std.proofs.lemmas.Bool.{false≢true}
+use Rattle.std.proofs.{Common.{◌≡◌, ◌≢◌, ◌∙◌, ℕ, Option, Result, Ok, Err, IsErrOf, ap, sym}, lemmas.Bool.false≢true}
 use Rattle.std.specs.Prelude.{◌↔◌, true}
-use Rattle.lert_base.specs.declared.cone_fault.ConeFault.{ConeFault}
-use Rattle.lert_base.specs.declared.cone_fault.ConeFault.TheVariants.{BayFailed, Unsound}
+use Rattle.lert_base.specs.{declared.cone_fault.ConeFault.ConeFault, declared.cone_fault.ConeFault.TheVariants.{BayFailed, Unsound}}
 use Rattle.lert_bay.specs.Files.{Files, Turns}
 use Rattle.lert_gatelog.specs.Kept.{OthersStay}
-use Rattle.lert_cone.specs.Sound.{FramesStay}
-use Rattle.lert_cone.specs.Stands.{is_refusal}
+use Rattle.lert_cone.specs.{Sound.FramesStay, Stands.is_refusal}
 
 abbrev fault_or : {T E : Type 0} → E → Result T E → E
 fault_or other (Ok value) = other

@@ -2,37 +2,17 @@
 use Rattle.std.proofs.Common.{◌≡◌, ℕ, ◌+◌, ◌≤◌, List, ◌++◌, length, take, drop, max, Option, Some, None, Result, Ok, OnOk, sym, ap, ◌∙◌, subst, inl, inr, arith, length-append}
 use Rattle.std.specs.List.{length_refill}
 use Rattle.lert_base.specs.Packet.{Packet, events_of}
-use Rattle.lert_bay.specs.Files.{Files, IfTold}
-use Rattle.lert_bay.specs.Images.{Lasts}
-use Rattle.lert_bay.specs.Kept.{Bays, CallsBay, KeepsBay}
+use Rattle.lert_bay.specs.{Files.{Files, IfTold}, Images.Lasts, Kept.{Bays, CallsBay, KeepsBay}}
 use Rattle.lert_bay.proofs.KeptLaws.{IsLawful, calls, calls_as, calls_on}
-use Rattle.lert_gatelog.specs.Gated.{IsClosed, Log, next_gate}
-use Rattle.lert_gatelog.specs.Kept.{IsWhollySettled}
+use Rattle.lert_gatelog.specs.{Gated.{IsClosed, Log, next_gate}, Kept.IsWhollySettled}
 use Rattle.lert_journal.specs.Journal.{HoldsPacket}
 use Rattle.lert_reports.specs.declared.log_point.LogPoint.{LogPoint}
 use Rattle.lert_spec.specs.declared.numbers.Numbers.{Numbers}
-use Rattle.lert_cone.specs.declared.journal_places.JournalPlace.{JournalPlace}
-use Rattle.lert_cone.specs.declared.refusal.ReplayFault.{ReplayFault}
-use Rattle.lert_cone.specs.declared.tally.TakeFault.{TakeFault}
-use Rattle.lert_cone.specs.Framed.{last_flush}
-use Rattle.lert_cone.specs.History.{most_payload}
-use Rattle.lert_cone.specs.KeepsLog.{KeepsLogOf, LogHead}
-use Rattle.lert_cone.specs.Listing.{Listing}
-use Rattle.lert_cone.specs.Reads.{OnlyReadsJournal}
-use Rattle.lert_cone.specs.Record.{LogPlace}
-use Rattle.lert_cone.specs.Replay.{IsOnWay, IsPast, IsNext}
-use Rattle.lert_cone.specs.Replays.{HasEnded, IsUnwritten, Replays}
-use Rattle.lert_cone.specs.Sound.{IsSound, StaysSound}
-use Rattle.lert_cone.specs.Takes.{Workplace, ReplaysKeys}
-use Rattle.lert_cone.specs.Tally.{Tallied, IsRecounted}
-use Rattle.lert_cone.specs.Wrote.{IsShutIfTold, LeavesAlone}
-use Rattle.lert_cone.proofs.Calls.{now_since, alone_on, alone_reading}
-use Rattle.lert_cone.proofs.GateLaws.{ends_there, keys_past, keys_next}
-use Rattle.lert_cone.proofs.KeepsLogSteps.{log_as, log_on, log_unwritten}
-use Rattle.lert_cone.proofs.JournalPlaceLaws.{next_holds}
-use Rattle.lert_cone.proofs.ReplayLaws.{journal_on_way, on_way_read, sound_recounted}
-use Rattle.lert_cone.proofs.ReplayStands.{next_there, read_settled, seen_as, shut_there}
-use Rattle.lert_cone.proofs.ReplayStep.{told_once}
+use Rattle.lert_cone.specs.{declared.journal_places.JournalPlace.JournalPlace, declared.refusal.ReplayFault.ReplayFault, declared.tally.TakeFault.TakeFault, Framed.last_flush, History.most_payload}
+use Rattle.lert_cone.specs.{KeepsLog.{KeepsLogOf, LogHead}, Listing.Listing, Reads.OnlyReadsJournal, Record.LogPlace, Replay.{IsOnWay, IsPast, IsNext}, Replays.{HasEnded, IsUnwritten, Replays}}
+use Rattle.lert_cone.specs.{Sound.{IsSound, StaysSound}, Takes.{Workplace, ReplaysKeys}, Tally.{Tallied, IsRecounted}, Wrote.{IsShutIfTold, LeavesAlone}}
+use Rattle.lert_cone.proofs.{Calls.{now_since, alone_on, alone_reading}, GateLaws.{ends_there, keys_past, keys_next}, KeepsLogSteps.{log_as, log_on, log_unwritten}, JournalPlaceLaws.next_holds}
+use Rattle.lert_cone.proofs.{ReplayLaws.{journal_on_way, on_way_read, sound_recounted}, ReplayStands.{next_there, read_settled, seen_as, shut_there}, ReplayStep.told_once}
 
 -- a packet that stands at the gate of a journal, said of another name of it
 pub held_at : {s : Numbers} {cone most : ℕ} {journal there : Log} {bytes : List ℕ} {packet : Packet} → journal ≡ there → HoldsPacket s cone most bytes journal.gate packet →

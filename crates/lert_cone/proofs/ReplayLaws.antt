@@ -1,31 +1,14 @@
 -- What a cone keeps on its way through its journal: up to n0 events the files go together with memory as after n0 events, and
 -- from then on as after the keys so far.
-use Rattle.std.proofs.Common.{◌≡◌, ℕ, zero, suc, ◌+◌, ◌-◌, ◌≤◌, true, cond, List, [], ◌++◌, length, take, drop, max, refl, sym, ap, ◌∙◌, subst}
-use Rattle.std.proofs.Common.{inl, inr, arith, length-append}
-use Rattle.std.proofs.Common.{length-take, append-nil}
-use Rattle.std.proofs.lemmas.Bool.{cases_eq, cases_lt, eq-eqb, ne_eqb}
-use Rattle.std.proofs.lemmas.List.{take_at, take_all, take-append-drop, length-take-le}
+use Rattle.std.proofs.Common.{◌≡◌, ℕ, zero, suc, ◌+◌, ◌-◌, ◌≤◌, true, cond, List, [], ◌++◌, length, take, drop, max, refl, sym, ap, ◌∙◌, subst, inl, inr, arith, length-append, length-take, append-nil}
+use Rattle.std.proofs.{lemmas.Bool.{cases_eq, cases_lt, eq-eqb, ne_eqb}, lemmas.List.{take_at, take_all, take-append-drop, length-take-le}}
 use Rattle.lert_base.specs.Packet.{Packet, events_of}
 use Rattle.lert_bay.specs.Files.{Files}
-use Rattle.lert_levels.specs.declared.rows.bin_at.BinAt.{BinAt}
-use Rattle.lert_levels.specs.rows.Rows.{IsAt}
-use Rattle.lert_spec.specs.declared.numbers.Numbers.{Numbers}
-use Rattle.lert_spec.specs.declared.report.Report.{Report}
-use Rattle.lert_spec.specs.Edges.{edge}
-use Rattle.lert_spec.specs.Limits.{IsValid}
-use Rattle.lert_cone.specs.Framed.{last_flush}
-use Rattle.lert_cone.specs.InStep.{IsInStep, IsPartway}
-use Rattle.lert_cone.specs.Listing.{Listing}
-use Rattle.lert_cone.specs.JournalPlaces.{ArePlacesIn, Places}
-use Rattle.lert_cone.specs.Record.{LogPlace}
-use Rattle.lert_cone.specs.Replay.{IsOnWay, IsPast, ReplayLeavesAt}
-use Rattle.lert_cone.specs.Sound.{IsJournal, IsSound, but_last}
-use Rattle.lert_cone.specs.Stands.{IsWhole}
-use Rattle.lert_cone.specs.Tally.{Tallied, IsCounted, IsRecounted}
-use Rattle.lert_cone.proofs.GateLaws.{never_leaves}
-use Rattle.lert_cone.proofs.FlushLaws.{last_flush_grows}
-use Rattle.lert_cone.proofs.AppendLaws.{whole_of}
-use Rattle.lert_cone.proofs.StepLaws.{sound_of}
+use Rattle.lert_levels.specs.{declared.rows.bin_at.BinAt.BinAt, rows.Rows.IsAt}
+use Rattle.lert_spec.specs.{declared.numbers.Numbers.Numbers, declared.report.Report.Report, Edges.edge, Limits.IsValid}
+use Rattle.lert_cone.specs.{Framed.last_flush, InStep.{IsInStep, IsPartway}, Listing.Listing, JournalPlaces.{ArePlacesIn, Places}, Record.LogPlace, Replay.{IsOnWay, IsPast, ReplayLeavesAt}}
+use Rattle.lert_cone.specs.{Sound.{IsJournal, IsSound, but_last}, Stands.IsWhole, Tally.{Tallied, IsCounted, IsRecounted}}
+use Rattle.lert_cone.proofs.{GateLaws.never_leaves, FlushLaws.last_flush_grows, AppendLaws.whole_of, StepLaws.sound_of}
 
 -- a flush position is its own last one
 last_flush_again : (s : Numbers) (n : ℕ) → last_flush s (last_flush s n) ≡ last_flush s n

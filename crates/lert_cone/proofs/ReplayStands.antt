@@ -1,46 +1,23 @@
 -- A cone whose journal is read again: what is so of it, what the record at a gate makes of it, and which
 -- lists it stands for at the end.
-use Rattle.std.proofs.Common.{◌≡◌, ℕ, ◌+◌, ◌*◌, ◌^◌, ◌<◌, ◌≤◌, Bool, true, false, cond, List, length, Option, Some, None, All, refl, sym, ap, ◌∙◌, subst}
-use Rattle.std.proofs.Common.{arith}
-use Rattle.std.proofs.lemmas.Bool.{false≢true}
+use Rattle.std.proofs.{Common.{◌≡◌, ℕ, ◌+◌, ◌*◌, ◌^◌, ◌<◌, ◌≤◌, Bool, true, false, cond, List, length, Option, Some, None, All, refl, sym, ap, ◌∙◌, subst, arith}, lemmas.Bool.false≢true}
 use Rattle.lert_base.specs.Packet.{Packet, events_of}
-use Rattle.lert_bay.specs.Files.{Files, IfTold, Turns}
-use Rattle.lert_bay.specs.Images.{KeepsImages}
-use Rattle.lert_gatelog.specs.declared.fault.LogFault.{LogFault}
-use Rattle.lert_gatelog.specs.declared.fault.LogFault.TheVariants.{Failed as LogFailed, Malformed as LogMalformed}
-use Rattle.lert_gatelog.specs.Gated.{IsClosed, Log, next_gate}
+use Rattle.lert_bay.specs.{Files.{Files, IfTold, Turns}, Images.KeepsImages}
+use Rattle.lert_gatelog.specs.{declared.fault.LogFault.LogFault, declared.fault.LogFault.TheVariants.{Failed as LogFailed, Malformed as LogMalformed}, Gated.{IsClosed, Log, next_gate}}
 use Rattle.lert_gatelog.specs.Kept.{IsWhollySettled}
 use Rattle.lert_gatelog.proofs.GatedLaws.{closed_behind}
-use Rattle.lert_journal.specs.Journal.{HoldsPacket}
-use Rattle.lert_journal.specs.Payload.{payload_of}
+use Rattle.lert_journal.specs.{Journal.HoldsPacket, Payload.payload_of}
 use Rattle.lert_journal.proofs.PayloadLaws.{length_payload}
 use Rattle.lert_levels.specs.declared.rows.bin_at.BinAt.{BinAt}
-use Rattle.lert_spec.specs.declared.numbers.Numbers.{Numbers}
-use Rattle.lert_spec.specs.declared.report.Report.{Report}
-use Rattle.lert_spec.specs.Edges.{capacity}
-use Rattle.lert_spec.specs.Limits.{IsValid}
+use Rattle.lert_spec.specs.{declared.numbers.Numbers.Numbers, declared.report.Report.Report, Edges.capacity, Limits.IsValid}
 use Rattle.lert_reports.specs.declared.log_point.LogPoint.{LogPoint}
-use Rattle.lert_cone.specs.declared.refusal.ReplayFault.{ReplayFault}
-use Rattle.lert_cone.specs.declared.refusal.ReplayFault.TheVariants.{Failed, Malformed, Unsound}
-use Rattle.lert_cone.specs.declared.state.ConeState.{ConeState}
-use Rattle.lert_cone.specs.declared.state.ConeState.TheVariants.{Running, Finished}
-use Rattle.lert_cone.specs.declared.tally.TakeFault.{TakeFault}
-use Rattle.lert_cone.specs.declared.tally.TakeFault.TheVariants.{Failed as TakeFailed, Unsound as TakeUnsound}
-use Rattle.lert_cone.specs.History.{most_payload}
-use Rattle.lert_cone.specs.Listing.{Listing}
-use Rattle.lert_cone.specs.Record.{LogPlace}
-use Rattle.lert_cone.specs.Replay.{IsOnWay, IsPast, IsNext, ReplayLeavesAt}
-use Rattle.lert_cone.specs.Replaying.{Replaying, IsReplaying, readied}
-use Rattle.lert_cone.specs.Replays.{Replays, IsThere, WhyRefused, LeavesBehind, of_take_fault, of_log_fault}
-use Rattle.lert_cone.specs.Room.{room_of}
-use Rattle.lert_cone.specs.Stands.{StandsFor, IsCone, WereSoundAs, is_broken, is_finished}
-use Rattle.lert_cone.specs.Tally.{Tallied, IsRecounted}
-use Rattle.lert_cone.specs.Wrote.{Anything, IsShutIfTold, LeavesFile}
-use Rattle.lert_cone.proofs.FaultLaws.{turns_on}
-use Rattle.lert_cone.proofs.GateLaws.{is_next}
-use Rattle.lert_cone.proofs.ReplayLaws.{journal_on_way, whole_on_way}
-use Rattle.lert_cone.proofs.SoundLaws.{turns_back}
-use Rattle.lert_cone.proofs.WroteLaws.{settled_through, torn_behind}
+use Rattle.lert_cone.specs.{declared.refusal.ReplayFault.ReplayFault, declared.refusal.ReplayFault.TheVariants.{Failed, Malformed, Unsound}, declared.state.ConeState.ConeState}
+use Rattle.lert_cone.specs.{declared.state.ConeState.TheVariants.{Running, Finished}, declared.tally.TakeFault.TakeFault}
+use Rattle.lert_cone.specs.{declared.tally.TakeFault.TheVariants.{Failed as TakeFailed, Unsound as TakeUnsound}, History.most_payload, Listing.Listing, Record.LogPlace}
+use Rattle.lert_cone.specs.{Replay.{IsOnWay, IsPast, IsNext, ReplayLeavesAt}, Replaying.{Replaying, IsReplaying, readied}}
+use Rattle.lert_cone.specs.{Replays.{Replays, IsThere, WhyRefused, LeavesBehind, of_take_fault, of_log_fault}, Room.room_of, Stands.{StandsFor, IsCone, WereSoundAs, is_broken, is_finished}}
+use Rattle.lert_cone.specs.{Tally.{Tallied, IsRecounted}, Wrote.{Anything, IsShutIfTold, LeavesFile}}
+use Rattle.lert_cone.proofs.{FaultLaws.turns_on, GateLaws.is_next, ReplayLaws.{journal_on_way, whole_on_way}, SoundLaws.turns_back, WroteLaws.{settled_through, torn_behind}}
 
 -- ---- calls that read alone
 

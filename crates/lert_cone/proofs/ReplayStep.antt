@@ -1,18 +1,11 @@
 -- Keys of a journal that is read again: the first of them are counted again, and the others are taken.
-use Rattle.std.proofs.Common.{◌≡◌, ℕ, ◌-◌, ◌<◌, ◌≤◌, List, ◌++◌, length, take, drop, min, Option, Some, sym, ap, ◌∙◌, subst, arith, append_assoc, length-append}
-use Rattle.std.proofs.Common.{length-take, length-drop}
+use Rattle.std.proofs.Common.{◌≡◌, ℕ, ◌-◌, ◌<◌, ◌≤◌, List, ◌++◌, length, take, drop, min, Option, Some, sym, ap, ◌∙◌, subst, arith, append_assoc, length-append, length-take, length-drop}
 use Rattle.std.proofs.lemmas.Option.{same_Some}
 use Rattle.lert_base.specs.Packet.{Packet, events_of}
 use Rattle.lert_bay.specs.Files.{Files}
 use Rattle.lert_levels.specs.declared.rows.bin_at.BinAt.{BinAt}
-use Rattle.lert_cone.specs.Due.{Dues}
-use Rattle.lert_cone.specs.InStep.{IsInStep, IsPartway}
-use Rattle.lert_cone.specs.Listing.{Listing}
-use Rattle.lert_cone.specs.Record.{LogPlace}
-use Rattle.lert_cone.specs.Replay.{IsOnWay}
-use Rattle.lert_cone.specs.Tally.{Tallied}
-use Rattle.lert_cone.proofs.GateLaws.{keys_cut}
-use Rattle.lert_cone.proofs.ReplayLaws.{on_way_counted, in_step_behind, partway_behind, on_way_behind}
+use Rattle.lert_cone.specs.{Due.Dues, InStep.{IsInStep, IsPartway}, Listing.Listing, Record.LogPlace, Replay.IsOnWay, Tally.Tallied}
+use Rattle.lert_cone.proofs.{GateLaws.keys_cut, ReplayLaws.{on_way_counted, in_step_behind, partway_behind, on_way_behind}}
 
 -- `a` is the tally behind the first keys, which were counted again, and `log` the log, of which nothing was written
 module _ (leaves : Files → Type 0) (seen : Files) (history : List Packet) (t a : Tallied) (log : LogPlace) (n0 count : ℕ) (keys rest : List ℕ)

@@ -1,18 +1,9 @@
 -- Reports are few: each is of a key of its own, and each of these keys reaches the threshold.
-use Rattle.std.proofs.Common.{◌≡◌, ◌≢◌, ℕ, ◌+◌, ◌*◌, ◌≤◌, suc, cond, eqb, not, List, [], ◌∷◌, length, filter, refl, ap, sym, ◌∙◌, arith, inl, inr}
-use Rattle.std.proofs.Math.Nat.{mul-suc, mul-le-mul_left}
-use Rattle.std.proofs.lemmas.Bool.{cases_lt, cases_eq, eq-eqb, ne_eqb}
-use Rattle.std.proofs.lemmas.List.Filters.{length-filter_both}
-use Rattle.std.proofs.lemmas.List.Sums.{length-filter, sum_by-cons}
-use Rattle.lert_spec.specs.declared.numbers.Numbers.{Numbers}
-use Rattle.lert_spec.specs.declared.report.Report.{Report}
-use Rattle.lert_spec.specs.Counts.{count}
-use Rattle.lert_spec.specs.Edges.{capacity}
-use Rattle.lert_spec.specs.Limits.{IsValid}
-use Rattle.lert_spec.specs.Look.{look, closing}
+use Rattle.std.proofs.{Common.{◌≡◌, ◌≢◌, ℕ, ◌+◌, ◌*◌, ◌≤◌, suc, cond, eqb, not, List, [], ◌∷◌, length, filter, refl, ap, sym, ◌∙◌, arith, inl, inr}, Math.Nat.{mul-suc, mul-le-mul_left}}
+use Rattle.std.proofs.{lemmas.Bool.{cases_lt, cases_eq, eq-eqb, ne_eqb}, lemmas.List.Filters.length-filter_both, lemmas.List.Sums.{length-filter, sum_by-cons}}
+use Rattle.lert_spec.specs.{declared.numbers.Numbers.Numbers, declared.report.Report.Report, Counts.count, Edges.capacity, Limits.IsValid, Look.{look, closing}}
 use Rattle.lert_spec.specs.Timely.{IsReportedOnTime, times_listed}
-use Rattle.lert_spec.proofs.ReportLaws.{times, times-filter, count_le-times}
-use Rattle.lert_spec.proofs.TimeBound.{IsTimely-closing, IsTimelySoFar-look}
+use Rattle.lert_spec.proofs.{ReportLaws.{times, times-filter, count_le-times}, TimeBound.{IsTimely-closing, IsTimelySoFar-look}}
 
 -- the events without those of a key
 abbrev others : ℕ → List ℕ → List ℕ

@@ -1,24 +1,13 @@
 -- Frames that hold the bins of some events, whatever these are, through a key and the flush that it may bring.
-use Rattle.std.proofs.Common.{ℕ, ◌≡◌, ◌+◌, ◌-◌, ◌*◌, ◌/◌, ◌≤◌, suc, ltb, List, [], ◌∷◌, ◌++◌, length, map, filter, take, drop, get_or, min, max, All, ap}
-use Rattle.std.proofs.Common.{sym, ◌∙◌, arith, subst, slice_range}
-use Rattle.std.proofs.Common.{length-append}
+use Rattle.std.proofs.Common.{ℕ, ◌≡◌, ◌+◌, ◌-◌, ◌*◌, ◌/◌, ◌≤◌, suc, ltb, List, [], ◌∷◌, ◌++◌, length, map, filter, take, drop, get_or, min, max, All, ap, sym, ◌∙◌, arith, subst, slice_range}
+use Rattle.std.proofs.{Common.length-append, lemmas.List.{take-append-drop, length-take, length-drop}, lemmas.Slice.drop-append-drop}
 use Rattle.std.specs.List.{range_with_len}
-use Rattle.std.proofs.lemmas.List.{take-append-drop, length-take, length-drop}
-use Rattle.std.proofs.lemmas.Slice.{drop-append-drop}
 use Rattle.lert_frames.specs.Frame.{HoldsFrame}
-use Rattle.lert_spec.specs.declared.numbers.Numbers.{Numbers}
-use Rattle.lert_spec.specs.Bins.{Bin, bin_at, tallied}
-use Rattle.lert_spec.specs.Edges.{span, edge}
-use Rattle.lert_spec.specs.Limits.{IsValid}
-use Rattle.lert_spec.proofs.EdgeLaws.{edge_descends_to}
-use Rattle.lert_spec.proofs.LookLaws.{slice_range-append}
-use Rattle.lert_levels.specs.declared.rows.bin_at.BinAt.{BinAt}
-use Rattle.lert_levels.specs.rows.Ranges.{young_bins}
-use Rattle.lert_levels.specs.rows.Rows.{row_of, IsAt, HoldsBins, tallied_in}
-use Rattle.lert_levels.proofs.rows.RangeLaws.{IsCut, cuts_are, edge_within}
-use Rattle.lert_levels.proofs.rows.RowLaws.{All-ranges}
-use Rattle.lert_cone.specs.Framed.{HoldsSome}
-use Rattle.lert_cone.specs.Tally.{Tallied}
+use Rattle.lert_spec.specs.{declared.numbers.Numbers.Numbers, Bins.{Bin, bin_at, tallied}, Edges.{span, edge}, Limits.IsValid}
+use Rattle.lert_spec.proofs.{EdgeLaws.edge_descends_to, LookLaws.slice_range-append}
+use Rattle.lert_levels.specs.{declared.rows.bin_at.BinAt.BinAt, rows.Ranges.young_bins, rows.Rows.{row_of, IsAt, HoldsBins, tallied_in}}
+use Rattle.lert_levels.proofs.{rows.RangeLaws.{IsCut, cuts_are, edge_within}, rows.RowLaws.All-ranges}
+use Rattle.lert_cone.specs.{Framed.HoldsSome, Tally.Tallied}
 
 module _ (s : Numbers) (valid : IsValid s) where
   -- the bins of the older levels end where level 0 begins

@@ -1,25 +1,14 @@
 -- The files of a cone as their headers leave them, and through an append.
-use Rattle.std.proofs.Common.{◌≡◌, ℕ, ◌+◌, ◌^◌, ◌<◌, ◌≤◌, List, [], ◌∷◌, ◌++◌, length, take, get_or, Option, Some, None, All, refl, sym, ap, ◌∙◌}
-use Rattle.std.proofs.Common.{subst, arith, length-append}
-use Rattle.std.proofs.Common.{append-nil}
-use Rattle.std.proofs.Math.Seq.{get_or-append_seam}
-use Rattle.std.proofs.lemmas.Grind.{flat_map-append}
-use Rattle.std.proofs.lemmas.List.{take-take, take_at, take_all}
-use Rattle.std.proofs.lemmas.List.Elements.{All-nil}
-use Rattle.std.proofs.lemmas.Option.{none-some, same_Some}
+use Rattle.std.proofs.Common.{◌≡◌, ℕ, ◌+◌, ◌^◌, ◌<◌, ◌≤◌, List, [], ◌∷◌, ◌++◌, length, take, get_or, Option, Some, None, All, refl, sym, ap, ◌∙◌, subst, arith, length-append, append-nil}
+use Rattle.std.proofs.{Math.Seq.get_or-append_seam, lemmas.Grind.flat_map-append, lemmas.List.{take-take, take_at, take_all}, lemmas.List.Elements.All-nil, lemmas.Option.{none-some, same_Some}}
 use Rattle.lert_base.specs.Packet.{Packet, events_of}
-use Rattle.lert_bay.specs.Files.{Files, Turns}
-use Rattle.lert_bay.specs.Settled.{part, Keeps}
-use Rattle.lert_gatelog.specs.Gated.{IsClosed, next_gate}
-use Rattle.lert_gatelog.specs.Kept.{InEach, KeepsOthers, IsWhollySettled, OthersStay}
+use Rattle.lert_bay.specs.{Files.{Files, Turns}, Settled.{part, Keeps}}
+use Rattle.lert_gatelog.specs.{Gated.{IsClosed, next_gate}, Kept.{InEach, KeepsOthers, IsWhollySettled, OthersStay}}
 use Rattle.lert_gatelog.proofs.GatedLaws.{byte_of_part, part_within}
-use Rattle.lert_journal.specs.Header.{header}
-use Rattle.lert_journal.specs.Payload.{payload_of, IsJournaled}
+use Rattle.lert_journal.specs.{Header.header, Payload.{payload_of, IsJournaled}}
 use Rattle.lert_journal.proofs.PayloadLaws.{length_payload}
 use Rattle.lert_spec.specs.declared.numbers.Numbers.{Numbers}
-use Rattle.lert_cone.specs.History.{end_of}
-use Rattle.lert_cone.specs.InStep.{AreNew}
-use Rattle.lert_cone.specs.Sound.{IsJournal}
+use Rattle.lert_cone.specs.{History.end_of, InStep.AreNew, Sound.IsJournal}
 use Rattle.lert_reports.specs.Log.{HasLog, log_header}
 use Rattle.lert_reports.proofs.LogLaws.{records_none}
 

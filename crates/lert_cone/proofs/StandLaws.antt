@@ -1,9 +1,7 @@
 -- Which lists a cone stands for: when it is made, through an append and the keys behind it, and when it is finished.
-use Rattle.std.proofs.Common.{◌≡◌, ℕ, ◌+◌, ◌*◌, ◌<◌, ◌≤◌, true, false, List, [], ◌++◌, length, Option, None, All, cond, refl, sym, ap, ◌∙◌}
-use Rattle.std.proofs.Common.{subst, arith, length-append}
-use Rattle.std.specs.Prelude.{replicate}
-use Rattle.std.proofs.lemmas.Bool.{false≢true}
+use Rattle.std.proofs.{Common.{◌≡◌, ℕ, ◌+◌, ◌*◌, ◌<◌, ◌≤◌, true, false, List, [], ◌++◌, length, Option, None, All, cond, refl, sym, ap, ◌∙◌, subst, arith, length-append}, lemmas.Bool.false≢true}
 use Rattle.std.proofs.lemmas.List.Elements.{All-nil}
+use Rattle.std.specs.Prelude.{replicate}
 use Rattle.lert_base.specs.Packet.{Packet, events_of}
 use Rattle.lert_bay.specs.Files.{Files, IfTold, Turns}
 use Rattle.lert_gatelog.specs.Gated.{IsClosed, Log, next_gate}
@@ -12,29 +10,12 @@ use Rattle.lert_journal.specs.Payload.{payload_of}
 use Rattle.lert_journal.proofs.PayloadLaws.{length_payload}
 use Rattle.lert_levels.specs.declared.rows.bin_at.BinAt.{BinAt}
 use Rattle.lert_levels.proofs.LaterLaws.{HoldsBins-none}
-use Rattle.lert_reports.specs.Log.{most_record}
-use Rattle.lert_spec.specs.declared.numbers.Numbers.{Numbers}
-use Rattle.lert_spec.specs.declared.report.Report.{Report}
-use Rattle.lert_spec.specs.Edges.{capacity}
-use Rattle.lert_spec.specs.Limits.{IsValid}
-use Rattle.lert_spec.specs.Look.{look, closing}
-use Rattle.lert_cone.specs.declared.state.ConeState.{ConeState}
-use Rattle.lert_cone.specs.declared.state.ConeState.TheVariants.{Running, Finished, BrokenByBay, BrokenByRead}
-use Rattle.lert_reports.specs.declared.log_point.LogPoint.{LogPoint}
-use Rattle.lert_cone.specs.History.{most_payload}
-use Rattle.lert_cone.specs.InStep.{IsInStep, IsLogging, AreNew}
-use Rattle.lert_cone.specs.Listing.{Listing, reports_of}
-use Rattle.lert_cone.specs.JournalPlaces.{places_at_start}
-use Rattle.lert_cone.specs.Record.{LogPlace}
-use Rattle.lert_cone.specs.Room.{room_of}
-use Rattle.lert_cone.specs.Sound.{IsSound, IsSoundOver, IsKept}
-use Rattle.lert_cone.specs.Stands.{Standing, StandsFor, IsCone, IsSameCone, IsWhole, WasSound, is_broken, is_finished}
-use Rattle.lert_cone.specs.Tally.{Tallied, IsCounted}
-use Rattle.lert_cone.specs.Wrote.{Anything, IsShutIfTold}
-use Rattle.lert_cone.proofs.LogLaws.{log_none}
-use Rattle.lert_cone.proofs.JournalPlaceLaws.{places_none, names_none}
-use Rattle.lert_cone.proofs.AppendLaws.{whole_of}
-use Rattle.lert_cone.proofs.FaultLaws.{turns_as, turns_on}
+use Rattle.lert_reports.specs.{Log.most_record, declared.log_point.LogPoint.LogPoint}
+use Rattle.lert_spec.specs.{declared.numbers.Numbers.Numbers, declared.report.Report.Report, Edges.capacity, Limits.IsValid, Look.{look, closing}}
+use Rattle.lert_cone.specs.{declared.state.ConeState.ConeState, declared.state.ConeState.TheVariants.{Running, Finished, BrokenByBay, BrokenByRead}, History.most_payload}
+use Rattle.lert_cone.specs.{InStep.{IsInStep, IsLogging, AreNew}, Listing.{Listing, reports_of}, JournalPlaces.places_at_start, Record.LogPlace, Room.room_of, Sound.{IsSound, IsSoundOver, IsKept}}
+use Rattle.lert_cone.specs.{Stands.{Standing, StandsFor, IsCone, IsSameCone, IsWhole, WasSound, is_broken, is_finished}, Tally.{Tallied, IsCounted}, Wrote.{Anything, IsShutIfTold}}
+use Rattle.lert_cone.proofs.{LogLaws.log_none, JournalPlaceLaws.{places_none, names_none}, AppendLaws.whole_of, FaultLaws.{turns_as, turns_on}}
 
 -- ---- a cone
 

@@ -1,12 +1,8 @@
 -- What a test of a cone's state answers: whether the cone is finished, and whether it is broken.
-use Rattle.std.proofs.Common.{◌≡◌, ◌∙◌, ℕ, true, false, Ok, Err, IsErrOf, ap, sym, refl}
-use Rattle.std.proofs.lemmas.Bool.{false≢true}
+use Rattle.std.proofs.{Common.{◌≡◌, ◌∙◌, ℕ, true, false, Ok, Err, IsErrOf, ap, sym, refl}, lemmas.Bool.false≢true}
 use Rattle.std.specs.Prelude.{◌↔◌}
-use Rattle.lert_base.specs.declared.cone_fault.ConeFault.{ConeFault}
-use Rattle.lert_base.specs.declared.cone_fault.ConeFault.TheVariants.{Broken, CapacityFull, Closed}
-use Rattle.lert_cone.specs.declared.state.ConeState.{ConeState}
-use Rattle.lert_cone.specs.declared.state.ConeState.TheVariants.{Finished, Running}
-use Rattle.lert_cone.specs.Stands.{is_broken, is_finished, is_refusal}
+use Rattle.lert_base.specs.{declared.cone_fault.ConeFault.ConeFault, declared.cone_fault.ConeFault.TheVariants.{Broken, CapacityFull, Closed}}
+use Rattle.lert_cone.specs.{declared.state.ConeState.ConeState, declared.state.ConeState.TheVariants.{Finished, Running}, Stands.{is_broken, is_finished, is_refusal}}
 use Rattle.lert_cone.proofs.Refusals.{no_fault, one_fault}
 
 abbrev Answer : ConeFault → ConeFault → Type 0

@@ -1,44 +1,24 @@
 -- The files of a cone between two calls: when they are sound, and what they keep through calls that leave them alone.
-use Rattle.std.proofs.Common.{◌≡◌, ℕ, suc, ◌+◌, ◌-◌, ◌≤◌, Bool, true, false, cond, List, [], ◌∷◌, ◌++◌, length, take, drop, get_or, map, All, sym, ap}
-use Rattle.std.proofs.Common.{◌∙◌, subst, inl, inr, ◌⊎◌, arith}
-use Rattle.std.proofs.Common.{length-append, slice_range}
-use Rattle.std.specs.Prelude.{slice_index_or}
-use Rattle.std.proofs.lemmas.Bool.{cases_Bool, cases_lt}
-use Rattle.std.proofs.lemmas.List.{take-take, take_all, take-append-le, get_or-map, map-append, length-take}
+use Rattle.std.proofs.Common.{◌≡◌, ℕ, suc, ◌+◌, ◌-◌, ◌≤◌, Bool, true, false, cond, List, [], ◌∷◌, ◌++◌, length, take, drop, get_or, map, All, sym, ap, ◌∙◌, subst, inl, inr, ◌⊎◌, arith, length-append}
+use Rattle.std.proofs.{Common.slice_range, lemmas.Bool.{cases_Bool, cases_lt}, lemmas.List.{take-take, take_all, take-append-le, get_or-map, map-append, length-take}}
 use Rattle.std.proofs.lemmas.List.Elements.{Contains-get_or}
+use Rattle.std.specs.Prelude.{slice_index_or}
 use Rattle.lert_base.specs.Packet.{Packet, events_of}
-use Rattle.lert_bay.specs.Files.{Files}
-use Rattle.lert_bay.specs.Settled.{part, Keeps, IsSettled}
+use Rattle.lert_bay.specs.{Files.Files, Settled.{part, Keeps, IsSettled}}
 use Rattle.lert_bay.proofs.Settling.{part_none}
-use Rattle.lert_frames.specs.Frame.{HoldsFrame, frame_text}
-use Rattle.lert_frames.specs.Place.{frame_place, frame_len}
+use Rattle.lert_frames.specs.{Frame.{HoldsFrame, frame_text}, Place.{frame_place, frame_len}}
 use Rattle.lert_frames.proofs.FrameLaws.{text_within}
-use Rattle.lert_gatelog.specs.Gated.{IsGated, next_gate}
-use Rattle.lert_gatelog.specs.Kept.{InEach, KeepsBefore, IsWithOrWithout}
+use Rattle.lert_gatelog.specs.{Gated.{IsGated, next_gate}, Kept.{InEach, KeepsBefore, IsWithOrWithout}}
 use Rattle.lert_gatelog.proofs.GatedLaws.{gated_behind, part_within, records_ascend}
 use Rattle.lert_journal.specs.Payload.{payload_of}
-use Rattle.lert_levels.specs.declared.rows.bin_at.BinAt.{BinAt}
-use Rattle.lert_levels.specs.Flushed.{InNamed}
-use Rattle.lert_levels.specs.rows.Ranges.{filled}
-use Rattle.lert_levels.specs.rows.Rows.{IsAt, AreRows, HoldsBins, range_of, row_of, tallied_in}
+use Rattle.lert_levels.specs.{declared.rows.bin_at.BinAt.BinAt, Flushed.InNamed, rows.Ranges.filled, rows.Rows.{IsAt, AreRows, HoldsBins, range_of, row_of, tallied_in}}
 use Rattle.lert_levels.proofs.rows.RangeLaws.{bins-ranges}
-use Rattle.lert_reports.specs.Log.{HasLog, AreRecords, listed_in, last_n0, last_directory, is_closed, log_header, most_record}
-use Rattle.lert_reports.specs.LogText.{LogRecord, log_payload_of}
-use Rattle.lert_spec.specs.declared.numbers.Numbers.{Numbers}
-use Rattle.lert_spec.specs.Bins.{Bin, bins, tallied}
-use Rattle.lert_spec.specs.Edges.{span}
-use Rattle.lert_spec.specs.Limits.{IsValid}
-use Rattle.lert_spec.specs.Look.{look, closing}
+use Rattle.lert_reports.specs.{Log.{HasLog, AreRecords, listed_in, last_n0, last_directory, is_closed, log_header, most_record}, LogText.{LogRecord, log_payload_of}}
+use Rattle.lert_spec.specs.{declared.numbers.Numbers.Numbers, Bins.{Bin, bins, tallied}, Edges.span, Limits.IsValid, Look.{look, closing}}
 use Rattle.lert_spec.proofs.TallyLaws.{IsTable-tallied, total-tallied}
-use Rattle.lert_cone.specs.Framed.{last_flush, flushed}
-use Rattle.lert_cone.specs.History.{most_payload, end_of}
-use Rattle.lert_cone.specs.InStep.{IsPartway}
-use Rattle.lert_cone.specs.Logged.{IsLogOf}
-use Rattle.lert_cone.specs.JournalPlaces.{NamesRecord, last_place}
+use Rattle.lert_cone.specs.{Framed.{last_flush, flushed}, History.{most_payload, end_of}, InStep.IsPartway, Logged.IsLogOf, JournalPlaces.{NamesRecord, last_place}}
 use Rattle.lert_cone.specs.Sound.{IsJournal, IsSound, IsSoundAs, HoldFrames, HoldsDirectory, but_last}
-use Rattle.lert_cone.proofs.FramedLaws.{flushed_bins}
-use Rattle.lert_cone.proofs.FlushLaws.{last_flush_within}
-use Rattle.lert_cone.proofs.WroteLaws.{torn_behind}
+use Rattle.lert_cone.proofs.{FramedLaws.flushed_bins, FlushLaws.last_flush_within, WroteLaws.torn_behind}
 
 -- ---- what stays
 

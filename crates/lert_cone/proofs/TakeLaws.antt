@@ -1,38 +1,17 @@
 -- A cone with one more key, from what the parts of the step say.
-use Rattle.std.proofs.Common.{ℕ, ◌≡◌, ◌≢◌, ◌+◌, ◌-◌, ◌^◌, ◌<◌, ◌≤◌, suc, true, false, cond, List, [], ◌∷◌, ◌++◌, length, take, Result, Ok, Err, OnOk}
-use Rattle.std.proofs.Common.{inl, inr, refl, ap, ap₂, sym, ◌∙◌, arith}
-use Rattle.std.proofs.Common.{subst, length-append}
-use Rattle.std.specs.Prelude.{MatchResult, IsErrOf}
-use Rattle.std.proofs.lemmas.List.{length-take, get_or-take}
-use Rattle.std.specs.Result.{IsErrAnd}
+use Rattle.std.proofs.Common.{ℕ, ◌≡◌, ◌≢◌, ◌+◌, ◌-◌, ◌^◌, ◌<◌, ◌≤◌, suc, true, false, cond, List, [], ◌∷◌, ◌++◌, length, take, Result, Ok, Err, OnOk, inl, inr, refl, ap, ap₂, sym, ◌∙◌, arith, subst}
+use Rattle.std.proofs.{Common.length-append, lemmas.List.{length-take, get_or-take}}
+use Rattle.std.specs.{Prelude.{MatchResult, IsErrOf}, Result.IsErrAnd}
 use Rattle.lert_bay.specs.Files.{Files}
-use Rattle.lert_spec.specs.declared.numbers.Numbers.{Numbers}
-use Rattle.lert_spec.specs.declared.piece.Piece.{Piece}
-use Rattle.lert_spec.specs.declared.report.Report.{Report}
-use Rattle.lert_spec.specs.Bins.{tallied}
-use Rattle.lert_spec.specs.Edges.{edge, capacity}
-use Rattle.lert_spec.specs.Limits.{IsValid}
-use Rattle.lert_spec.specs.Look.{look, closing}
-use Rattle.lert_spec.specs.Mix.{cone_of, tail_of}
-use Rattle.lert_spec.specs.Table.{IsTable}
+use Rattle.lert_spec.specs.{declared.numbers.Numbers.Numbers, declared.piece.Piece.Piece, declared.report.Report.Report, Bins.tallied, Edges.{edge, capacity}, Limits.IsValid, Look.{look, closing}}
+use Rattle.lert_spec.specs.{Mix.{cone_of, tail_of}, Table.IsTable}
 use Rattle.lert_spec.proofs.TallyLaws.{IsTable-tallied}
-use Rattle.lert_levels.specs.declared.rows.bin_at.BinAt.{BinAt}
-use Rattle.lert_levels.specs.declared.rows.fault.FlushFault.{FlushFault}
-use Rattle.lert_levels.specs.declared.rows.fault.FlushFault.TheVariants.{Failed as FlushFailed, Malformed}
-use Rattle.lert_levels.specs.rows.Loading.{RowBreaks, OneBreaks}
-use Rattle.lert_levels.specs.rows.Ranges.{young_bins}
-use Rattle.lert_levels.specs.rows.Rows.{IsAt, AreRows, HoldsBins}
-use Rattle.lert_levels.specs.rows.Young.{Young, with_event}
-use Rattle.lert_cone.specs.declared.tally.TakeFault.{TakeFault}
-use Rattle.lert_cone.specs.declared.tally.TakeFault.TheVariants.{Unsound}
-use Rattle.lert_cone.specs.Due.{Dues, TookFrom, due_reports, started}
-use Rattle.lert_cone.specs.Framed.{HoldsSome}
+use Rattle.lert_levels.specs.{declared.rows.bin_at.BinAt.BinAt, declared.rows.fault.FlushFault.FlushFault, declared.rows.fault.FlushFault.TheVariants.{Failed as FlushFailed, Malformed}}
+use Rattle.lert_levels.specs.{rows.Loading.{RowBreaks, OneBreaks}, rows.Ranges.young_bins, rows.Rows.{IsAt, AreRows, HoldsBins}, rows.Young.{Young, with_event}}
+use Rattle.lert_cone.specs.{declared.tally.TakeFault.TakeFault, declared.tally.TakeFault.TheVariants.Unsound, Due.{Dues, TookFrom, due_reports, started}, Framed.HoldsSome}
 use Rattle.lert_cone.specs.Tally.{Tallied, IsCounted, IsHeld, AreYoung, Shows, totals_at, take_fault}
-use Rattle.lert_cone.proofs.KeyLemmas.{AreKeys-push, AreOfCone-push}
-use Rattle.lert_cone.proofs.RoomLaws.{look_fits, closing_fits}
-use Rattle.lert_cone.proofs.SomeLaws.{with_key, with_key_len, with_key_young, with_key_holds, with_key_some}
-use Rattle.lert_cone.proofs.TallyLaws.{next_from, next_bins, frames_more}
-use Rattle.lert_cone.proofs.TotalLaws.{closing_is, totals_table, look_is}
+use Rattle.lert_cone.proofs.{KeyLemmas.{AreKeys-push, AreOfCone-push}, RoomLaws.{look_fits, closing_fits}, SomeLaws.{with_key, with_key_len, with_key_young, with_key_holds, with_key_some}}
+use Rattle.lert_cone.proofs.{TallyLaws.{next_from, next_bins, frames_more}, TotalLaws.{closing_is, totals_table, look_is}}
 
 -- what a taker's state says of the definition: the totals of a start bring the definition's reports, or too many
 module _ (s : Numbers) (cone at : ℕ) (before all : List Report) (pieces : List Piece) (start due : Dues)

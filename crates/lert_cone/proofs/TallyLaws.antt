@@ -1,27 +1,13 @@
 -- Level 0 and the rows as the next key comes.
-use Rattle.std.proofs.Common.{ℕ, ◌≡◌, ◌≢◌, ◌+◌, ◌-◌, ◌*◌, ◌/◌, ◌%◌, ◌<◌, ◌≤◌, zero, suc, cond, List, [], ◌∷◌, ◌++◌, length, drop}
-use Rattle.std.proofs.Common.{get_or, map, All, refl, ap, ap₂, sym, ◌∙◌, arith, inl, inr}
-use Rattle.std.proofs.Common.{subst, slice_range, sum_by, replicate}
-use Rattle.std.proofs.Math.Nat.{div-add-mod, mod-lt, mul-mod_left, mul_comm, mul-suc, suc-mul}
-use Rattle.std.proofs.lemmas.Bool.{cases_eq, cases_lt, eq-eqb, ne_eqb}
+use Rattle.std.proofs.Common.{ℕ, ◌≡◌, ◌≢◌, ◌+◌, ◌-◌, ◌*◌, ◌/◌, ◌%◌, ◌<◌, ◌≤◌, zero, suc, cond, List, [], ◌∷◌, ◌++◌, length, drop, get_or, map, All, refl, ap, ap₂, sym, ◌∙◌, arith, inl, inr, subst}
+use Rattle.std.proofs.{Common.{slice_range, sum_by, replicate}, Math.Nat.{div-add-mod, mod-lt, mul-mod_left, mul_comm, mul-suc, suc-mul}, lemmas.Bool.{cases_eq, cases_lt, eq-eqb, ne_eqb}}
 use Rattle.std.proofs.lemmas.List.{get_or-map, length-replicate}
-use Rattle.lert_spec.specs.declared.numbers.Numbers.{Numbers}
-use Rattle.lert_spec.specs.declared.piece.Piece.{Piece}
-use Rattle.lert_spec.specs.Bins.{Bin, tallied}
-use Rattle.lert_spec.specs.Edges.{span, offset, edge, depth, lookback, capacity}
-use Rattle.lert_spec.specs.Limits.{IsValid}
-use Rattle.lert_spec.specs.Mix.{tail_of}
+use Rattle.lert_spec.specs.{declared.numbers.Numbers.Numbers, declared.piece.Piece.Piece, Bins.{Bin, tallied}, Edges.{span, offset, edge, depth, lookback, capacity}, Limits.IsValid, Mix.tail_of}
 use Rattle.lert_spec.specs.Table.{count_of}
-use Rattle.lert_spec.proofs.EdgeLaws.{span_pos, steps, moves_by_one}
-use Rattle.lert_spec.proofs.LookLaws.{slice_range-append}
+use Rattle.lert_spec.proofs.{EdgeLaws.{span_pos, steps, moves_by_one}, LookLaws.slice_range-append}
 use Rattle.lert_frames.specs.Frame.{HoldsFrame}
-use Rattle.lert_levels.specs.declared.rows.bin_at.BinAt.{BinAt}
-use Rattle.lert_levels.specs.rows.Ranges.{Range, ranges, young_bins}
-use Rattle.lert_levels.specs.rows.Rows.{IsAt, HoldsBins, range_of, row_of}
-use Rattle.lert_levels.specs.rows.Young.{Young, IsNextPosition, with_event}
-use Rattle.lert_levels.proofs.rows.RangeLaws.{IsCut, cuts_are, depth_moves, depth_stays, ranges_still}
-use Rattle.lert_levels.proofs.rows.Windows.{young_cover}
-use Rattle.lert_levels.proofs.rows.YoungBins.{young-added, young-dropped}
+use Rattle.lert_levels.specs.{declared.rows.bin_at.BinAt.BinAt, rows.Ranges.{Range, ranges, young_bins}, rows.Rows.{IsAt, HoldsBins, range_of, row_of}, rows.Young.{Young, IsNextPosition, with_event}}
+use Rattle.lert_levels.proofs.{rows.RangeLaws.{IsCut, cuts_are, depth_moves, depth_stays, ranges_still}, rows.Windows.young_cover, rows.YoungBins.{young-added, young-dropped}}
 use Rattle.lert_cone.specs.Tally.{AreYoung, totals_at}
 use Rattle.lert_cone.proofs.TotalLaws.{edge_within}
 

@@ -1,6 +1,5 @@
 -- The text of a record fits where it is written, and before the end of a file.
-use Rattle.std.proofs.Common.{◌≡◌, ℕ, ◌+◌, ◌-◌, ◌*◌, ◌≤◌, ◌<◌, List, length, take, drop, ap, arith, length-drop}
-use Rattle.std.proofs.lemmas.List.{take_all}
+use Rattle.std.proofs.{Common.{◌≡◌, ℕ, ◌+◌, ◌-◌, ◌*◌, ◌≤◌, ◌<◌, List, length, take, drop, ap, arith, length-drop}, lemmas.List.take_all}
 use Rattle.lert_spec.specs.declared.report.Report.{Report}
 use Rattle.lert_cone.specs.Record.{LogPlace, payload_len}
 

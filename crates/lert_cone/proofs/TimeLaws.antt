@@ -2,9 +2,7 @@
 use Rattle.std.proofs.Common.{◌≡◌, ◌∙◌, ◌≤◌, ℕ, true, false, List, length, Option, sym, subst, arith}
 use Rattle.lert_base.specs.Packet.{Packet, events_of}
 use Rattle.lert_bay.specs.Files.{Files, IfTold}
-use Rattle.lert_spec.specs.declared.report.Report.{Report}
-use Rattle.lert_spec.specs.Edges.{capacity}
-use Rattle.lert_spec.specs.Timely.{IsTimely, IsTimelySoFar}
+use Rattle.lert_spec.specs.{declared.report.Report.Report, Edges.capacity, Timely.{IsTimely, IsTimelySoFar}}
 use Rattle.lert_spec.proofs.TimeBound.{IsTimely-closing, IsTimelySoFar-look}
 use Rattle.lert_cone.specs.Stands.{Standing, StandsFor, WasSound, is_broken}
 use Rattle.lert_cone.proofs.StandLaws.{reports_running, reports_finished}

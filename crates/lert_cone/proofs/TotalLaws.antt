@@ -1,30 +1,11 @@
 -- The reports that the next key brings, and those of the end, by the totals that a taker gets.
-use Rattle.std.proofs.Common.{ℕ, ◌≡◌, ◌+◌, ◌-◌, ◌^◌, ◌<◌, ◌≤◌, suc, Bool, true, false, cond, leb, not, ◌&&◌, List, [], ◌∷◌, ◌++◌, length, map, ap, sym}
-use Rattle.std.proofs.Common.{◌∙◌, arith, inl, inr, subst, slice_range}
-use Rattle.std.proofs.Common.{length-append}
-use Rattle.std.proofs.Math.Nat.{mul-div-le}
-use Rattle.std.proofs.Math.Seq.{take-length}
-use Rattle.std.proofs.lemmas.Bool.{cases_eq, eq-eqb, ne_eqb}
-use Rattle.std.proofs.lemmas.Slice.{between_from_start}
-use Rattle.lert_spec.specs.declared.numbers.Numbers.{Numbers}
-use Rattle.lert_spec.specs.declared.piece.Piece.{Piece}
-use Rattle.lert_spec.specs.declared.report.Report.{Report}
-use Rattle.lert_spec.specs.Bins.{tallied}
-use Rattle.lert_spec.specs.Counts.{count}
-use Rattle.lert_spec.specs.Edges.{span, offset, edge, depth, lookback}
-use Rattle.lert_spec.specs.Limits.{IsValid}
-use Rattle.lert_spec.specs.Look.{is_listed, look, closing}
-use Rattle.lert_spec.specs.Mix.{cone_of, tail_of}
-use Rattle.lert_spec.specs.Table.{count_of, IsTable}
-use Rattle.lert_spec.proofs.CountLaws.{count-append, count-push}
-use Rattle.lert_spec.proofs.EdgeLaws.{deepest_reaches}
-use Rattle.lert_spec.proofs.LookLaws.{AreKeys, look-push, look-push_between}
-use Rattle.lert_spec.proofs.MixLaws.{tail_below}
-use Rattle.lert_spec.proofs.TailLaws.{AreOfCone, key_with, due_by_tails}
-use Rattle.lert_spec.proofs.TallyLaws.{IsTable-tallied}
-use Rattle.lert_spec.proofs.WindowLaws.{count_parts, count_never_falls}
-use Rattle.lert_cone.specs.Due.{due_reports}
-use Rattle.lert_cone.specs.Tally.{totals_at}
+use Rattle.std.proofs.Common.{ℕ, ◌≡◌, ◌+◌, ◌-◌, ◌^◌, ◌<◌, ◌≤◌, suc, Bool, true, false, cond, leb, not, ◌&&◌, List, [], ◌∷◌, ◌++◌, length, map, ap, sym, ◌∙◌, arith, inl, inr, subst, slice_range}
+use Rattle.std.proofs.{Common.length-append, Math.Nat.mul-div-le, Math.Seq.take-length, lemmas.Bool.{cases_eq, eq-eqb, ne_eqb}, lemmas.Slice.between_from_start}
+use Rattle.lert_spec.specs.{declared.numbers.Numbers.Numbers, declared.piece.Piece.Piece, declared.report.Report.Report, Bins.tallied, Counts.count, Edges.{span, offset, edge, depth, lookback}}
+use Rattle.lert_spec.specs.{Limits.IsValid, Look.{is_listed, look, closing}, Mix.{cone_of, tail_of}, Table.{count_of, IsTable}}
+use Rattle.lert_spec.proofs.{CountLaws.{count-append, count-push}, EdgeLaws.deepest_reaches, LookLaws.{AreKeys, look-push, look-push_between}, MixLaws.tail_below}
+use Rattle.lert_spec.proofs.{TailLaws.{AreOfCone, key_with, due_by_tails}, TallyLaws.IsTable-tallied, WindowLaws.{count_parts, count_never_falls}}
+use Rattle.lert_cone.specs.{Due.due_reports, Tally.totals_at}
 use Rattle.lert_cone.proofs.KeyLemmas.{AreKeys-push, AreOfCone-push, count-tail, key_with-tail}
 
 pub edge_within : (s : Numbers) (level n : ℕ) → edge s level n ≤ n

@@ -1,23 +1,14 @@
 -- The keys that a reopening doesn't read: as many keys of the cone as are asked for, and of a journal its first ones.
-use Rattle.std.proofs.Common.{◌≡◌, ℕ, zero, suc, ◌+◌, ◌<◌, ◌≤◌, ◌^◌, List, [], ◌∷◌, ◌++◌, length, map, take, replicate, All, Option, Some, refl, sym, ap, ap₂}
-use Rattle.std.proofs.Common.{◌∙◌, subst, arith, append_assoc, length-append}
-use Rattle.std.proofs.lemmas.List.{length-map, length-replicate, length-take-le, map-append, take-append-le, take_all}
-use Rattle.std.proofs.lemmas.List.Elements.{All-head, All-tail}
+use Rattle.std.proofs.Common.{◌≡◌, ℕ, zero, suc, ◌+◌, ◌<◌, ◌≤◌, ◌^◌, List, [], ◌∷◌, ◌++◌, length, map, take, replicate, All, Option, Some, refl, sym, ap, ap₂, ◌∙◌, subst, arith, append_assoc}
+use Rattle.std.proofs.{Common.length-append, lemmas.List.{length-map, length-replicate, length-take-le, map-append, take-append-le, take_all}, lemmas.List.Elements.{All-head, All-tail}}
 use Rattle.lert_base.specs.Packet.{Packet, events_of}
-use Rattle.lert_bay.specs.Files.{Files}
-use Rattle.lert_bay.specs.Settled.{part}
+use Rattle.lert_bay.specs.{Files.Files, Settled.part}
 use Rattle.lert_gatelog.specs.Gated.{Records, IsOpen, counted_at}
 use Rattle.lert_journal.specs.Payload.{IsJournaled, packet_in, payload_of}
 use Rattle.lert_journal.proofs.PayloadBack.{packet_back}
-use Rattle.lert_spec.specs.declared.numbers.Numbers.{Numbers}
-use Rattle.lert_spec.specs.Limits.{IsValid}
-use Rattle.lert_spec.specs.Mix.{cone_of, tail_of}
-use Rattle.lert_spec.proofs.LookLaws.{AreKeys}
-use Rattle.lert_spec.proofs.MixLaws.{tail_below}
-use Rattle.lert_spec.proofs.TailLaws.{AreOfCone}
-use Rattle.lert_cone.specs.History.{most_payload, end_of}
-use Rattle.lert_cone.specs.Sound.{IsJournal, KeysFit}
-use Rattle.lert_cone.specs.Unread.{journal_of, keys_from, own_key, unread}
+use Rattle.lert_spec.specs.{declared.numbers.Numbers.Numbers, Limits.IsValid, Mix.{cone_of, tail_of}}
+use Rattle.lert_spec.proofs.{LookLaws.AreKeys, MixLaws.tail_below, TailLaws.AreOfCone}
+use Rattle.lert_cone.specs.{History.{most_payload, end_of}, Sound.{IsJournal, KeysFit}, Unread.{journal_of, keys_from, own_key, unread}}
 use Rattle.lert_cone.proofs.KeyLemmas.{cone-key_with, key_with-tail, key_with_below}
 
 -- ---- whatever the journal holds

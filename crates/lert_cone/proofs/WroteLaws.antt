@@ -1,12 +1,7 @@
 -- Calls in turn that leave a file alone, and a log's gate through them.
-use Rattle.std.proofs.Common.{◌≡◌, ◌≢◌, ℕ, ◌+◌, ◌≤◌, List, length, get_or, Option, Some, refl, sym, ap, ◌∙◌, subst, inl, inr, arith, zero-add}
-use Rattle.std.proofs.lemmas.Bool.{cases_lt}
-use Rattle.std.proofs.lemmas.List.{take_all}
-use Rattle.lert_bay.specs.Files.{Files, IfTold, Turns, Torn}
-use Rattle.lert_bay.specs.Images.{Lasts}
-use Rattle.lert_bay.specs.Settled.{part, IsSettled}
+use Rattle.std.proofs.{Common.{◌≡◌, ◌≢◌, ℕ, ◌+◌, ◌≤◌, List, length, get_or, Option, Some, refl, sym, ap, ◌∙◌, subst, inl, inr, arith, zero-add}, lemmas.Bool.cases_lt, lemmas.List.take_all}
+use Rattle.lert_bay.specs.{Files.{Files, IfTold, Turns, Torn}, Images.Lasts, Settled.{part, IsSettled}, Kept.{Bays, ReadsBay}}
 use Rattle.lert_bay.proofs.Lasting.{lasts_none, lasts_on}
-use Rattle.lert_bay.specs.Kept.{Bays, ReadsBay}
 use Rattle.lert_gatelog.specs.Kept.{KeepsOthers, IsWhollySettled, OthersStay}
 use Rattle.lert_gatelog.proofs.GatedLaws.{byte_of_part, part_within, closed_behind}
 use Rattle.lert_levels.specs.rows.Landing.{KeepsRest}

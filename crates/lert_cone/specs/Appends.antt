@@ -1,10 +1,7 @@
 -- What the append of a record makes of a cone's log and of its bay.
 use Rattle.std.specs.Prelude.{◌≡◌, ℕ, ◌+◌, List, [], ◌∷◌, ◌++◌, length, Result, OnOk, OnErr, IsErr}
-use Rattle.lert_bay.specs.Kept.{Bays, KeepsBay}
-use Rattle.lert_bay.specs.Files.{IfTold, Turns}
-use Rattle.lert_bay.specs.declared.bay.TheConstants.{LOG}
-use Rattle.lert_gatelog.specs.Gated.{IsClosed, IsGated, next_gate}
-use Rattle.lert_gatelog.specs.Kept.{InEach, KeepsOthers, KeepsBefore, IsWhollySettled, IsWithOrWithout, OthersStay}
+use Rattle.lert_bay.specs.{Kept.{Bays, KeepsBay}, Files.{IfTold, Turns}, declared.bay.TheConstants.LOG}
+use Rattle.lert_gatelog.specs.{Gated.{IsClosed, IsGated, next_gate}, Kept.{InEach, KeepsOthers, KeepsBefore, IsWhollySettled, IsWithOrWithout, OthersStay}}
 use Rattle.lert_reports.specs.declared.log.LogKind.{LogKind}
 use Rattle.lert_spec.specs.declared.report.Report.{Report}
 use Rattle.lert_cone.specs.Record.{LogPlace, payload_at, payload_len}

@@ -1,25 +1,11 @@
 -- What a key, and the end, make of a cone's counts and of its bay.
 use Rattle.std.specs.Prelude.{◌≡◌, ◌≢◌, ℕ, ◌+◌, ◌-◌, ◌≤◌, true, List, [], ◌∷◌, ◌++◌, length, slice_range, None, Result, Err, OnOk, OnErr, IsErrOf}
-use Rattle.lert_bay.specs.Kept.{Bays, KeepsBay, OnlyReads}
-use Rattle.lert_bay.specs.Files.{Files, IfTold}
-use Rattle.lert_bay.specs.declared.bay.TheConstants.{FRAMES}
+use Rattle.lert_bay.specs.{Kept.{Bays, KeepsBay, OnlyReads}, Files.{Files, IfTold}, declared.bay.TheConstants.FRAMES}
 use Rattle.lert_gatelog.specs.Kept.{InEach}
-use Rattle.lert_levels.specs.declared.rows.fault.FlushFault.{FlushFault}
-use Rattle.lert_levels.specs.declared.rows.fault.FlushFault.TheVariants.{Failed as FlushFailed, Malformed}
-use Rattle.lert_levels.specs.Flushed.{InNamed}
-use Rattle.lert_levels.specs.rows.Checked.{rows_left}
-use Rattle.lert_levels.specs.rows.Landing.{KeepsRest}
-use Rattle.lert_levels.specs.rows.Rows.{IsAt, AreRows, HoldsBins, moved}
-use Rattle.lert_levels.specs.rows.Loading.{OneBreaks}
-use Rattle.lert_levels.specs.OnDisk.{OnDisk}
-use Rattle.lert_levels.specs.rows.Young.{Young}
-use Rattle.lert_spec.specs.declared.piece.Piece.{Piece}
-use Rattle.lert_spec.specs.Bins.{tallied}
-use Rattle.lert_spec.specs.Edges.{edge, lookback, capacity}
-use Rattle.lert_cone.specs.declared.tally.TakeFault.{TakeFault}
-use Rattle.lert_cone.specs.declared.tally.TakeFault.TheVariants.{Failed, Unsound}
-use Rattle.lert_cone.specs.Due.{Dues, TookFrom}
-use Rattle.lert_cone.specs.Framed.{HoldsSome}
+use Rattle.lert_levels.specs.{declared.rows.fault.FlushFault.FlushFault, declared.rows.fault.FlushFault.TheVariants.{Failed as FlushFailed, Malformed}, Flushed.InNamed, rows.Checked.rows_left}
+use Rattle.lert_levels.specs.{rows.Landing.KeepsRest, rows.Rows.{IsAt, AreRows, HoldsBins, moved}, rows.Loading.OneBreaks, OnDisk.OnDisk, rows.Young.Young}
+use Rattle.lert_spec.specs.{declared.piece.Piece.Piece, Bins.tallied, Edges.{edge, lookback, capacity}}
+use Rattle.lert_cone.specs.{declared.tally.TakeFault.TakeFault, declared.tally.TakeFault.TheVariants.{Failed, Unsound}, Due.{Dues, TookFrom}, Framed.HoldsSome}
 use Rattle.lert_cone.specs.Tally.{Tallied, AreYoung, IsCounted, IsHeld, Shows, totals_at}
 
 -- the levels are flushed at position m, with the reports as the taker of the totals

@@ -1,9 +1,7 @@
 -- The last flush of a cone, and what its frames hold whatever the journal has.
 use Rattle.std.specs.Prelude.{◌≡◌, ℕ, zero, suc, ◌==◌, List, length, take, if◌then◌else◌}
-use Rattle.lert_levels.specs.declared.rows.bin_at.BinAt.{BinAt}
-use Rattle.lert_levels.specs.rows.Rows.{HoldsBins}
-use Rattle.lert_spec.specs.declared.numbers.Numbers.{Numbers}
-use Rattle.lert_spec.specs.Edges.{edge}
+use Rattle.lert_levels.specs.{declared.rows.bin_at.BinAt.BinAt, rows.Rows.HoldsBins}
+use Rattle.lert_spec.specs.{declared.numbers.Numbers.Numbers, Edges.edge}
 
 -- the last flush position that is at most n, or 0 where there is none
 abbrev pub last_flush : Numbers → ℕ → ℕ

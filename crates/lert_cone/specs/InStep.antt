@@ -1,22 +1,12 @@
 -- How a cone's files and its memory go together between two calls of its bay.
 use Rattle.std.specs.Prelude.{◌≡◌, ℕ, ◌+◌, ◌*◌, ◌^◌, ◌≤◌, List, [], ◌++◌, length}
 use Rattle.lert_base.specs.Packet.{Packet, events_of}
-use Rattle.lert_bay.specs.Files.{Files}
-use Rattle.lert_bay.specs.declared.bay.TheConstants.{JOURNAL, LOG, FRAMES}
+use Rattle.lert_bay.specs.{Files.Files, declared.bay.TheConstants.{JOURNAL, LOG, FRAMES}}
 use Rattle.lert_gatelog.specs.Kept.{InEach, IsWhollySettled}
-use Rattle.lert_levels.specs.declared.rows.bin_at.BinAt.{BinAt}
-use Rattle.lert_levels.specs.rows.Rows.{HoldsBins}
-use Rattle.lert_reports.specs.Log.{HasLog, last_n0, listed_in, most_record}
-use Rattle.lert_reports.specs.LogText.{LogRecord}
-use Rattle.lert_spec.specs.declared.numbers.Numbers.{Numbers}
-use Rattle.lert_spec.specs.declared.report.Report.{Report}
-use Rattle.lert_spec.specs.Edges.{edge}
-use Rattle.lert_cone.specs.Framed.{last_flush}
-use Rattle.lert_cone.specs.Listing.{Listing, reports_of}
-use Rattle.lert_cone.specs.Logged.{IsLogOf}
-use Rattle.lert_cone.specs.JournalPlaces.{ArePlacesIn, NamesRecord, last_place}
-use Rattle.lert_cone.specs.Record.{LogPlace}
-use Rattle.lert_cone.specs.Sound.{IsJournal, but_last}
+use Rattle.lert_levels.specs.{declared.rows.bin_at.BinAt.BinAt, rows.Rows.HoldsBins}
+use Rattle.lert_reports.specs.{Log.{HasLog, last_n0, listed_in, most_record}, LogText.LogRecord}
+use Rattle.lert_spec.specs.{declared.numbers.Numbers.Numbers, declared.report.Report.Report, Edges.edge}
+use Rattle.lert_cone.specs.{Framed.last_flush, Listing.{Listing, reports_of}, Logged.IsLogOf, JournalPlaces.{ArePlacesIn, NamesRecord, last_place}, Record.LogPlace, Sound.{IsJournal, but_last}}
 use Rattle.lert_cone.specs.Tally.{Tallied}
 
 -- In every image the journal has these packets, the log has the records of the keys so far, and the frames that the rows

@@ -1,13 +1,9 @@
 -- Where the records of a journal begin, and which of them the log's records name.
 use Rattle.std.specs.Prelude.{◌≡◌, ℕ, ◌+◌, ◌-◌, ◌*◌, ◌/◌, ◌^◌, ◌<◌, ◌≤◌, ◌==◌, List, ◌∷◌, ◌++◌, length, replicate, slice_index_or, if◌then◌else◌}
 use Rattle.lert_base.specs.Packet.{Packet, events_of}
-use Rattle.lert_spec.specs.declared.numbers.Numbers.{Numbers}
-use Rattle.lert_spec.specs.Edges.{span, edge, capacity}
-use Rattle.lert_spec.specs.Limits.{IsValid}
-use Rattle.lert_reports.specs.Log.{last_first, last_offset}
-use Rattle.lert_reports.specs.LogText.{LogRecord}
-use Rattle.lert_cone.specs.declared.journal_places.JournalPlace.{JournalPlace}
-use Rattle.lert_cone.specs.History.{end_of}
+use Rattle.lert_spec.specs.{declared.numbers.Numbers.Numbers, Edges.{span, edge, capacity}, Limits.IsValid}
+use Rattle.lert_reports.specs.{Log.{last_first, last_offset}, LogText.LogRecord}
+use Rattle.lert_cone.specs.{declared.journal_places.JournalPlace.JournalPlace, History.end_of}
 
 -- ---- what a place in a journal stands for
 

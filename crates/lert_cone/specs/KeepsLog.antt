@@ -1,22 +1,12 @@
 -- What a reopening keeps of a cone's log and of the frames that it names, whether or not the files are sound for a list.
 use Rattle.std.specs.Prelude.{◌≡◌, ◌≢◌, ℕ, ◌+◌, ◌-◌, ◌<◌, ◌≤◌, max, List, [], ◌∷◌, ◌++◌, Contains, length, slice_index_or, Result, OnOk}
-use Rattle.lert_bay.specs.Files.{Files, IfTold}
-use Rattle.lert_bay.specs.Kept.{Bays}
-use Rattle.lert_bay.specs.Settled.{part}
-use Rattle.lert_bay.specs.declared.bay.TheConstants.{LOG, FRAMES}
+use Rattle.lert_bay.specs.{Files.{Files, IfTold}, Kept.Bays, Settled.part, declared.bay.TheConstants.{LOG, FRAMES}}
 use Rattle.lert_frames.specs.Place.{frame_place, frame_len}
 use Rattle.lert_gatelog.specs.Kept.{InEach}
-use Rattle.lert_levels.specs.declared.rows.bin_at.BinAt.{BinAt}
-use Rattle.lert_levels.specs.rows.Rows.{IsAt}
-use Rattle.lert_reports.specs.declared.log.LogKind.{LogKind}
-use Rattle.lert_reports.specs.Log.{HasRecords, last_n0, last_directory}
-use Rattle.lert_reports.specs.LogRules.{AreFrames}
-use Rattle.lert_reports.specs.LogText.{LogRecord}
-use Rattle.lert_spec.specs.declared.numbers.Numbers.{Numbers}
-use Rattle.lert_spec.specs.Edges.{edge, capacity}
-use Rattle.lert_cone.specs.Framed.{HoldsSome}
-use Rattle.lert_cone.specs.Logged.{frames_of}
-use Rattle.lert_cone.specs.Replaying.{Replaying}
+use Rattle.lert_levels.specs.{declared.rows.bin_at.BinAt.BinAt, rows.Rows.IsAt}
+use Rattle.lert_reports.specs.{declared.log.LogKind.LogKind, Log.{HasRecords, last_n0, last_directory}, LogRules.AreFrames, LogText.LogRecord}
+use Rattle.lert_spec.specs.{declared.numbers.Numbers.Numbers, Edges.{edge, capacity}}
+use Rattle.lert_cone.specs.{Framed.HoldsSome, Logged.frames_of, Replaying.Replaying}
 
 -- ---- the frames that a log names
 

@@ -1,12 +1,7 @@
 -- What a cone in memory is seen as, and its reports.
 use Rattle.std.specs.Prelude.{ℕ, ◌≡◌, ◌^◌, ◌<◌, ◌≤◌, Bool, List, length, if◌then◌else◌}
-use Rattle.lert_spec.specs.declared.numbers.Numbers.{Numbers}
-use Rattle.lert_spec.specs.declared.report.Report.{Report}
-use Rattle.lert_spec.specs.Edges.{capacity}
-use Rattle.lert_spec.specs.Limits.{IsValid}
-use Rattle.lert_spec.specs.Look.{look, closing}
-use Rattle.lert_spec.proofs.LookLaws.{AreKeys}
-use Rattle.lert_spec.proofs.TailLaws.{AreOfCone}
+use Rattle.lert_spec.specs.{declared.numbers.Numbers.Numbers, declared.report.Report.Report, Edges.capacity, Limits.IsValid, Look.{look, closing}}
+use Rattle.lert_spec.proofs.{LookLaws.AreKeys, TailLaws.AreOfCone}
 
 -- a cone: its settings and number, the keys that it took, and whether it is finished
 pub record Listing : Type 0 where

@@ -1,14 +1,9 @@
 -- What a lock says of the cone that it holds, by the cone's terms alone.
 use Rattle.std.specs.Prelude.{◌≡◌, ◌+◌, ◌<◌, Bool, true, false, List, [], ◌∷◌, ◌++◌, length, Option}
-use Rattle.lert_base.specs.Packet.{Packet, events_of}
+use Rattle.lert_base.specs.{Packet.{Packet, events_of}, declared.cone_fault.ConeFault.ConeFault, declared.cone_fault.ConeFault.TheVariants.CapacityFull}
 use Rattle.lert_bay.specs.Files.{Files, IfTold}
-use Rattle.lert_spec.specs.Edges.{capacity}
-use Rattle.lert_spec.specs.Look.{look}
-use Rattle.lert_cone.specs.declared.acked.Acked.{Acked}
-use Rattle.lert_base.specs.declared.cone_fault.ConeFault.{ConeFault}
-use Rattle.lert_base.specs.declared.cone_fault.ConeFault.TheVariants.{CapacityFull}
-use Rattle.lert_cone.specs.declared.state.ConeState.{ConeState}
-use Rattle.lert_cone.specs.declared.state.ConeState.TheVariants.{Running, Finished, BrokenByBay, BrokenByRead}
+use Rattle.lert_spec.specs.{Edges.capacity, Look.look}
+use Rattle.lert_cone.specs.{declared.acked.Acked.Acked, declared.state.ConeState.ConeState, declared.state.ConeState.TheVariants.{Running, Finished, BrokenByBay, BrokenByRead}}
 use Rattle.lert_cone.specs.Stands.{Terms, WereSound}
 
 -- it may refuse every packet from now on

@@ -1,14 +1,9 @@
 -- What the log of a cone holds after some of its events.
 use Rattle.std.specs.Prelude.{ℕ, ◌≡◌, Bool, List, length, map, drop, if◌then◌else◌}
 use Rattle.lert_levels.specs.declared.rows.bin_at.BinAt.{BinAt}
-use Rattle.lert_reports.specs.declared.log.LogKind.{LogKind}
-use Rattle.lert_reports.specs.Log.{AreRecords, is_closed, last_n0, last_directory, listed_in}
-use Rattle.lert_reports.specs.LogText.{LogRecord}
-use Rattle.lert_spec.specs.declared.numbers.Numbers.{Numbers}
-use Rattle.lert_spec.specs.declared.report.Report.{Report}
-use Rattle.lert_spec.specs.Look.{look, closing}
-use Rattle.lert_cone.specs.declared.journal_places.JournalPlace.{JournalPlace}
-use Rattle.lert_cone.specs.Framed.{last_flush, flushed}
+use Rattle.lert_reports.specs.{declared.log.LogKind.LogKind, Log.{AreRecords, is_closed, last_n0, last_directory, listed_in}, LogText.LogRecord}
+use Rattle.lert_spec.specs.{declared.numbers.Numbers.Numbers, declared.report.Report.Report, Look.{look, closing}}
+use Rattle.lert_cone.specs.{declared.journal_places.JournalPlace.JournalPlace, Framed.{last_flush, flushed}}
 
 -- the frames of each level's bins, oldest first
 abbrev pub frames_of : List (List BinAt) → List (List ℕ)

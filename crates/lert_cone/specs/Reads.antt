@@ -3,8 +3,7 @@ use Rattle.std.specs.Prelude.{◌≡◌, ℕ, ◌+◌, ◌-◌, Option, Some, No
 use Rattle.lert_gatelog.specs.Gated.{Log}
 use Rattle.lert_bay.specs.Kept.{Bays, ReadsBay}
 use Rattle.lert_spec.specs.declared.numbers.Numbers.{Numbers}
-use Rattle.lert_cone.specs.declared.refusal.ReplayFault.{ReplayFault}
-use Rattle.lert_cone.specs.History.{most_payload}
+use Rattle.lert_cone.specs.{declared.refusal.ReplayFault.ReplayFault, History.most_payload}
 
 -- the journal stays the same file with the same greatest payload, the entry keeps its room, and the bay is only read
 pub record OnlyReadsJournal {B : Type 0} (bays : Bays B) (bay bay_after : B) (journal journal_after : Log) (room room_after : ℕ) (Failed : Type 0) : Type 0 where

@@ -1,8 +1,7 @@
 -- The records that a cone's log gets.
 use Rattle.std.specs.Prelude.{ℕ, ◌+◌, ◌*◌, List, length, drop}
 use Rattle.lert_spec.specs.declared.report.Report.{Report}
-use Rattle.lert_reports.specs.declared.log.LogKind.{LogKind}
-use Rattle.lert_reports.specs.LogText.{log_payload}
+use Rattle.lert_reports.specs.{declared.log.LogKind.LogKind, LogText.log_payload}
 use Rattle.lert_cone.specs.JournalPlaces.{Places, oldest_place}
 
 -- a log at its closed gate: the greatest length of a payload, how many reports its records name, and where the records of the

@@ -6,18 +6,9 @@ use Rattle.lert_bay.specs.Files.{Files}
 use Rattle.lert_gatelog.specs.Gated.{IsClosed}
 use Rattle.lert_journal.specs.Journal.{HoldsPacket, LeavesAt}
 use Rattle.lert_levels.specs.declared.rows.bin_at.BinAt.{BinAt}
-use Rattle.lert_reports.specs.Log.{last_n0, last_offset, last_first, last_directory, listed_in, is_closed}
-use Rattle.lert_reports.specs.LogText.{LogRecord}
-use Rattle.lert_spec.specs.declared.numbers.Numbers.{Numbers}
-use Rattle.lert_spec.specs.declared.report.Report.{Report}
-use Rattle.lert_spec.specs.Edges.{capacity}
-use Rattle.lert_cone.specs.Framed.{last_flush}
-use Rattle.lert_cone.specs.History.{most_payload, end_of}
-use Rattle.lert_cone.specs.InStep.{IsInStep}
-use Rattle.lert_cone.specs.Listing.{Listing}
-use Rattle.lert_cone.specs.Logged.{frames_of}
-use Rattle.lert_cone.specs.Record.{LogPlace}
-use Rattle.lert_cone.specs.Sound.{but_last}
+use Rattle.lert_reports.specs.{Log.{last_n0, last_offset, last_first, last_directory, listed_in, is_closed}, LogText.LogRecord}
+use Rattle.lert_spec.specs.{declared.numbers.Numbers.Numbers, declared.report.Report.Report, Edges.capacity}
+use Rattle.lert_cone.specs.{Framed.last_flush, History.{most_payload, end_of}, InStep.IsInStep, Listing.Listing, Logged.frames_of, Record.LogPlace, Sound.but_last}
 
 -- what the last of some records says, as it is in memory: after how many events it was written, from which record of the
 -- journal on that is to be read and the position of its first key, whether it is a closing one, and the frames of the rows;

@@ -1,24 +1,12 @@
 -- A cone whose journal is read again: what it is seen as, and what is so of it.
 use Rattle.std.specs.Prelude.{◌≡◌, ℕ, ◌+◌, ◌*◌, ◌^◌, ◌≤◌, List, length, Option, None, if◌then◌else◌}
-use Rattle.lert_bay.specs.Files.{Files, IfTold, Turns}
-use Rattle.lert_bay.specs.declared.bay.TheConstants.{JOURNAL, LOG}
-use Rattle.lert_gatelog.specs.Gated.{Log}
-use Rattle.lert_gatelog.specs.Kept.{IsWhollySettled}
+use Rattle.lert_bay.specs.{Files.{Files, IfTold, Turns}, declared.bay.TheConstants.{JOURNAL, LOG}}
+use Rattle.lert_gatelog.specs.{Gated.Log, Kept.IsWhollySettled}
 use Rattle.lert_levels.specs.declared.rows.bin_at.BinAt.{BinAt}
 use Rattle.lert_reports.specs.declared.log_point.LogPoint.{LogPoint}
-use Rattle.lert_spec.specs.declared.report.Report.{Report}
-use Rattle.lert_spec.specs.Edges.{capacity}
-use Rattle.lert_spec.specs.Limits.{IsValid}
-use Rattle.lert_cone.specs.declared.refusal.ReplayFault.{ReplayFault}
-use Rattle.lert_cone.specs.declared.state.ConeState.TheVariants.{Running, Finished}
-use Rattle.lert_cone.specs.History.{most_payload}
-use Rattle.lert_cone.specs.InStep.{IsLogging}
-use Rattle.lert_cone.specs.Listing.{Listing}
-use Rattle.lert_cone.specs.Record.{LogPlace}
-use Rattle.lert_cone.specs.Room.{room_of}
-use Rattle.lert_cone.specs.Stands.{Standing, IsSameCone}
-use Rattle.lert_cone.specs.Tally.{Tallied, IsRecounted}
-use Rattle.lert_cone.specs.Wrote.{Anything, IsShutIfTold}
+use Rattle.lert_spec.specs.{declared.report.Report.Report, Edges.capacity, Limits.IsValid}
+use Rattle.lert_cone.specs.{declared.refusal.ReplayFault.ReplayFault, declared.state.ConeState.TheVariants.{Running, Finished}, History.most_payload, InStep.IsLogging, Listing.Listing}
+use Rattle.lert_cone.specs.{Record.LogPlace, Room.room_of, Stands.{Standing, IsSameCone}, Tally.{Tallied, IsRecounted}, Wrote.{Anything, IsShutIfTold}}
 
 -- a cone whose journal is read again: its bay now and as it was when it was adopted, its keys, the rows of its levels, its reports,
 -- how many keys its packets have so far, why it takes no more of them, where a record was refused, the journal's gate, its log, and

@@ -1,27 +1,14 @@
 -- What the record at a gate makes of a cone whose journal is read again.
 use Rattle.std.specs.Prelude.{◌≡◌, ℕ, ◌+◌, ◌≤◌, max, List, [], ◌∷◌, ◌++◌, length, Option, Some, None, Result, Ok, Err}
 use Rattle.lert_base.specs.Packet.{Packet}
-use Rattle.lert_bay.specs.Files.{Files, IfTold}
-use Rattle.lert_bay.specs.Images.{KeepsImages}
-use Rattle.lert_bay.specs.Kept.{Bays}
-use Rattle.lert_bay.specs.declared.bay.TheConstants.{JOURNAL}
-use Rattle.lert_gatelog.specs.declared.fault.LogFault.{LogFault}
-use Rattle.lert_gatelog.specs.declared.fault.LogFault.TheVariants.{Failed as LogFailed, Malformed as LogMalformed}
-use Rattle.lert_gatelog.specs.Gated.{IsClosed, next_gate}
-use Rattle.lert_journal.specs.Journal.{HoldsPacket}
-use Rattle.lert_journal.specs.Payload.{IsJournaled, payload_of}
+use Rattle.lert_bay.specs.{Files.{Files, IfTold}, Images.KeepsImages, Kept.Bays, declared.bay.TheConstants.JOURNAL}
+use Rattle.lert_gatelog.specs.{declared.fault.LogFault.LogFault, declared.fault.LogFault.TheVariants.{Failed as LogFailed, Malformed as LogMalformed}, Gated.{IsClosed, next_gate}}
+use Rattle.lert_journal.specs.{Journal.HoldsPacket, Payload.{IsJournaled, payload_of}}
 use Rattle.lert_levels.specs.declared.rows.bin_at.BinAt.{BinAt}
 use Rattle.lert_spec.specs.declared.report.Report.{Report}
-use Rattle.lert_cone.specs.declared.refusal.ReplayFault.{ReplayFault}
-use Rattle.lert_cone.specs.declared.refusal.ReplayFault.TheVariants.{Failed, Malformed, Unsound}
-use Rattle.lert_cone.specs.declared.tally.TakeFault.{TakeFault}
-use Rattle.lert_cone.specs.declared.tally.TakeFault.TheVariants.{Failed as TakeFailed, Unsound as TakeUnsound}
-use Rattle.lert_cone.specs.Framed.{last_flush}
-use Rattle.lert_cone.specs.History.{most_payload}
-use Rattle.lert_cone.specs.Record.{LogPlace}
-use Rattle.lert_cone.specs.Replay.{IsOnWay, IsPast, MayFollow, ReplayLeavesAt}
-use Rattle.lert_cone.specs.Replaying.{Replaying}
-use Rattle.lert_cone.specs.Wrote.{IsShutIfTold}
+use Rattle.lert_cone.specs.{declared.refusal.ReplayFault.ReplayFault, declared.refusal.ReplayFault.TheVariants.{Failed, Malformed, Unsound}, declared.tally.TakeFault.TakeFault}
+use Rattle.lert_cone.specs.{declared.tally.TakeFault.TheVariants.{Failed as TakeFailed, Unsound as TakeUnsound}, Framed.last_flush, History.most_payload, Record.LogPlace}
+use Rattle.lert_cone.specs.{Replay.{IsOnWay, IsPast, MayFollow, ReplayLeavesAt}, Replaying.Replaying, Wrote.IsShutIfTold}
 
 -- the cone has the keys of the first packets of its journal, which is that of a history, and where its bay tells its files, these and
 -- its memory are on their way through it

@@ -1,18 +1,10 @@
 -- The memory of a cone before it has a number.
 use Rattle.std.specs.Prelude.{◌≡◌, ℕ, ◌+◌, ◌*◌, ◌≤◌, ◌^◌, max, [], replicate, All}
 use Rattle.lert_base.specs.Keys.{Keys}
-use Rattle.lert_levels.specs.OnDisk.{OnDisk}
-use Rattle.lert_levels.specs.rows.Rows.{IsAt, AreRows}
-use Rattle.lert_levels.specs.rows.Young.{Young}
-use Rattle.lert_reports.specs.Log.{most_record}
-use Rattle.lert_reports.specs.Stored.{Stored}
-use Rattle.lert_spec.specs.declared.numbers.Numbers.{Numbers}
-use Rattle.lert_spec.specs.Edges.{capacity}
-use Rattle.lert_spec.specs.Limits.{IsValid}
-use Rattle.lert_spec.specs.Mix.{cone_of}
-use Rattle.lert_reports.specs.declared.log_point.LogPoint.{LogPoint}
-use Rattle.lert_cone.specs.History.{most_payload}
-use Rattle.lert_cone.specs.JournalPlaces.{MayName}
+use Rattle.lert_levels.specs.{OnDisk.OnDisk, rows.Rows.{IsAt, AreRows}, rows.Young.Young}
+use Rattle.lert_reports.specs.{Log.most_record, Stored.Stored, declared.log_point.LogPoint.LogPoint}
+use Rattle.lert_spec.specs.{declared.numbers.Numbers.Numbers, Edges.capacity, Limits.IsValid, Mix.cone_of}
+use Rattle.lert_cone.specs.{History.most_payload, JournalPlaces.MayName}
 
 -- the bytes of the greatest text that is appended, a packet's or a log record's: its length, its payload and the next gate
 abbrev pub room_of : Numbers → ℕ

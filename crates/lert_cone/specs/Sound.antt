@@ -2,24 +2,13 @@
 use Rattle.std.specs.Prelude.{◌≡◌, ℕ, ◌-◌, ◌^◌, ◌<◌, ◌≤◌, Bool, true, List, [], ◌∷◌, ◌++◌, length, take, All, Option, Some, slice_index_or, if◌then◌else◌}
 use Rattle.std.proofs.Common.{◌⊎◌}
 use Rattle.lert_base.specs.Packet.{Packet, events_of}
-use Rattle.lert_bay.specs.Files.{Files, IfTold}
-use Rattle.lert_bay.specs.Kept.{Bays}
-use Rattle.lert_bay.specs.Settled.{part}
-use Rattle.lert_bay.specs.declared.bay.TheConstants.{JOURNAL, LOG, FRAMES}
+use Rattle.lert_bay.specs.{Files.{Files, IfTold}, Kept.Bays, Settled.part, declared.bay.TheConstants.{JOURNAL, LOG, FRAMES}}
 use Rattle.lert_frames.specs.Frame.{HoldsFrame}
 use Rattle.lert_gatelog.specs.Kept.{IsWhollySettled}
-use Rattle.lert_journal.specs.Header.{header}
-use Rattle.lert_journal.specs.Journal.{HasPackets}
-use Rattle.lert_journal.specs.Payload.{IsJournaled}
-use Rattle.lert_reports.specs.Log.{HasLog, listed_in, last_n0, last_directory, is_closed}
-use Rattle.lert_reports.specs.LogText.{LogRecord}
-use Rattle.lert_spec.specs.declared.numbers.Numbers.{Numbers}
-use Rattle.lert_spec.specs.Bins.{Bin, bins}
-use Rattle.lert_spec.specs.Edges.{capacity}
-use Rattle.lert_spec.specs.Look.{look, closing}
-use Rattle.lert_cone.specs.Framed.{last_flush}
-use Rattle.lert_cone.specs.History.{most_payload, end_of}
-use Rattle.lert_cone.specs.JournalPlaces.{NamesRecord, last_place}
+use Rattle.lert_journal.specs.{Header.header, Journal.HasPackets, Payload.IsJournaled}
+use Rattle.lert_reports.specs.{Log.{HasLog, listed_in, last_n0, last_directory, is_closed}, LogText.LogRecord}
+use Rattle.lert_spec.specs.{declared.numbers.Numbers.Numbers, Bins.{Bin, bins}, Edges.capacity, Look.{look, closing}}
+use Rattle.lert_cone.specs.{Framed.last_flush, History.{most_payload, end_of}, JournalPlaces.{NamesRecord, last_place}}
 
 -- ---- the journal
 

@@ -1,35 +1,17 @@
 -- What a cone is seen as, and which lists of packets it stands for.
-use Rattle.std.specs.Prelude.{◌≡◌, ℕ, ◌+◌, ◌*◌, ◌^◌, ◌<◌, ◌≤◌, Bool, true, false, List, [], ◌∷◌, ◌++◌, length, All, Option, None, option_map}
-use Rattle.std.specs.declared.snapshot.Snapshot.{Snapshot}
-use Rattle.lert_base.specs.declared.entry.Entry.{Entry}
-use Rattle.lert_base.specs.Entries.{packet_of}
-use Rattle.lert_base.specs.Packet.{Packet, events_of}
-use Rattle.lert_bay.specs.Files.{Files, IfTold, Turns}
-use Rattle.lert_bay.specs.declared.bay.TheConstants.{JOURNAL, LOG}
+use Rattle.std.specs.{Prelude.{◌≡◌, ℕ, ◌+◌, ◌*◌, ◌^◌, ◌<◌, ◌≤◌, Bool, true, false, List, [], ◌∷◌, ◌++◌, length, All, Option, None, option_map}, declared.snapshot.Snapshot.Snapshot}
+use Rattle.lert_base.specs.{declared.entry.Entry.Entry, Entries.packet_of, Packet.{Packet, events_of}, declared.cone_fault.ConeFault.ConeFault}
+use Rattle.lert_base.specs.declared.cone_fault.ConeFault.TheVariants.{Closed, Broken, CapacityFull, BayFailed, Unsound}
+use Rattle.lert_bay.specs.{Files.{Files, IfTold, Turns}, declared.bay.TheConstants.{JOURNAL, LOG}}
 use Rattle.lert_gatelog.specs.Gated.{Log}
 use Rattle.lert_io.specs.Fault.{HasRisen}
 use Rattle.lert_levels.specs.declared.rows.bin_at.BinAt.{BinAt}
-use Rattle.lert_spec.specs.declared.numbers.Numbers.{Numbers}
-use Rattle.lert_spec.specs.declared.report.Report.{Report}
-use Rattle.lert_spec.specs.Edges.{capacity}
-use Rattle.lert_spec.specs.Limits.{IsValid}
-use Rattle.lert_spec.specs.Look.{look}
-use Rattle.lert_cone.specs.declared.state.ConeState.{ConeState}
-use Rattle.lert_cone.specs.declared.state.ConeState.TheVariants.{Running, Finished, BrokenByBay, BrokenByRead}
-use Rattle.lert_reports.specs.declared.log_point.LogPoint.{LogPoint}
-use Rattle.lert_cone.specs.declared.acked.Acked.{Acked}
-use Rattle.lert_base.specs.declared.cone_fault.ConeFault.{ConeFault}
-use Rattle.lert_base.specs.declared.cone_fault.ConeFault.TheVariants.{Closed, Broken, CapacityFull, BayFailed, Unsound}
-use Rattle.lert_cone.specs.History.{most_payload, end_of}
-use Rattle.lert_cone.specs.InStep.{IsInStep, IsLogging}
-use Rattle.lert_cone.specs.Listing.{Listing}
-use Rattle.lert_cone.specs.Record.{LogPlace}
-use Rattle.lert_cone.specs.Room.{room_of}
-use Rattle.lert_cone.specs.Sound.{IsSound, IsSoundAs, IsSoundOver, IsKept, IsKeptWhole}
-use Rattle.lert_cone.specs.Tally.{Tallied, IsCounted}
-use Rattle.lert_cone.specs.Wrote.{Anything, IsShutIfTold}
-use Rattle.lert_cone.specs.declared.tally.TakeFault.{TakeFault}
+use Rattle.lert_spec.specs.{declared.numbers.Numbers.Numbers, declared.report.Report.Report, Edges.capacity, Limits.IsValid, Look.look}
+use Rattle.lert_cone.specs.{declared.state.ConeState.ConeState, declared.state.ConeState.TheVariants.{Running, Finished, BrokenByBay, BrokenByRead}, declared.acked.Acked.Acked}
+use Rattle.lert_cone.specs.{History.{most_payload, end_of}, InStep.{IsInStep, IsLogging}, Listing.Listing, Record.LogPlace, Room.room_of, Sound.{IsSound, IsSoundAs, IsSoundOver, IsKept, IsKeptWhole}}
+use Rattle.lert_cone.specs.{Tally.{Tallied, IsCounted}, Wrote.{Anything, IsShutIfTold}, declared.tally.TakeFault.TakeFault}
 use Rattle.lert_cone.specs.declared.tally.TakeFault.TheVariants.{Failed as TakeFailed, Unsound as TakeUnsound}
+use Rattle.lert_reports.specs.declared.log_point.LogPoint.{LogPoint}
 
 -- a call broke off in the middle, and none writes any more
 abbrev pub is_broken : ConeState → Bool

@@ -1,29 +1,14 @@
 -- What keys, a packet, and the end make of a cone's counts, its log and its bay.
-use Rattle.std.specs.Prelude.{◌≡◌, ◌≢◌, ℕ, ◌+◌, ◌*◌, ◌^◌, ◌<◌, ◌≤◌, max, true, false, List, [], ◌∷◌, ◌++◌, All, length, Some, None, Result, Err, OnOk}
-use Rattle.std.specs.Prelude.{IsErrOf}
+use Rattle.std.specs.Prelude.{◌≡◌, ◌≢◌, ℕ, ◌+◌, ◌*◌, ◌^◌, ◌<◌, ◌≤◌, max, true, false, List, [], ◌∷◌, ◌++◌, All, length, Some, None, Result, Err, OnOk, IsErrOf}
 use Rattle.lert_base.specs.Packet.{Packet, events_of}
-use Rattle.lert_bay.specs.Kept.{Bays, KeepsBay}
-use Rattle.lert_bay.specs.Files.{Files, IfTold, Turns}
-use Rattle.lert_bay.specs.declared.bay.TheConstants.{JOURNAL, LOG, FRAMES}
+use Rattle.lert_bay.specs.{Kept.{Bays, KeepsBay}, Files.{Files, IfTold, Turns}, declared.bay.TheConstants.{JOURNAL, LOG, FRAMES}}
 use Rattle.lert_gatelog.specs.Gated.{Log, next_gate}
 use Rattle.lert_journal.specs.Payload.{IsJournaled, payload_of}
 use Rattle.lert_levels.specs.rows.Checked.{rows_left}
-use Rattle.lert_spec.specs.Edges.{capacity}
-use Rattle.lert_spec.specs.Mix.{cone_of}
-use Rattle.lert_cone.specs.declared.journal_places.JournalPlace.{JournalPlace}
-use Rattle.lert_cone.specs.declared.tally.TakeFault.{TakeFault}
-use Rattle.lert_cone.specs.declared.tally.TakeFault.TheVariants.{Failed, Unsound}
-use Rattle.lert_cone.specs.Framed.{HoldsSome, last_flush}
-use Rattle.lert_cone.specs.History.{most_payload}
-use Rattle.lert_cone.specs.InStep.{IsInStep, IsLogging, IsPartway}
-use Rattle.lert_cone.specs.KeepsLog.{LogHead, KeepsLogOf}
-use Rattle.lert_cone.specs.JournalPlaces.{AreOfRecord}
-use Rattle.lert_cone.specs.Record.{LogPlace}
-use Rattle.lert_cone.specs.Replay.{IsOnWay}
-use Rattle.lert_cone.specs.Sound.{IsSound, IsSoundOver}
-use Rattle.lert_cone.specs.Stands.{IsWhole}
-use Rattle.lert_cone.specs.Tally.{Tallied, IsCounted, IsRecounted, Shows}
-use Rattle.lert_cone.specs.Wrote.{Anything, LeavesAlone, IsShutIfTold}
+use Rattle.lert_spec.specs.{Edges.capacity, Mix.cone_of}
+use Rattle.lert_cone.specs.{declared.journal_places.JournalPlace.JournalPlace, declared.tally.TakeFault.TakeFault, declared.tally.TakeFault.TheVariants.{Failed, Unsound}}
+use Rattle.lert_cone.specs.{Framed.{HoldsSome, last_flush}, History.most_payload, InStep.{IsInStep, IsLogging, IsPartway}, KeepsLog.{LogHead, KeepsLogOf}, JournalPlaces.AreOfRecord, Record.LogPlace}
+use Rattle.lert_cone.specs.{Replay.IsOnWay, Sound.{IsSound, IsSoundOver}, Stands.IsWhole, Tally.{Tallied, IsCounted, IsRecounted, Shows}, Wrote.{Anything, LeavesAlone, IsShutIfTold}}
 
 -- what keys are taken over: the bay, the counts, the log, and the length of the buffer
 pub record Workplace (B : Type 0) : Type 0 where

@@ -1,28 +1,12 @@
 -- What the counts and reports of a cone are seen as, and what they hold.
-use Rattle.std.specs.Prelude.{ℕ, ◌≡◌, ◌⊎◌, ◌+◌, ◌-◌, ◌*◌, ◌^◌, ◌<◌, ◌≤◌, ◌==◌, List, [], ◌∷◌, length, slice_range, Option, Some, None}
-use Rattle.std.specs.Prelude.{if◌then◌else◌}
-use Rattle.lert_bay.specs.Files.{Files}
-use Rattle.lert_bay.specs.declared.bay.TheConstants.{LOG, FRAMES}
-use Rattle.lert_spec.specs.declared.numbers.Numbers.{Numbers}
-use Rattle.lert_spec.specs.declared.piece.Piece.{Piece}
-use Rattle.lert_spec.specs.declared.report.Report.{Report}
-use Rattle.lert_spec.specs.Bins.{Bin, tallied}
-use Rattle.lert_spec.specs.Edges.{span, edge, depth, lookback, capacity}
-use Rattle.lert_spec.specs.Limits.{IsValid}
-use Rattle.lert_spec.specs.Table.{count_of}
-use Rattle.lert_spec.proofs.LookLaws.{AreKeys}
-use Rattle.lert_spec.proofs.TailLaws.{AreOfCone}
-use Rattle.lert_levels.specs.declared.rows.bin_at.BinAt.{BinAt}
-use Rattle.lert_levels.specs.rows.Loading.{OneBreaks}
-use Rattle.lert_levels.specs.rows.Ranges.{young_bins}
-use Rattle.lert_levels.specs.rows.Rows.{IsAt, AreRows, HoldsBins}
-use Rattle.lert_levels.specs.rows.Young.{Young}
-use Rattle.lert_levels.specs.declared.rows.fault.FlushFault.{FlushFault}
-use Rattle.lert_levels.specs.declared.rows.fault.FlushFault.TheVariants.{Failed as FlushFailed, Malformed}
-use Rattle.lert_cone.specs.declared.tally.TakeFault.{TakeFault}
-use Rattle.lert_cone.specs.declared.tally.TakeFault.TheVariants.{Failed, Unsound}
-use Rattle.lert_cone.specs.Due.{Dues, unbegun}
-use Rattle.lert_cone.specs.Listing.{Listing, reports_of}
+use Rattle.std.specs.Prelude.{ℕ, ◌≡◌, ◌⊎◌, ◌+◌, ◌-◌, ◌*◌, ◌^◌, ◌<◌, ◌≤◌, ◌==◌, List, [], ◌∷◌, length, slice_range, Option, Some, None, if◌then◌else◌}
+use Rattle.lert_bay.specs.{Files.Files, declared.bay.TheConstants.{LOG, FRAMES}}
+use Rattle.lert_spec.specs.{declared.numbers.Numbers.Numbers, declared.piece.Piece.Piece, declared.report.Report.Report, Bins.{Bin, tallied}, Edges.{span, edge, depth, lookback, capacity}}
+use Rattle.lert_spec.specs.{Limits.IsValid, Table.count_of}
+use Rattle.lert_spec.proofs.{LookLaws.AreKeys, TailLaws.AreOfCone}
+use Rattle.lert_levels.specs.{declared.rows.bin_at.BinAt.BinAt, rows.Loading.OneBreaks, rows.Ranges.young_bins, rows.Rows.{IsAt, AreRows, HoldsBins}, rows.Young.Young}
+use Rattle.lert_levels.specs.{declared.rows.fault.FlushFault.FlushFault, declared.rows.fault.FlushFault.TheVariants.{Failed as FlushFailed, Malformed}}
+use Rattle.lert_cone.specs.{declared.tally.TakeFault.TakeFault, declared.tally.TakeFault.TheVariants.{Failed, Unsound}, Due.{Dues, unbegun}, Listing.{Listing, reports_of}}
 
 -- a cone's keys, level 0, the rows of the older levels, and its reports
 pub record Tallied : Type 0 where

@@ -1,12 +1,9 @@
 -- The keys of a journal that a reopening doesn't read: those before the record at which it begins.
 use Rattle.std.specs.Prelude.{ℕ, zero, suc, ◌+◌, List, [], ◌++◌, map, take, replicate, Option, Some, None}
-use Rattle.lert_bay.specs.Files.{Files}
-use Rattle.lert_bay.specs.Settled.{part}
-use Rattle.lert_bay.specs.declared.bay.TheConstants.{JOURNAL}
+use Rattle.lert_bay.specs.{Files.Files, Settled.part, declared.bay.TheConstants.JOURNAL}
 use Rattle.lert_gatelog.specs.Gated.{counted_at}
 use Rattle.lert_journal.specs.Payload.{packet_in}
-use Rattle.lert_spec.specs.declared.numbers.Numbers.{Numbers}
-use Rattle.lert_spec.specs.Mix.{tail_of}
+use Rattle.lert_spec.specs.{declared.numbers.Numbers.Numbers, Mix.tail_of}
 use Rattle.lert_spec.proofs.TailLaws.{key_with}
 
 -- the bytes of the journal where files are told, none else

@@ -1,11 +1,7 @@
 -- What calls make of a bay that leave one of its files alone.
 use Rattle.std.specs.Prelude.{◌≡◌, ℕ, Option, Some}
-use Rattle.lert_bay.specs.Kept.{Bays}
-use Rattle.lert_bay.specs.Files.{Files, IfTold, Turns}
-use Rattle.lert_bay.specs.Images.{Lasts}
-use Rattle.lert_bay.specs.Settled.{Keeps, IsSettled}
-use Rattle.lert_gatelog.specs.Gated.{IsClosed}
-use Rattle.lert_gatelog.specs.Kept.{InEach, IsWhollySettled}
+use Rattle.lert_bay.specs.{Kept.Bays, Files.{Files, IfTold, Turns}, Images.Lasts, Settled.{Keeps, IsSettled}}
+use Rattle.lert_gatelog.specs.{Gated.IsClosed, Kept.{InEach, IsWhollySettled}}
 
 -- the file reads as before, what is settled in it stays settled at each moment, and time goes on
 pub record LeavesFile (file : ℕ) (files_before files_after : Option Files) (leaves_before leaves_after : Files → Type 0) (first last : ℕ) (since_before since_after : ℕ → Files →

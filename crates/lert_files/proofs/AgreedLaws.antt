@@ -1,6 +1,5 @@
 -- How many bytes a file has in common with those that begin it.
-use Rattle.std.proofs.Common.{ℕ, zero, suc, ◌≡◌, ◌≤◌, ◌==◌, cond, List, [], ◌∷◌, length, take, refl, ap, ap₂, sym, ◌∙◌, arith, inl, inr}
-use Rattle.std.proofs.lemmas.Bool.{cases_Bool, eq-eqb, eqb-true}
+use Rattle.std.proofs.{Common.{ℕ, zero, suc, ◌≡◌, ◌≤◌, ◌==◌, cond, List, [], ◌∷◌, length, take, refl, ap, ap₂, sym, ◌∙◌, arith, inl, inr}, lemmas.Bool.{cases_Bool, eq-eqb, eqb-true}}
 use Rattle.lert_spec.specs.Trace.{agreed}
 
 -- bytes behind the text change nothing

@@ -4,8 +4,7 @@ use Rattle.lert_base.specs.declared.kept.Kept.{Kept}
 use Rattle.lert_spec.specs.declared.numbers.Numbers.{Numbers}
 use Rattle.lert_reports.proofs.LogLaws.{records_none}
 use Rattle.lert_journal.specs.Header.{header}
-use Rattle.lert_files.specs.Headed.{BeginningLeaves, IsHeaded, HasOther}
-use Rattle.lert_files.specs.Read.{most_directory, IsReadOf}
+use Rattle.lert_files.specs.{Headed.{BeginningLeaves, IsHeaded, HasOther}, Read.{most_directory, IsReadOf}}
 
 abbrev alone : Numbers
 alone = record { threshold = 3; bins = 3; ratio = 2; base = 4; levels = 2; cone_bits = 0; room = 32; packet = 8 }

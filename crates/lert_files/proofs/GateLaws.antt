@@ -1,14 +1,9 @@
 -- Where what stands at a gate of a log leaves the format.
-use Rattle.std.proofs.Common.{ℕ, ◌≡◌, ◌+◌, ◌≤◌, Bool, true, false, Result, Ok, Err, List, refl, ap, sym, ◌∙◌, subst, arith, inl, inr}
-use Rattle.std.proofs.lemmas.Bool.{true≢false}
-use Rattle.std.proofs.lemmas.List.{get_or_past}
+use Rattle.std.proofs.{Common.{ℕ, ◌≡◌, ◌+◌, ◌≤◌, Bool, true, false, Result, Ok, Err, List, refl, ap, sym, ◌∙◌, subst, arith, inl, inr}, lemmas.Bool.true≢false, lemmas.List.get_or_past}
 use Rattle.lert_gatelog.specs.Gated.{IsOpen, BreaksAt, No_gate, Cut_length, Cut_payload}
 use Rattle.lert_spec.specs.declared.numbers.Numbers.{Numbers}
-use Rattle.lert_reports.specs.Log.{is_closed, most_record, HasLogUpTo, LogLeavesAt, PayloadLeavesAt, At_gate, In_payload, Behind_closing}
-use Rattle.lert_reports.specs.LogText.{LogRecord}
-use Rattle.lert_files.specs.declared.fault.ReopenFault.{ReopenFault}
-use Rattle.lert_files.specs.declared.fault.ReopenFault.TheVariants.{Failed, Malformed}
-use Rattle.lert_files.specs.Read.{GateLeavesAt}
+use Rattle.lert_reports.specs.{Log.{is_closed, most_record, HasLogUpTo, LogLeavesAt, PayloadLeavesAt, At_gate, In_payload, Behind_closing}, LogText.LogRecord}
+use Rattle.lert_files.specs.{declared.fault.ReopenFault.ReopenFault, declared.fault.ReopenFault.TheVariants.{Failed, Malformed}, Read.GateLeavesAt}
 
 pub same_place : {T : Type 0} (file at other_file other : ℕ) → ◌≡◌ {A = Result T ReopenFault} (Err (Malformed file at)) (Err (Malformed other_file other)) → at ≡ other
 same_place file at other_file other is = cc

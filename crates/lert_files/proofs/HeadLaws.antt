@@ -1,23 +1,16 @@
 -- What the first bytes of a journal say is one of three: the header of this cone, another one, or a place at which they leave
 -- the format.
-use Rattle.std.proofs.Common.{ℕ, ◌≡◌, ◌≢◌, ◌+◌, ◌<◌, ◌≤◌, ◌^◌, min, nat_lt, Some, None, Result, Ok, Err, List, [], ◌∷◌}
-use Rattle.std.proofs.Common.{◌++◌, length, take, drop, refl, ap, ap₂, sym, ◌∙◌, subst, arith, inl, inr, ◌⊎◌, length-take}
+use Rattle.std.proofs.Common.{ℕ, ◌≡◌, ◌≢◌, ◌+◌, ◌<◌, ◌≤◌, ◌^◌, min, nat_lt, Some, None, Result, Ok, Err, List, [], ◌∷◌, ◌++◌, length, take, drop, refl, ap, ap₂, sym, ◌∙◌, subst, arith, inl, inr, ◌⊎◌}
+use Rattle.std.proofs.{Common.length-take, Math.Seq.take-add, lemmas.Bool.{cases_lt, le-ltb}, lemmas.List.{drop_more, get_or-drop, length-drop, take_all, take-take}, lemmas.Option.none-some}
 use Rattle.std.specs.Prelude.{slice_index, if◌then◌else◌, MatchResult, IsErrAnd}
-use Rattle.std.proofs.Math.Seq.{take-add}
-use Rattle.std.proofs.lemmas.Bool.{cases_lt, le-ltb}
-use Rattle.std.proofs.lemmas.List.{drop_more, get_or-drop, length-drop, take_all, take-take}
-use Rattle.std.proofs.lemmas.Option.{none-some}
 use Rattle.byteorder.specs.Endian.{little_bytes}
 use Rattle.lert_base.specs.declared.kept.Kept.{Kept}
 use Rattle.lert_bay.specs.declared.bay.TheConstants.{JOURNAL}
-use Rattle.lert_spec.specs.declared.numbers.Numbers.{Numbers}
-use Rattle.lert_spec.specs.Limits.{IsInLimits}
-use Rattle.lert_spec.specs.Trace.{agreed}
+use Rattle.lert_spec.specs.{declared.numbers.Numbers.Numbers, Limits.IsInLimits, Trace.agreed}
 use Rattle.lert_spec.proofs.ByteLaws.{bytes_back}
 use Rattle.lert_journal.specs.Header.{magic, header, header_left, number_at, kept_in}
 use Rattle.lert_journal.proofs.HeaderLaws.{reads_back, begins}
-use Rattle.lert_files.specs.declared.fault.ReopenFault.{ReopenFault}
-use Rattle.lert_files.specs.declared.fault.ReopenFault.TheVariants.{Failed, Malformed, OtherSettings}
+use Rattle.lert_files.specs.{declared.fault.ReopenFault.ReopenFault, declared.fault.ReopenFault.TheVariants.{Failed, Malformed, OtherSettings}}
 use Rattle.lert_files.specs.Headed.{BeginningLeaves, IsHeaded, HasOther, IsHeaderFault}
 use Rattle.lert_files.proofs.AgreedLaws.{agreed_whole}
 

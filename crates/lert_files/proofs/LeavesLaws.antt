@@ -1,21 +1,12 @@
 -- Where a payload first leaves the format of a log: by its fields, or at a key that was listed before.
-use Rattle.std.proofs.Common.{ℕ, ◌≡◌, ◌+◌, ◌-◌, ◌*◌, ◌/◌, ◌<◌, ◌≤◌, false, Some, List, ◌++◌, length, map, ap, ap₂, sym, ◌∙◌, subst, arith, inl, inr}
-use Rattle.std.proofs.Common.{◌⊎◌}
-use Rattle.std.specs.Prelude.{All}
-use Rattle.std.specs.List.{range_with_len}
-use Rattle.std.proofs.lemmas.Bool.{cases_lt, true≢false}
-use Rattle.std.proofs.lemmas.List.Elements.{All-append}
-use Rattle.std.proofs.lemmas.List.FromFn.{get_or-map-range_with_len}
-use Rattle.lert_spec.specs.declared.numbers.Numbers.{Numbers}
-use Rattle.lert_spec.specs.declared.report.Report.{Report}
-use Rattle.lert_spec.specs.Look.{is_listed}
-use Rattle.lert_spec.specs.Mix.{cone_of}
-use Rattle.lert_reports.specs.declared.log.LogBefore.{LogBefore}
-use Rattle.lert_reports.specs.Log.{before_of, listed_in, IsRepeatedAt, PayloadLeavesAt}
+use Rattle.std.proofs.{Common.{ℕ, ◌≡◌, ◌+◌, ◌-◌, ◌*◌, ◌/◌, ◌<◌, ◌≤◌, false, Some, List, ◌++◌, length, map, ap, ap₂, sym, ◌∙◌, subst, arith, inl, inr, ◌⊎◌}, lemmas.Bool.{cases_lt, true≢false}}
+use Rattle.std.proofs.{lemmas.List.Elements.All-append, lemmas.List.FromFn.get_or-map-range_with_len}
+use Rattle.std.specs.{Prelude.All, List.range_with_len}
+use Rattle.lert_spec.specs.{declared.numbers.Numbers.Numbers, declared.report.Report.Report, Look.is_listed, Mix.cone_of}
+use Rattle.lert_reports.specs.{declared.log.LogBefore.LogBefore, Log.{before_of, listed_in, IsRepeatedAt, PayloadLeavesAt}}
 use Rattle.lert_reports.specs.LogText.{LogRecord, log_left, number_in, n0_in, report_in, report_place, reports_in, reports_place}
 use Rattle.lert_files.specs.Repeated.{reports_from, IsListedThere, AreNewThere}
-use Rattle.lert_files.proofs.LeftLaws.{some_place, ReportsBefore, HasKey, reports_before}
-use Rattle.lert_files.proofs.RepeatLaws.{length_from}
+use Rattle.lert_files.proofs.{LeftLaws.{some_place, ReportsBefore, HasKey, reports_before}, RepeatLaws.length_from}
 
 module _ (s : Numbers) (payload : List ℕ) (start : ℕ) (start_is : start ≡ reports_place s (n0_in payload) + 4) where
   -- ---- a key that was listed before, by the places of reports

@@ -1,19 +1,12 @@
 -- Where the fields of a payload break, by the reports that stand before that place.
-use Rattle.std.proofs.Common.{ℕ, zero, suc, ◌≡◌, ◌+◌, ◌-◌, ◌*◌, ◌/◌, ◌<◌, ◌≤◌, ◌==◌, ◌&&◌, nat_le, nat_lt, false, Option}
-use Rattle.std.proofs.Common.{Some, None, List, [], ◌∷◌, ◌++◌, length, refl, ap, sym, ◌∙◌, subst, arith, inl, inr, ◌⊎◌}
-use Rattle.std.specs.Prelude.{flat_map, slice_index, if◌then◌else◌}
-use Rattle.std.specs.List.{range_with_len}
-use Rattle.std.proofs.lemmas.Bool.{cases_Bool, cases_lt, and_parts, eqb-true, leb-true}
-use Rattle.std.proofs.lemmas.Option.{none-some}
-use Rattle.lert_spec.specs.declared.numbers.Numbers.{Numbers}
-use Rattle.lert_spec.specs.Edges.{capacity}
-use Rattle.lert_spec.specs.Mix.{cone_of}
-use Rattle.lert_reports.specs.declared.log.LogBefore.{LogBefore}
-use Rattle.lert_reports.specs.LogText.{Field, is_broken, left_at, log_left, number_in, n0_in, next_flush, kind_field, n0_field, offset_field, first_field, head_fields, bin_count, level_place}
-use Rattle.lert_reports.specs.LogText.{frame_field}
-use Rattle.lert_reports.specs.LogText.{level_fields, directory_fields, reports_place, reports_in, at_before, key_field, at_field, count_field, report_fields, all_report_fields, end_field}
-use Rattle.lert_reports.proofs.DirectoryLaws.{level_place-next, later_place}
-use Rattle.lert_reports.proofs.FieldLaws.{broken, kept, whole, none_left, stops, goes_on, parted, first_kept, keeps_rule, each_none, in_first}
+use Rattle.std.proofs.Common.{ℕ, zero, suc, ◌≡◌, ◌+◌, ◌-◌, ◌*◌, ◌/◌, ◌<◌, ◌≤◌, ◌==◌, ◌&&◌, nat_le, nat_lt, false, Option, Some, None, List, [], ◌∷◌, ◌++◌, length, refl, ap, sym, ◌∙◌, subst, arith}
+use Rattle.std.proofs.{Common.{inl, inr, ◌⊎◌}, lemmas.Bool.{cases_Bool, cases_lt, and_parts, eqb-true, leb-true}, lemmas.Option.none-some}
+use Rattle.std.specs.{Prelude.{flat_map, slice_index, if◌then◌else◌}, List.range_with_len}
+use Rattle.lert_spec.specs.{declared.numbers.Numbers.Numbers, Edges.capacity, Mix.cone_of}
+use Rattle.lert_reports.specs.{declared.log.LogBefore.LogBefore, LogText.{Field, is_broken, left_at, log_left, number_in, n0_in, next_flush, kind_field, n0_field, offset_field, first_field}}
+use Rattle.lert_reports.specs.LogText.{head_fields, bin_count, level_place, frame_field, level_fields, directory_fields, reports_place, reports_in, at_before, key_field, at_field, count_field}
+use Rattle.lert_reports.specs.LogText.{report_fields, all_report_fields, end_field}
+use Rattle.lert_reports.proofs.{DirectoryLaws.{level_place-next, later_place}, FieldLaws.{broken, kept, whole, none_left, stops, goes_on, parted, first_kept, keeps_rule, each_none, in_first}}
 
 pub some_place : (m n : ℕ) → Some m ≡ Some n → m ≡ n
 some_place m n is = cc

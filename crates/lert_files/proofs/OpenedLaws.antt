@@ -1,30 +1,19 @@
 -- What stands in a cone's files before the records of its journal is one of three: all of it in its format, a first place at
 -- which it leaves that, or another header. So what is right of an answer is right the other way round.
-use Rattle.std.proofs.Common.{ℕ, ◌≡◌, ◌<◌, ◌^◌, Bool, Some, None, Result, Ok, Err, List, refl, ap, sym, ◌∙◌, subst, inl, inr, ◌⊎◌}
+use Rattle.std.proofs.{Common.{ℕ, ◌≡◌, ◌<◌, ◌^◌, Bool, Some, None, Result, Ok, Err, List, refl, ap, sym, ◌∙◌, subst, inl, inr, ◌⊎◌}, lemmas.Option.none-some}
 use Rattle.std.specs.Prelude.{IfOk, MatchResult, IsErrOf, IsErrAnd}
-use Rattle.std.proofs.lemmas.Option.{none-some}
 use Rattle.lert_base.specs.declared.kept.Kept.{Kept}
-use Rattle.lert_bay.specs.declared.bay.TheConstants.{JOURNAL, LOG, FRAMES}
-use Rattle.lert_bay.specs.Files.{Files}
-use Rattle.lert_levels.specs.declared.rows.bin_at.BinAt.{BinAt}
-use Rattle.lert_levels.specs.declared.rows.fault.FlushFault.{FlushFault}
-use Rattle.lert_levels.specs.declared.rows.fault.FlushFault.TheVariants.{Failed as CheckFailed, Malformed as CheckMalformed}
-use Rattle.lert_levels.specs.rows.Checked.{rows_left}
-use Rattle.lert_levels.specs.OnDisk.{OnDisk}
+use Rattle.lert_bay.specs.{declared.bay.TheConstants.{JOURNAL, LOG, FRAMES}, Files.Files}
+use Rattle.lert_levels.specs.{declared.rows.bin_at.BinAt.BinAt, declared.rows.fault.FlushFault.FlushFault}
+use Rattle.lert_levels.specs.{declared.rows.fault.FlushFault.TheVariants.{Failed as CheckFailed, Malformed as CheckMalformed}, rows.Checked.rows_left, OnDisk.OnDisk}
 use Rattle.lert_levels.specs.rows.Rows.{IsAt, AreRows, directory_text}
 use Rattle.lert_levels.proofs.rows.NamedLaws.{same_named}
-use Rattle.lert_reports.specs.Log.{last_directory, last_n0, HasLog, LogLeavesAt}
-use Rattle.lert_reports.specs.LogText.{LogRecord, directory_bytes}
+use Rattle.lert_reports.specs.{Log.{last_directory, last_n0, HasLog, LogLeavesAt}, LogText.{LogRecord, directory_bytes}, declared.log_point.LogPoint.LogPoint}
 use Rattle.lert_reports.proofs.LogOnce.{one_log, log_or_left, one_left}
-use Rattle.lert_spec.specs.declared.numbers.Numbers.{Numbers}
-use Rattle.lert_spec.specs.declared.report.Report.{Report}
-use Rattle.lert_spec.specs.Limits.{IsValid}
-use Rattle.lert_files.specs.declared.fault.ReopenFault.{ReopenFault}
-use Rattle.lert_files.specs.declared.fault.ReopenFault.TheVariants.{Failed, Malformed, OtherSettings}
-use Rattle.lert_reports.specs.declared.log_point.LogPoint.{LogPoint}
+use Rattle.lert_spec.specs.{declared.numbers.Numbers.Numbers, declared.report.Report.Report, Limits.IsValid}
+use Rattle.lert_files.specs.{declared.fault.ReopenFault.ReopenFault, declared.fault.ReopenFault.TheVariants.{Failed, Malformed, OtherSettings}}
 use Rattle.lert_files.specs.Headed.{BeginningLeaves, HasOther, IsHeaded, IsHeaderFault}
-use Rattle.lert_files.specs.Opened.{AreLastRows, AreOpened, checked_fault, IsRefused, By_call, By_place, By_header, LeaveAt, In_beginning, In_log, In_frame}
-use Rattle.lert_files.specs.Read.{IsReadOf}
+use Rattle.lert_files.specs.{Opened.{AreLastRows, AreOpened, checked_fault, IsRefused, By_call, By_place, By_header, LeaveAt, In_beginning, In_log, In_frame}, Read.IsReadOf}
 use Rattle.lert_files.proofs.HeadLaws.{headed_or_fault, headed_whole, one_beginning, other_or_left}
 
 some_place : (m n : ℕ) → Some m ≡ Some n → m ≡ n

@@ -1,23 +1,14 @@
 -- What a log says of its last record keeps the rules, also where it has none.
-use Rattle.std.proofs.Common.{ℕ, suc, ◌≡◌, ◌+◌, ◌-◌, ◌/◌, ◌^◌, ◌≤◌, Bool, false, Ok, Err, Result, List, [], ◌∷◌, ◌++◌, length, replicate, get_or, ap, sym}
-use Rattle.std.proofs.Common.{◌∙◌, subst, arith, lit≤}
-use Rattle.std.specs.Prelude.{IfOk}
+use Rattle.std.proofs.Common.{ℕ, suc, ◌≡◌, ◌+◌, ◌-◌, ◌/◌, ◌^◌, ◌≤◌, Bool, false, Ok, Err, Result, List, [], ◌∷◌, ◌++◌, length, replicate, get_or, ap, sym, ◌∙◌, subst, arith, lit≤}
 use Rattle.std.proofs.lemmas.List.{length-replicate, get_or-replicate}
-use Rattle.lert_spec.specs.declared.numbers.Numbers.{Numbers}
-use Rattle.lert_spec.specs.declared.report.Report.{Report}
-use Rattle.lert_spec.specs.Edges.{span, edge, capacity}
-use Rattle.lert_spec.specs.Limits.{IsValid}
-use Rattle.lert_levels.specs.rows.Named.{AreFramesAt, IsDirectory}
-use Rattle.lert_levels.specs.rows.Ranges.{Range, ranges}
-use Rattle.lert_levels.proofs.rows.PlacedLaws.{directory_of_frames, ranges_counted}
-use Rattle.lert_levels.proofs.rows.RangeLaws.{cuts_none, edge_within}
-use Rattle.lert_reports.specs.Log.{before_of, is_closed, last_directory, last_first, last_n0, last_offset, AreRecords}
-use Rattle.lert_reports.specs.LogRules.{AreFrames, KeepsRules}
-use Rattle.lert_reports.specs.LogText.{LogRecord, directory_bytes}
-use Rattle.lert_reports.proofs.LogLaws.{last_directory-push, last_first-push, last_n0-push, last_offset-push}
-use Rattle.lert_files.specs.declared.fault.ReopenFault.{ReopenFault}
+use Rattle.std.specs.Prelude.{IfOk}
+use Rattle.lert_spec.specs.{declared.numbers.Numbers.Numbers, declared.report.Report.Report, Edges.{span, edge, capacity}, Limits.IsValid}
+use Rattle.lert_levels.specs.{rows.Named.{AreFramesAt, IsDirectory}, rows.Ranges.{Range, ranges}}
+use Rattle.lert_levels.proofs.{rows.PlacedLaws.{directory_of_frames, ranges_counted}, rows.RangeLaws.{cuts_none, edge_within}}
+use Rattle.lert_reports.specs.{Log.{before_of, is_closed, last_directory, last_first, last_n0, last_offset, AreRecords}, LogRules.{AreFrames, KeepsRules}, LogText.{LogRecord, directory_bytes}}
 use Rattle.lert_reports.specs.declared.log_point.LogPoint.{LogPoint}
-use Rattle.lert_files.specs.Read.{IsPoint, IsReadOf}
+use Rattle.lert_reports.proofs.LogLaws.{last_directory-push, last_first-push, last_n0-push, last_offset-push}
+use Rattle.lert_files.specs.{declared.fault.ReopenFault.ReopenFault, Read.{IsPoint, IsReadOf}}
 use Rattle.lert_files.proofs.RecordsLaws.{walk}
 
 -- ---- where the journal is to be read from

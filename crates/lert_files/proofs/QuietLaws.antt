@@ -1,11 +1,7 @@
 -- Calls that write nothing, one after the other.
 use Rattle.std.proofs.Common.{ℕ, ◌≡◌, ◌≤◌, ◌∙◌, Result, Ok, Err, List, inl, inr, arith}
 use Rattle.std.specs.Prelude.{OnOk, OnErr}
-use Rattle.lert_bay.specs.declared.bay.TheConstants.{JOURNAL, LOG, FRAMES}
-use Rattle.lert_bay.specs.Files.{Files, IfTold}
-use Rattle.lert_bay.specs.Images.{Elapses, KeepsImages, Settles}
-use Rattle.lert_bay.specs.Handed.{ReadsUpTo}
-use Rattle.lert_bay.specs.Kept.{Bays, OnlyReads, ReadsBay}
+use Rattle.lert_bay.specs.{declared.bay.TheConstants.{JOURNAL, LOG, FRAMES}, Files.{Files, IfTold}, Images.{Elapses, KeepsImages, Settles}, Handed.ReadsUpTo, Kept.{Bays, OnlyReads, ReadsBay}}
 use Rattle.lert_bay.proofs.KeptLaws.{IsLawful, apart_from_log, calls_as, calls_call, calls_on, only_reads_of, reads}
 use Rattle.lert_io.specs.Fault.{HasRisen}
 use Rattle.lert_files.specs.Opened.{IsAsRead, WritesNothing}

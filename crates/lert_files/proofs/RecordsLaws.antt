@@ -1,22 +1,10 @@
 -- What the records of a log that keep the rules say together.
-use Rattle.std.proofs.Common.{ℕ, suc, ◌≡◌, ◌+◌, ◌≤◌, false, cond, List, [], ◌∷◌, ◌++◌, refl, ap, sym, ◌∙◌, subst, arith, append_assoc}
-use Rattle.std.specs.Prelude.{All}
-use Rattle.std.specs.List.{AllPairs}
-use Rattle.std.proofs.Math.Nat.{le-mul_of_pos_right}
-use Rattle.std.proofs.lemmas.Bool.{true≢false}
-use Rattle.std.proofs.lemmas.List.{append-nil}
-use Rattle.std.proofs.lemmas.List.Elements.{All-append, All-cons, All-head, All-tail}
-use Rattle.std.proofs.lemmas.List.Kept.{AllPairs-cons}
-use Rattle.lert_spec.specs.declared.numbers.Numbers.{Numbers}
-use Rattle.lert_spec.specs.declared.report.Report.{Report}
-use Rattle.lert_spec.specs.Edges.{capacity}
-use Rattle.lert_spec.specs.Limits.{IsValid}
-use Rattle.lert_spec.specs.Mix.{cone_of}
-use Rattle.lert_reports.specs.declared.log.LogBefore.{LogBefore}
-use Rattle.lert_reports.specs.declared.log.LogKind.{LogKind}
-use Rattle.lert_reports.specs.Log.{is_closed, is_closing, is_flush, flushes_in, last_at, last_n0, listed_in, before_of, AreRecords}
-use Rattle.lert_reports.specs.LogRules.{KeepsRules, IsInTurn}
-use Rattle.lert_reports.specs.LogText.{LogRecord, next_flush}
+use Rattle.std.proofs.{Common.{ℕ, suc, ◌≡◌, ◌+◌, ◌≤◌, false, cond, List, [], ◌∷◌, ◌++◌, refl, ap, sym, ◌∙◌, subst, arith, append_assoc}, Math.Nat.le-mul_of_pos_right, lemmas.Bool.true≢false}
+use Rattle.std.proofs.{lemmas.List.append-nil, lemmas.List.Elements.{All-append, All-cons, All-head, All-tail}, lemmas.List.Kept.AllPairs-cons}
+use Rattle.std.specs.{Prelude.All, List.AllPairs}
+use Rattle.lert_spec.specs.{declared.numbers.Numbers.Numbers, declared.report.Report.Report, Edges.capacity, Limits.IsValid, Mix.cone_of}
+use Rattle.lert_reports.specs.{declared.log.LogBefore.LogBefore, declared.log.LogKind.LogKind, Log.{is_closed, is_closing, is_flush, flushes_in, last_at, last_n0, listed_in, before_of, AreRecords}}
+use Rattle.lert_reports.specs.{LogRules.{KeepsRules, IsInTurn}, LogText.{LogRecord, next_flush}}
 use Rattle.lert_reports.proofs.LogLaws.{listed_in-push, last_n0-push, is_closed-push, flushes_in-push, last_at_from, last_at-append}
 use Rattle.lert_files.specs.Read.{AreReportsUpTo}
 

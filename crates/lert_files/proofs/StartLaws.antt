@@ -1,12 +1,7 @@
 -- Where the reports of a record begin.
-use Rattle.std.proofs.Common.{ℕ, ◌+◌, ◌-◌, ◌*◌, ◌/◌, ◌≤◌, arith}
-use Rattle.std.specs.Prelude.{nat_lt, min, max}
-use Rattle.std.specs.List.{range_with_len}
-use Rattle.std.proofs.Math.Nat.{div-le_self}
-use Rattle.std.proofs.lemmas.List.FromFn.{length-range_with_len}
-use Rattle.std.proofs.lemmas.List.Sums.{count_by-le-length}
-use Rattle.lert_spec.specs.declared.numbers.Numbers.{Numbers}
-use Rattle.lert_spec.specs.Edges.{span, edge}
+use Rattle.std.proofs.{Common.{ℕ, ◌+◌, ◌-◌, ◌*◌, ◌/◌, ◌≤◌, arith}, Math.Nat.div-le_self, lemmas.List.FromFn.length-range_with_len, lemmas.List.Sums.count_by-le-length}
+use Rattle.std.specs.{Prelude.{nat_lt, min, max}, List.range_with_len}
+use Rattle.lert_spec.specs.{declared.numbers.Numbers.Numbers, Edges.{span, edge}}
 use Rattle.lert_reports.specs.LogText.{bin_count}
 
 -- a level has at most a bin for each event and one more

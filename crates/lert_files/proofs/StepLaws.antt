@@ -1,39 +1,21 @@
 -- What was read of a log, with one record more.
-use Rattle.std.proofs.Common.{ℕ, zero, suc, ◌≡◌, ◌≢◌, ◌+◌, ◌*◌, ◌<◌, ◌≤◌, ◌^◌, Bool, true, false, cond, eqb, List, [], ◌∷◌, ◌++◌}
-use Rattle.std.proofs.Common.{length, map, take, drop, get_or, refl, ap, sym, ◌∙◌, subst, arith, append_assoc, length-append}
-use Rattle.std.specs.Prelude.{All, flat_map, replicate, slice_index_or}
-use Rattle.std.specs.List.{AllPairs}
-use Rattle.std.proofs.Math.Nat.{mul-le-mul}
-use Rattle.std.proofs.lemmas.Bool.{eq-eqb, eqb-true, true≢false}
-use Rattle.std.proofs.lemmas.Bool.Decides.{Decides-eqb}
-use Rattle.std.proofs.lemmas.List.{append-nil, take_at}
-use Rattle.std.proofs.lemmas.List.Concat.{flat_map-cons}
-use Rattle.std.proofs.lemmas.List.Folds.{Any-from_list_any, list_any_at}
-use Rattle.std.proofs.lemmas.List.Quantifiers.{all_pairs_push}
-use Rattle.std.proofs.lemmas.Map.Made.{IsDistinct-from_AllPairs}
+use Rattle.std.proofs.Common.{ℕ, zero, suc, ◌≡◌, ◌≢◌, ◌+◌, ◌*◌, ◌<◌, ◌≤◌, ◌^◌, Bool, true, false, cond, eqb, List, [], ◌∷◌, ◌++◌, length, map, take, drop, get_or, refl, ap, sym, ◌∙◌, subst, arith}
+use Rattle.std.proofs.{Common.{append_assoc, length-append}, Math.Nat.mul-le-mul, lemmas.Bool.{eq-eqb, eqb-true, true≢false}, lemmas.Bool.Decides.Decides-eqb, lemmas.List.{append-nil, take_at}}
+use Rattle.std.proofs.{lemmas.List.Concat.flat_map-cons, lemmas.List.Folds.{Any-from_list_any, list_any_at}, lemmas.List.Quantifiers.all_pairs_push, lemmas.Map.Made.IsDistinct-from_AllPairs}
 use Rattle.std.proofs.lemmas.Map.Steps.{length-le_from_distinct_below}
+use Rattle.std.specs.{Prelude.{All, flat_map, replicate, slice_index_or}, List.AllPairs}
 use Rattle.byteorder.specs.Endian.{little_bytes}
 use Rattle.lert_bay.specs.Settled.{part}
 use Rattle.lert_gatelog.specs.Gated.{IsClosed, IsOpen, Records, next_gate}
-use Rattle.lert_spec.specs.declared.numbers.Numbers.{Numbers}
-use Rattle.lert_spec.specs.declared.report.Report.{Report}
-use Rattle.lert_spec.specs.Edges.{capacity}
-use Rattle.lert_spec.specs.Limits.{IsValid}
-use Rattle.lert_spec.specs.Look.{is_listed}
-use Rattle.lert_spec.specs.Mix.{cone_of}
+use Rattle.lert_spec.specs.{declared.numbers.Numbers.Numbers, declared.report.Report.Report, Edges.capacity, Limits.IsValid, Look.is_listed, Mix.cone_of}
 use Rattle.lert_spec.proofs.LimitLaws.{capacity_to}
-use Rattle.lert_reports.specs.declared.log.LogBefore.{LogBefore}
-use Rattle.lert_reports.specs.declared.log.LogKind.{LogKind}
+use Rattle.lert_reports.specs.{declared.log.LogBefore.LogBefore, declared.log.LogKind.LogKind}
 use Rattle.lert_reports.specs.Log.{is_closed, is_closing, is_flush, flushes_in, last_at, last_n0, listed_in, most_record, log_header, before_of, AreRecords, HasLog, HasLogUpTo}
-use Rattle.lert_reports.specs.LogRules.{AreFrames, KeepsRules}
-use Rattle.lert_reports.specs.LogText.{LogRecord, directory_bytes, log_payload_of, report_bytes}
-use Rattle.lert_reports.proofs.LogLaws.{flushes_in-push, is_closed-push, last_directory-push, last_first-push, last_n0-push}
-use Rattle.lert_reports.proofs.LogLaws.{last_offset-push, listed_in-push, payloads-push, records_more, records_none}
-use Rattle.lert_files.specs.declared.log_record.Progress.{Progress}
-use Rattle.lert_files.specs.Read.{most_directory, steps, HasRead}
-use Rattle.lert_files.specs.Repeated.{reports_from, AreNewThere}
-use Rattle.lert_files.proofs.RecordsLaws.{together}
-use Rattle.lert_files.proofs.RepeatLaws.{listed_more}
+use Rattle.lert_reports.specs.{LogRules.{AreFrames, KeepsRules}, LogText.{LogRecord, directory_bytes, log_payload_of, report_bytes}}
+use Rattle.lert_reports.proofs.LogLaws.{flushes_in-push, is_closed-push, last_directory-push, last_first-push, last_n0-push, last_offset-push, listed_in-push, payloads-push, records_more}
+use Rattle.lert_reports.proofs.LogLaws.{records_none}
+use Rattle.lert_files.specs.{declared.log_record.Progress.Progress, Read.{most_directory, steps, HasRead}, Repeated.{reports_from, AreNewThere}}
+use Rattle.lert_files.proofs.{RecordsLaws.together, RepeatLaws.listed_more}
 
 -- ---- keys that are new, all of them
 

@@ -2,16 +2,10 @@
 use Rattle.std.proofs.Common.{ℕ, ◌≡◌, Result, Ok, Err, List, ap, sym, ◌∙◌, subst, inl, inr, ◌⊎◌}
 use Rattle.std.specs.Prelude.{IfOk, IfErr, MatchResult, IsErrOf, IsErrAnd}
 use Rattle.lert_bay.specs.declared.bay.TheConstants.{LOG}
-use Rattle.lert_spec.specs.declared.numbers.Numbers.{Numbers}
-use Rattle.lert_spec.specs.declared.report.Report.{Report}
-use Rattle.lert_spec.specs.Limits.{IsValid}
-use Rattle.lert_reports.specs.Log.{HasLog, LogLeavesAt}
-use Rattle.lert_reports.specs.LogText.{LogRecord}
+use Rattle.lert_spec.specs.{declared.numbers.Numbers.Numbers, declared.report.Report.Report, Limits.IsValid}
+use Rattle.lert_reports.specs.{Log.{HasLog, LogLeavesAt}, LogText.LogRecord, declared.log_point.LogPoint.LogPoint}
 use Rattle.lert_reports.proofs.LogOnce.{one_log, log_or_left, one_left}
-use Rattle.lert_files.specs.declared.fault.ReopenFault.{ReopenFault}
-use Rattle.lert_files.specs.declared.fault.ReopenFault.TheVariants.{Failed, Malformed}
-use Rattle.lert_reports.specs.declared.log_point.LogPoint.{LogPoint}
-use Rattle.lert_files.specs.Read.{IsReadOf, AreReportsUpTo}
+use Rattle.lert_files.specs.{declared.fault.ReopenFault.ReopenFault, declared.fault.ReopenFault.TheVariants.{Failed, Malformed}, Read.{IsReadOf, AreReportsUpTo}}
 use Rattle.lert_files.proofs.RecordsLaws.{reports_up_to}
 
 failed_or_left : (file at : ℕ) → Failed ≡ Malformed file at → ⊥

@@ -5,8 +5,7 @@ use Rattle.std.proofs.Common.{◌⊎◌}
 use Rattle.lert_base.specs.declared.kept.Kept.{Kept}
 use Rattle.lert_bay.specs.declared.bay.TheConstants.{JOURNAL}
 use Rattle.lert_journal.specs.Header.{header, header_left, kept_in}
-use Rattle.lert_files.specs.declared.fault.ReopenFault.{ReopenFault}
-use Rattle.lert_files.specs.declared.fault.ReopenFault.TheVariants.{Malformed, OtherSettings}
+use Rattle.lert_files.specs.{declared.fault.ReopenFault.ReopenFault, declared.fault.ReopenFault.TheVariants.{Malformed, OtherSettings}}
 use Rattle.lert_spec.specs.declared.numbers.Numbers.{Numbers}
 
 -- a file is the header of this cone's journal, and no gate stands behind it

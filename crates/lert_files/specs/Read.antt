@@ -1,15 +1,10 @@
 -- What was read of a log, in the words of its records.
-use Rattle.std.specs.Prelude.{◌≡◌, ◌≢◌, ℕ, ◌+◌, ◌*◌, ◌^◌, ◌≤◌, Bool, true, cond, All, List, slice_index}
-use Rattle.std.specs.List.{AllPairs}
+use Rattle.std.specs.{Prelude.{◌≡◌, ◌≢◌, ℕ, ◌+◌, ◌*◌, ◌^◌, ◌≤◌, Bool, true, cond, All, List, slice_index}, List.AllPairs}
 use Rattle.std.proofs.Common.{◌⊎◌}
 use Rattle.lert_gatelog.specs.Gated.{BreaksAt}
 use Rattle.lert_files.specs.declared.log_record.Progress.{Progress}
-use Rattle.lert_spec.specs.declared.numbers.Numbers.{Numbers}
-use Rattle.lert_spec.specs.declared.report.Report.{Report}
-use Rattle.lert_spec.specs.Edges.{edge, capacity}
-use Rattle.lert_spec.specs.Mix.{cone_of}
-use Rattle.lert_reports.specs.Log.{AreRecords, before_of, is_closed, last_directory, last_first, last_n0, last_offset, listed_in}
-use Rattle.lert_reports.specs.LogText.{LogRecord, directory_bytes}
+use Rattle.lert_spec.specs.{declared.numbers.Numbers.Numbers, declared.report.Report.Report, Edges.{edge, capacity}, Mix.cone_of}
+use Rattle.lert_reports.specs.{Log.{AreRecords, before_of, is_closed, last_directory, last_first, last_n0, last_offset, listed_in}, LogText.{LogRecord, directory_bytes}}
 
 -- this was read of records that keep the rules: the reports of all of them, and what the last one says
 pub record IsReadOf (s : Numbers) (cone n0 offset first : ℕ) (closed : Bool) (reports : List Report) (directory : List ℕ) (records : List LogRecord) : Type 0 where

@@ -1,8 +1,6 @@
 -- The reports in a payload one behind the other, and whether their keys are new.
-use Rattle.std.specs.Prelude.{◌≡◌, ℕ, ◌+◌, ◌*◌, ◌<◌, true, false, List, ◌++◌, map}
-use Rattle.std.specs.List.{range_with_len}
-use Rattle.lert_spec.specs.declared.report.Report.{Report}
-use Rattle.lert_spec.specs.Look.{is_listed}
+use Rattle.std.specs.{Prelude.{◌≡◌, ℕ, ◌+◌, ◌*◌, ◌<◌, true, false, List, ◌++◌, map}, List.range_with_len}
+use Rattle.lert_spec.specs.{declared.report.Report.Report, Look.is_listed}
 use Rattle.lert_reports.specs.LogText.{number_in, report_in}
 
 -- the first n reports of a payload, the first one at a place

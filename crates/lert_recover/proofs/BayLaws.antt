@@ -1,16 +1,11 @@
 -- What an answer, a cone or a refusal, says of a bay, and so of the bay before calls that came first.
 use Rattle.std.proofs.Common.{ℕ, ◌≡◌, ◌≤◌, Bool, Option, Result, Ok, Err, length, ap, sym, ◌∙◌, subst}
 use Rattle.std.specs.Prelude.{IfOk, MatchResult, if◌then◌else◌}
-use Rattle.lert_bay.specs.Files.{Files}
-use Rattle.lert_bay.specs.Kept.{Bays, CallsBay}
+use Rattle.lert_bay.specs.{Files.Files, Kept.{Bays, CallsBay}}
 use Rattle.lert_bay.proofs.KeptLaws.{IsLawful, calls_on}
-use Rattle.lert_cone.specs.declared.state.ConeState.TheVariants.{Finished, Running}
-use Rattle.lert_cone.specs.Replaying.{Replaying, readied}
-use Rattle.lert_cone.specs.Stands.{IsSameCone, Standing}
+use Rattle.lert_cone.specs.{declared.state.ConeState.TheVariants.{Finished, Running}, Replaying.{Replaying, readied}, Stands.{IsSameCone, Standing}}
 use Rattle.lert_spec.specs.declared.numbers.Numbers.{Numbers}
-use Rattle.lert_files.specs.declared.fault.ReopenFault.{ReopenFault}
-use Rattle.lert_files.specs.declared.fault.ReopenFault.TheVariants.{Failed}
-use Rattle.lert_files.specs.Opened.{WritesNothing}
+use Rattle.lert_files.specs.{declared.fault.ReopenFault.ReopenFault, declared.fault.ReopenFault.TheVariants.Failed, Opened.WritesNothing}
 use Rattle.lert_files.proofs.QuietLaws.{quiet_on}
 use Rattle.lert_recover.specs.Replayed.{IsJournalSame}
 use Rattle.lert_recover.proofs.ReplayingLaws.{journal_on, journal_same}

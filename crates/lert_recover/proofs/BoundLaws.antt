@@ -1,26 +1,15 @@
 -- How much of a journal a reopening reads at most that is sound for a list, also where a read of a record fails.
-use Rattle.std.proofs.Common.{ℕ, zero, suc, ◌≡◌, ◌+◌, ◌-◌, ◌*◌, ◌<◌, ◌≤◌, List, [], ◌∷◌, ◌++◌, All, length, refl, ap, sym, ◌∙◌, subst, arith, inl, inr}
-use Rattle.std.proofs.Common.{length-append, append-nil, append_assoc}
-use Rattle.std.proofs.Math.Nat.{pow-zero}
-use Rattle.std.proofs.lemmas.Bool.{cases_eq, cases_lt}
-use Rattle.std.proofs.lemmas.List.{take_at}
-use Rattle.std.proofs.lemmas.List.Elements.{All-cons, All-head, All-nil, All-tail}
+use Rattle.std.proofs.Common.{ℕ, zero, suc, ◌≡◌, ◌+◌, ◌-◌, ◌*◌, ◌<◌, ◌≤◌, List, [], ◌∷◌, ◌++◌, All, length, refl, ap, sym, ◌∙◌, subst, arith, inl, inr, length-append, append-nil, append_assoc}
+use Rattle.std.proofs.{Math.Nat.pow-zero, lemmas.Bool.{cases_eq, cases_lt}, lemmas.List.take_at, lemmas.List.Elements.{All-cons, All-head, All-nil, All-tail}}
 use Rattle.lert_base.specs.Packet.{Packet, events_of}
 use Rattle.lert_bay.specs.Files.{Files}
-use Rattle.lert_cone.specs.declared.journal_places.JournalPlace.{JournalPlace}
-use Rattle.lert_cone.specs.Framed.{last_flush}
-use Rattle.lert_cone.specs.History.{end_of, most_payload}
-use Rattle.lert_cone.specs.Sound.{IsSound, but_last}
-use Rattle.lert_cone.proofs.FlushLaws.{flush_stays, flush_there}
+use Rattle.lert_cone.specs.{declared.journal_places.JournalPlace.JournalPlace, Framed.last_flush, History.{end_of, most_payload}, Sound.{IsSound, but_last}}
+use Rattle.lert_cone.proofs.{FlushLaws.{flush_stays, flush_there}, TallyLaws.next_free, TotalLaws.edge_within}
 use Rattle.lert_recover.proofs.RestBytes.{bytes_few, bytes_of, ends_ahead, events_split}
-use Rattle.lert_cone.proofs.TallyLaws.{next_free}
-use Rattle.lert_cone.proofs.TotalLaws.{edge_within}
 use Rattle.lert_journal.specs.Payload.{IsJournaled}
 use Rattle.lert_reports.specs.Log.{last_n0, last_offset}
 use Rattle.lert_reports.proofs.LogLaws.{ends}
-use Rattle.lert_spec.specs.declared.numbers.Numbers.{Numbers}
-use Rattle.lert_spec.specs.Edges.{edge, span}
-use Rattle.lert_spec.specs.Limits.{IsValid}
+use Rattle.lert_spec.specs.{declared.numbers.Numbers.Numbers, Edges.{edge, span}, Limits.IsValid}
 use Rattle.lert_spec.proofs.EdgeLaws.{edge_never_falls}
 
 -- ---- lists of packets

@@ -1,31 +1,20 @@
 -- A cone is reopened over files that are in their format to their end; else there is one first place, or another header. What
 -- is right of an answer is right the other way round.
-use Rattle.std.proofs.Common.{ℕ, ◌≡◌, ◌-◌, ◌<◌, ◌^◌, Bool, Option, Some, Result, Ok, Err, List, length, refl, ap, sym, ◌∙◌, subst, arith, inl, inr, ◌⊎◌}
+use Rattle.std.proofs.{Common.{ℕ, ◌≡◌, ◌-◌, ◌<◌, ◌^◌, Bool, Option, Some, Result, Ok, Err, List, length, refl, ap, sym, ◌∙◌, subst, arith, inl, inr, ◌⊎◌}, lemmas.Option.same_Some}
 use Rattle.std.specs.Prelude.{All, MatchResult, IfErr, IfOk, IsErrAnd}
-use Rattle.std.proofs.lemmas.Option.{same_Some}
-use Rattle.lert_base.specs.declared.kept.Kept.{Kept}
-use Rattle.lert_base.specs.Packet.{Packet, events_of}
-use Rattle.lert_bay.specs.declared.bay.TheConstants.{JOURNAL, LOG}
-use Rattle.lert_bay.specs.Files.{Files}
-use Rattle.lert_cone.specs.JournalPlaces.{IsPlaceIn, last_place}
-use Rattle.lert_cone.specs.Sound.{IsSound, IsJournal}
-use Rattle.lert_cone.specs.Unread.{unread}
-use Rattle.lert_cone.proofs.UnreadLaws.{length_unread, unread_is}
+use Rattle.lert_base.specs.{declared.kept.Kept.Kept, Packet.{Packet, events_of}}
+use Rattle.lert_bay.specs.{declared.bay.TheConstants.{JOURNAL, LOG}, Files.Files}
+use Rattle.lert_cone.specs.{JournalPlaces.{IsPlaceIn, last_place}, Sound.{IsSound, IsJournal}, Unread.unread}
+use Rattle.lert_cone.proofs.{UnreadLaws.{length_unread, unread_is}, AdoptLaws.place_named}
 use Rattle.lert_gatelog.specs.Gated.{IsClosed}
 use Rattle.lert_levels.specs.declared.rows.bin_at.BinAt.{BinAt}
-use Rattle.lert_reports.specs.Log.{is_closed, last_first, last_n0, last_offset, HasLog}
-use Rattle.lert_reports.specs.LogText.{LogRecord}
+use Rattle.lert_reports.specs.{Log.{is_closed, last_first, last_n0, last_offset, HasLog}, LogText.LogRecord}
 use Rattle.lert_reports.proofs.LogOnce.{one_log}
-use Rattle.lert_spec.specs.declared.numbers.Numbers.{Numbers}
-use Rattle.lert_spec.specs.Limits.{IsValid}
-use Rattle.lert_files.specs.declared.fault.ReopenFault.{ReopenFault}
-use Rattle.lert_files.specs.declared.fault.ReopenFault.TheVariants.{Failed, Malformed, OtherSettings}
-use Rattle.lert_files.specs.Headed.{HasOther}
-use Rattle.lert_files.specs.Opened.{AreOpened}
+use Rattle.lert_spec.specs.{declared.numbers.Numbers.Numbers, Limits.IsValid}
+use Rattle.lert_files.specs.{declared.fault.ReopenFault.ReopenFault, declared.fault.ReopenFault.TheVariants.{Failed, Malformed, OtherSettings}, Headed.HasOther, Opened.AreOpened}
 use Rattle.lert_recover.specs.Replayed.{AreInFormat, FirstLeaves, Before_records, In_records, HasReplayed, JournalEnds, JournalLeavesAt}
 use Rattle.lert_recover.specs.Reopened.{IsReadOn, IsReopened, IsReopenRefused, Of_call, Of_place, Of_header, Of_sight, IsUnsoundAt}
 use Rattle.lert_files.proofs.OpenedLaws.{IsOutside, left_or_other, no_other, one_header, one_place, opened_or_left}
-use Rattle.lert_cone.proofs.AdoptLaws.{place_named}
 use Rattle.lert_recover.proofs.ReplayedLaws.{all_keys, ends_from_start, ends_here, ends_or_leaves, one_journal_place}
 
 module _ (s : Numbers) (cone : ℕ) (valid : IsValid s) (named : cone < 2 ^ s.cone_bits) (below : cone < 2 ^ 32) (seen : Files) where

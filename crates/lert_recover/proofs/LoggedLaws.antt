@@ -1,21 +1,14 @@
 -- The log of a cone that replays its journal, from packet to packet, and what becomes of it through a whole reopening.
 use Rattle.std.proofs.Common.{◌≡◌, ℕ, List, Some, Result, Ok, Err, OnOk, sym, ◌∙◌, subst}
 use Rattle.std.specs.Prelude.{MatchResult}
-use Rattle.lert_bay.specs.declared.bay.TheConstants.{LOG}
-use Rattle.lert_bay.specs.Files.{Files}
-use Rattle.lert_bay.specs.Kept.{Bays, CallsBay}
+use Rattle.lert_bay.specs.{declared.bay.TheConstants.LOG, Files.Files, Kept.{Bays, CallsBay}}
 use Rattle.lert_bay.proofs.KeptLaws.{IsLawful}
-use Rattle.lert_reports.specs.Log.{HasLog}
-use Rattle.lert_reports.specs.LogText.{LogRecord}
+use Rattle.lert_reports.specs.{Log.HasLog, LogText.LogRecord}
 use Rattle.lert_reports.proofs.LogOnce.{one_log}
-use Rattle.lert_spec.specs.declared.numbers.Numbers.{Numbers}
-use Rattle.lert_spec.specs.Limits.{IsValid}
-use Rattle.lert_cone.specs.KeepsLog.{IsHeadOf, KeepsLog, KeepsLogOf, LogHead, head_of}
-use Rattle.lert_cone.specs.Replaying.{IsSameReplay, Replaying}
-use Rattle.lert_cone.specs.Stands.{Standing}
+use Rattle.lert_spec.specs.{declared.numbers.Numbers.Numbers, Limits.IsValid}
+use Rattle.lert_cone.specs.{KeepsLog.{IsHeadOf, KeepsLog, KeepsLogOf, LogHead, head_of}, Replaying.{IsSameReplay, Replaying}, Stands.Standing}
 use Rattle.lert_cone.proofs.KeepsLogSteps.{log_as, log_on}
-use Rattle.lert_recover.specs.Replayed.{IsJournalSame}
-use Rattle.lert_recover.specs.Unharmed.{KeepsLogFrom, KeepsLogIn}
+use Rattle.lert_recover.specs.{Replayed.IsJournalSame, Unharmed.{KeepsLogFrom, KeepsLogIn}}
 
 module _ {B : Type 0} (bays : Bays B) (lawful : IsLawful bays) (start : Replaying B) where
   -- behind what was replayed, one call more

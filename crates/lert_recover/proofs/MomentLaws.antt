@@ -2,14 +2,10 @@
 use Rattle.std.proofs.Common.{◌≡◌, ℕ, Some, Result, Ok, Err, List, arith, subst, sym}
 use Rattle.std.specs.Prelude.{MatchResult}
 use Rattle.lert_base.specs.Packet.{Packet}
-use Rattle.lert_bay.specs.Files.{Files}
-use Rattle.lert_bay.specs.Kept.{Bays, CallsBay, ReadsBay}
+use Rattle.lert_bay.specs.{Files.Files, Kept.{Bays, CallsBay, ReadsBay}}
 use Rattle.lert_bay.proofs.KeptLaws.{IsLawful}
-use Rattle.lert_cone.specs.Sound.{IsSound, StaysSound}
-use Rattle.lert_cone.specs.Replaying.{IsSameReplay, Replaying}
-use Rattle.lert_cone.specs.Stands.{Standing}
-use Rattle.lert_cone.proofs.Calls.{now_since}
-use Rattle.lert_cone.proofs.ReplayCalls.{stays_by, stays_on}
+use Rattle.lert_cone.specs.{Sound.{IsSound, StaysSound}, Replaying.{IsSameReplay, Replaying}, Stands.Standing}
+use Rattle.lert_cone.proofs.{Calls.now_since, ReplayCalls.{stays_by, stays_on}}
 use Rattle.lert_files.specs.Opened.{WritesNothing}
 use Rattle.lert_spec.specs.declared.numbers.Numbers.{Numbers}
 use Rattle.lert_recover.specs.Moments.{AreSound}

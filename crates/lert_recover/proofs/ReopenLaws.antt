@@ -1,45 +1,23 @@
 -- What a cone that is made over files has of them, and why one isn't.
 use Rattle.std.proofs.Common.{ℕ, suc, ◌≡◌, ◌+◌, ◌-◌, ◌≤◌, Bool, Option, Some, Result, Ok, Err, List, [], ◌∷◌, ◌++◌, length, map, take, drop, refl, ap, ap₂, sym, ◌∙◌, subst, arith}
-use Rattle.std.specs.Prelude.{MatchResult, IfErr, IfOk}
 use Rattle.std.proofs.lemmas.List.{append_cancel_left, length-map, length-replicate, length-take-le, take_all, take_at}
-use Rattle.lert_base.specs.declared.kept.Kept.{Kept}
-use Rattle.lert_base.specs.Packet.{Packet, events_of}
-use Rattle.lert_bay.specs.declared.bay.TheConstants.{JOURNAL, LOG, FRAMES}
-use Rattle.lert_bay.specs.Files.{Files}
-use Rattle.lert_bay.specs.Settled.{part, IsSettled}
-use Rattle.lert_cone.specs.History.{most_payload}
-use Rattle.lert_cone.specs.Logged.{frames_of}
-use Rattle.lert_cone.specs.Replay.{IsLastOf}
-use Rattle.lert_cone.specs.Sound.{IsSound}
-use Rattle.lert_cone.specs.Stands.{Standing}
-use Rattle.lert_cone.specs.Unread.{unread}
-use Rattle.lert_cone.specs.Wrote.{IsShut}
-use Rattle.lert_cone.proofs.AdoptLaws.{bins_there}
-use Rattle.lert_cone.proofs.UnreadLaws.{length_unread}
+use Rattle.std.specs.Prelude.{MatchResult, IfErr, IfOk}
+use Rattle.lert_base.specs.{declared.kept.Kept.Kept, Packet.{Packet, events_of}}
+use Rattle.lert_bay.specs.{declared.bay.TheConstants.{JOURNAL, LOG, FRAMES}, Files.Files, Settled.{part, IsSettled}}
+use Rattle.lert_cone.specs.{History.most_payload, Logged.frames_of, Replay.IsLastOf, Sound.IsSound, Stands.Standing, Unread.unread, Wrote.IsShut}
+use Rattle.lert_cone.proofs.{AdoptLaws.bins_there, UnreadLaws.length_unread}
 use Rattle.lert_gatelog.specs.Gated.{IsClosed}
-use Rattle.lert_levels.specs.declared.rows.bin_at.BinAt.{BinAt}
-use Rattle.lert_levels.specs.rows.Loading.{AllStand}
-use Rattle.lert_levels.specs.rows.Named.{IsDirectory}
-use Rattle.lert_levels.specs.rows.Rows.{directory_text, tallied_in, IsAt}
-use Rattle.lert_levels.proofs.rows.CheckLaws.{all_whole}
-use Rattle.lert_levels.proofs.HoldLaws.{rows_stand}
-use Rattle.lert_reports.specs.Log.{is_closed, last_directory, last_first, last_n0, last_offset, AreRecords, HasLog}
-use Rattle.lert_reports.specs.LogText.{LogRecord, directory_bytes}
-use Rattle.lert_reports.proofs.LogLaws.{last_directory-push}
-use Rattle.lert_reports.proofs.LogOnce.{one_log}
-use Rattle.lert_spec.specs.declared.numbers.Numbers.{Numbers}
-use Rattle.lert_spec.specs.declared.report.Report.{Report}
-use Rattle.lert_spec.specs.Limits.{IsValid}
-use Rattle.lert_files.specs.declared.fault.ReopenFault.{ReopenFault}
-use Rattle.lert_files.specs.declared.fault.ReopenFault.TheVariants.{Failed, Malformed, OtherSettings}
-use Rattle.lert_files.specs.Headed.{HasOther, IsHeaded}
-use Rattle.lert_files.specs.Opened.{AreLastRows, AreOpened, IsAsRead, LeaveAt}
-use Rattle.lert_files.specs.Read.{IsReadOf}
+use Rattle.lert_levels.specs.{declared.rows.bin_at.BinAt.BinAt, rows.Loading.AllStand, rows.Named.IsDirectory, rows.Rows.{directory_text, tallied_in, IsAt}}
+use Rattle.lert_levels.proofs.{rows.CheckLaws.all_whole, HoldLaws.rows_stand}
+use Rattle.lert_reports.specs.{Log.{is_closed, last_directory, last_first, last_n0, last_offset, AreRecords, HasLog}, LogText.{LogRecord, directory_bytes}}
+use Rattle.lert_reports.proofs.{LogLaws.last_directory-push, LogOnce.one_log}
+use Rattle.lert_spec.specs.{declared.numbers.Numbers.Numbers, declared.report.Report.Report, Limits.IsValid}
+use Rattle.lert_files.specs.{declared.fault.ReopenFault.ReopenFault, declared.fault.ReopenFault.TheVariants.{Failed, Malformed, OtherSettings}, Headed.{HasOther, IsHeaded}}
+use Rattle.lert_files.specs.{Opened.{AreLastRows, AreOpened, IsAsRead, LeaveAt}, Read.IsReadOf}
 use Rattle.lert_recover.specs.Replayed.{Before_records, In_records, HasReplayed, ReadsRest}
 use Rattle.lert_recover.specs.Reopened.{IsReopened, IsReopenRefused, Of_call, Of_place, Of_header, Of_sight, IsStopped, At_call, At_place, At_sight, most_read}
 use Rattle.lert_recover.proofs.BoundLaws.{read_bound}
-use Rattle.lert_files.proofs.PointLaws.{directed}
-use Rattle.lert_files.proofs.RecordsLaws.{walk}
+use Rattle.lert_files.proofs.{PointLaws.directed, RecordsLaws.walk}
 
 -- ---- every image is what a read gives
 

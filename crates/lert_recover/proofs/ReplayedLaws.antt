@@ -1,19 +1,13 @@
 -- What stands in a journal from a gate on is one of two: packets up to a closed gate, or packets and a place at which the format
 -- is left; and there is one such place.
-use Rattle.std.proofs.Common.{ℕ, ◌≡◌, ◌+◌, ◌≤◌, Bool, List, [], ◌∷◌, ◌++◌, length, map, refl, ap, sym, ◌∙◌, subst, arith, inl, inr, ◌⊎◌}
-use Rattle.std.proofs.Common.{length-append, append-nil, append_assoc}
+use Rattle.std.proofs.Common.{ℕ, ◌≡◌, ◌+◌, ◌≤◌, Bool, List, [], ◌∷◌, ◌++◌, length, map, refl, ap, sym, ◌∙◌, subst, arith, inl, inr, ◌⊎◌, length-append, append-nil, append_assoc}
 use Rattle.std.proofs.lemmas.List.Concat.{flat_map-append}
 use Rattle.lert_base.specs.Packet.{Packet, events_of}
-use Rattle.lert_cone.specs.Framed.{last_flush}
-use Rattle.lert_cone.specs.History.{most_payload, end_of}
-use Rattle.lert_cone.specs.Replay.{MayFollow, ReplayLeavesAt}
-use Rattle.lert_cone.specs.Sound.{IsJournal}
-use Rattle.lert_cone.proofs.GateLaws.{closed_or_leaves, ends_there, is_next, one_packet, one_replay_place, packet_or_leaves}
-use Rattle.lert_cone.proofs.SoundLaws.{counted_more, end_more, events_more}
+use Rattle.lert_cone.specs.{Framed.last_flush, History.{most_payload, end_of}, Replay.{MayFollow, ReplayLeavesAt}, Sound.IsJournal}
+use Rattle.lert_cone.proofs.{GateLaws.{closed_or_leaves, ends_there, is_next, one_packet, one_replay_place, packet_or_leaves}, SoundLaws.{counted_more, end_more, events_more}}
 use Rattle.lert_gatelog.specs.Gated.{IsClosed, IsOpen, Records, next_gate}
 use Rattle.lert_gatelog.proofs.Deciding.{open_or_closed}
-use Rattle.lert_journal.specs.Journal.{HoldsPacket}
-use Rattle.lert_journal.specs.Payload.{payload_of}
+use Rattle.lert_journal.specs.{Journal.HoldsPacket, Payload.payload_of}
 use Rattle.lert_spec.specs.declared.numbers.Numbers.{Numbers}
 use Rattle.lert_recover.specs.Replayed.{AreReplayed, FlushesNothing, HasReplayed, JournalEnds, JournalLeavesAt}
 

@@ -1,24 +1,15 @@
 -- A cone that replays one packet more, or stops.
 use Rattle.std.proofs.Common.{ℕ, ◌≡◌, ◌+◌, ◌-◌, ◌*◌, ◌^◌, ◌<◌, ◌≤◌, Some, Option, List, ◌++◌, length, max, refl, ap, sym, ◌∙◌, subst, arith, length-append}
 use Rattle.lert_base.specs.Packet.{Packet}
-use Rattle.lert_bay.specs.declared.bay.TheConstants.{JOURNAL, FRAMES}
-use Rattle.lert_bay.specs.Files.{Files, IfTold}
-use Rattle.lert_bay.specs.Kept.{Bays, CallsBay}
+use Rattle.lert_bay.specs.{declared.bay.TheConstants.{JOURNAL, FRAMES}, Files.{Files, IfTold}, Kept.{Bays, CallsBay}}
 use Rattle.lert_reports.specs.declared.log_point.LogPoint.{LogPoint}
-use Rattle.lert_cone.specs.Framed.{HoldsSome, last_flush}
-use Rattle.lert_cone.specs.History.{most_payload}
-use Rattle.lert_cone.specs.Listing.{Listing}
-use Rattle.lert_cone.specs.Replay.{MayFollow, ReplayLeavesAt}
-use Rattle.lert_cone.specs.Replaying.{Replaying, IsSameReplay}
-use Rattle.lert_cone.specs.Replays.{BringsNoFlush, HasTaken, IsUnwritten}
-use Rattle.lert_cone.specs.Sound.{IsSound}
+use Rattle.lert_cone.specs.{Framed.{HoldsSome, last_flush}, History.most_payload, Listing.Listing, Replay.{MayFollow, ReplayLeavesAt}, Replaying.{Replaying, IsSameReplay}}
+use Rattle.lert_cone.specs.{Replays.{BringsNoFlush, HasTaken, IsUnwritten}, Sound.IsSound}
 use Rattle.lert_files.specs.Opened.{WritesNothing}
 use Rattle.lert_gatelog.specs.Gated.{IsClosed, IsOpen, next_gate}
-use Rattle.lert_journal.specs.Journal.{HoldsPacket}
-use Rattle.lert_journal.specs.Payload.{payload_of}
+use Rattle.lert_journal.specs.{Journal.HoldsPacket, Payload.payload_of}
 use Rattle.lert_levels.specs.declared.rows.bin_at.BinAt.{BinAt}
-use Rattle.lert_spec.specs.declared.numbers.Numbers.{Numbers}
-use Rattle.lert_spec.specs.Edges.{capacity}
+use Rattle.lert_spec.specs.{declared.numbers.Numbers.Numbers, Edges.capacity}
 use Rattle.lert_recover.specs.Replayed.{FlushesNothing, HasReplayed, IsJournalSame}
 use Rattle.lert_recover.proofs.ReplayedLaws.{none_flushed, replayed_more}
 

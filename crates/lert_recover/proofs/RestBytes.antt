@@ -1,10 +1,7 @@
 -- Packets and the bytes of their records, and how many of a journal are still to be read.
-use Rattle.std.proofs.Common.{◌≡◌, ℕ, ◌+◌, ◌*◌, ◌<◌, ◌≤◌, List, ◌++◌, All, length, ap, ◌∙◌, arith, length-append}
-use Rattle.std.proofs.lemmas.Grind.{flat_map-append}
+use Rattle.std.proofs.{Common.{◌≡◌, ℕ, ◌+◌, ◌*◌, ◌<◌, ◌≤◌, List, ◌++◌, All, length, ap, ◌∙◌, arith, length-append}, lemmas.Grind.flat_map-append}
 use Rattle.lert_base.specs.Packet.{Packet, events_of}
-use Rattle.lert_cone.specs.History.{end_of}
-use Rattle.lert_cone.specs.Replay.{IsPast}
-use Rattle.lert_cone.specs.Short.{few}
+use Rattle.lert_cone.specs.{History.end_of, Replay.IsPast, Short.few}
 
 -- how many bytes the records of these packets take
 abbrev pub bytes_of : List Packet → ℕ

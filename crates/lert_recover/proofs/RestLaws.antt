@@ -1,22 +1,15 @@
 -- What stands at a gate, behind the packets before it.
-use Rattle.std.proofs.Common.{ℕ, ◌≡◌, ◌+◌, ◌-◌, ◌*◌, ◌/◌, ◌<◌, ◌≤◌, ◌^◌, Bool, true, false, None, List, [], ◌∷◌, length, drop, refl, ap, sym}
-use Rattle.std.proofs.Common.{◌∙◌, subst, arith, inl, append-nil}
+use Rattle.std.proofs.Common.{ℕ, ◌≡◌, ◌+◌, ◌-◌, ◌*◌, ◌/◌, ◌<◌, ◌≤◌, ◌^◌, Bool, true, false, None, List, [], ◌∷◌, length, drop, refl, ap, sym, ◌∙◌, subst, arith, inl, append-nil}
+use Rattle.std.proofs.{lemmas.List.get_or-drop, lemmas.List.FromFn.{get_or-map-range_with_len, length-map-range_with_len}}
 use Rattle.std.specs.Prelude.{All, slice_index}
-use Rattle.std.proofs.lemmas.List.{get_or-drop}
-use Rattle.std.proofs.lemmas.List.FromFn.{get_or-map-range_with_len, length-map-range_with_len}
 use Rattle.byteorder.specs.Numbers.{little_from-lt}
 use Rattle.lert_base.specs.Packet.{events_of}
-use Rattle.lert_cone.specs.History.{most_payload}
-use Rattle.lert_cone.specs.Replay.{ReplayLeavesAt, In_record, Past_the_end, Too_many}
+use Rattle.lert_cone.specs.{History.most_payload, Replay.{ReplayLeavesAt, In_record, Past_the_end, Too_many}}
 use Rattle.lert_gatelog.specs.Gated.{IsOpen, BreaksAt, next_gate}
-use Rattle.lert_journal.specs.Journal.{HoldsPacket}
-use Rattle.lert_journal.specs.Payload.{key_in, left, packet_in, payload_of}
+use Rattle.lert_journal.specs.{Journal.HoldsPacket, Payload.{key_in, left, packet_in, payload_of}}
 use Rattle.lert_journal.proofs.PayloadWhole.{payload_back, whole_packet}
-use Rattle.lert_spec.specs.declared.numbers.Numbers.{Numbers}
-use Rattle.lert_spec.specs.Edges.{capacity}
-use Rattle.lert_recover.specs.declared.journal_rest.Found.TheVariants.{Packet as Followed}
-use Rattle.lert_recover.specs.Replayed.{JournalEnds, JournalLeavesAt}
-use Rattle.lert_recover.specs.Rest.{IsFound}
+use Rattle.lert_spec.specs.{declared.numbers.Numbers.Numbers, Edges.capacity}
+use Rattle.lert_recover.specs.{declared.journal_rest.Found.TheVariants.{Packet as Followed}, Replayed.{JournalEnds, JournalLeavesAt}, Rest.IsFound}
 use Rattle.lert_recover.proofs.ReplayedLaws.{ends_behind, later}
 
 -- ---- the packet of a payload that leaves the format nowhere

@@ -1,24 +1,15 @@
 -- The reports of a cone that is reopened, of which those that were shown before are the first.
-use Rattle.std.proofs.Common.{◌≡◌, ℕ, ◌^◌, ◌<◌, ◌≤◌, Bool, true, false, Option, Some, Result, Ok, Err, List, [], ◌∷◌, ◌++◌, length, All, length-append}
-use Rattle.std.proofs.Common.{ap, sym, ◌∙◌, refl, subst, arith}
+use Rattle.std.proofs.Common.{◌≡◌, ℕ, ◌^◌, ◌<◌, ◌≤◌, Bool, true, false, Option, Some, Result, Ok, Err, List, [], ◌∷◌, ◌++◌, length, All, length-append, ap, sym, ◌∙◌, refl, subst, arith}
+use Rattle.std.proofs.{lemmas.List.Concat.flat_map-append, lemmas.List.Elements.{All-head, All-tail}, lemmas.Option.same_Some}
 use Rattle.std.specs.Prelude.{IfOk, MatchResult, if◌then◌else◌}
-use Rattle.std.proofs.lemmas.List.Concat.{flat_map-append}
-use Rattle.std.proofs.lemmas.List.Elements.{All-head, All-tail}
-use Rattle.std.proofs.lemmas.Option.{same_Some}
 use Rattle.lert_base.specs.Packet.{Packet, events_of}
 use Rattle.lert_bay.specs.Files.{Files}
-use Rattle.lert_cone.specs.declared.state.ConeState.TheVariants.{Finished, Running}
-use Rattle.lert_cone.specs.Sound.{IsSound, KeysFit}
-use Rattle.lert_cone.specs.Stands.{Standing, StandsFor, WasSound, is_broken}
+use Rattle.lert_cone.specs.{declared.state.ConeState.TheVariants.{Finished, Running}, Sound.{IsSound, KeysFit}, Stands.{Standing, StandsFor, WasSound, is_broken}}
 use Rattle.lert_cone.proofs.MadeReports.{BeginsWith, closing_begins, look_begins}
 use Rattle.lert_reports.specs.Log.{is_closed}
-use Rattle.lert_spec.specs.declared.numbers.Numbers.{Numbers}
-use Rattle.lert_spec.specs.declared.report.Report.{Report}
-use Rattle.lert_spec.specs.Limits.{IsValid}
-use Rattle.lert_spec.specs.Look.{closing, look, look_to}
+use Rattle.lert_spec.specs.{declared.numbers.Numbers.Numbers, declared.report.Report.Report, Limits.IsValid, Look.{closing, look, look_to}}
 use Rattle.lert_spec.proofs.LookLaws.{AreKeys, look_to-append}
-use Rattle.lert_recover.specs.Replayed.{IsJournalSame}
-use Rattle.lert_recover.specs.Shown.{reports_for}
+use Rattle.lert_recover.specs.{Replayed.IsJournalSame, Shown.reports_for}
 use Rattle.lert_recover.proofs.MomentLaws.{sound_as}
 
 -- ---- keys of 64 bits

@@ -1,33 +1,17 @@
 -- Frames in the format hold the bins of some events: keys with the counts of each bin, put together in the order of positions.
-use Rattle.std.proofs.Common.{ℕ, ◌≡◌, ◌+◌, ◌-◌, ◌*◌, ◌/◌, ◌%◌, ◌^◌, ◌<◌, ◌≤◌, zero, suc, cond, eqb, List, [], ◌∷◌, ◌++◌, length, map, get_or}
-use Rattle.std.proofs.Common.{take, drop, replicate, refl, ap, ap₂, sym, ◌∙◌, arith, lit<, inl, inr, subst, flat_map, slice_range, append_assoc}
+use Rattle.std.proofs.Common.{ℕ, ◌≡◌, ◌+◌, ◌-◌, ◌*◌, ◌/◌, ◌%◌, ◌^◌, ◌<◌, ◌≤◌, zero, suc, cond, eqb, List, [], ◌∷◌, ◌++◌, length, map, get_or, take, drop, replicate, refl, ap, ap₂, sym, ◌∙◌, arith}
+use Rattle.std.proofs.{Common.{lit<, inl, inr, subst, flat_map, slice_range, append_assoc}, Math.Nat.{mul-le-mul_right, mod-eq_of_lt, pow-le-pow_right}, Math.Seq.{take-append_seam, drop-append_seam}}
+use Rattle.std.proofs.{lemmas.Bool.{cases_lt, cases_eq, lt-ltb, le-ltb, eq-eqb, ne_eqb}, lemmas.List.{map-append, length-append}}
+use Rattle.std.proofs.{lemmas.List.Elements.{All-nil, All-cons, All-head, All-tail, All-append, All-take, All-drop}, lemmas.List.Folds.sum_by-replicate}
 use Rattle.std.specs.List.{All}
-use Rattle.std.proofs.Math.Nat.{mul-le-mul_right, mod-eq_of_lt, pow-le-pow_right}
-use Rattle.std.proofs.Math.Seq.{take-append_seam, drop-append_seam}
-use Rattle.std.proofs.lemmas.Bool.{cases_lt, cases_eq, lt-ltb, le-ltb, eq-eqb, ne_eqb}
-use Rattle.std.proofs.lemmas.List.{map-append, length-append}
-use Rattle.std.proofs.lemmas.List.Elements.{All-nil, All-cons, All-head, All-tail, All-append, All-take, All-drop}
-use Rattle.std.proofs.lemmas.List.Folds.{sum_by-replicate}
 use Rattle.lert_frames.specs.Frame.{HoldsFrame}
-use Rattle.lert_spec.specs.declared.numbers.Numbers.{Numbers}
-use Rattle.lert_spec.specs.declared.piece.Piece.{Piece}
-use Rattle.lert_spec.specs.Bins.{tallied}
-use Rattle.lert_spec.specs.Edges.{span, edge, capacity}
-use Rattle.lert_spec.specs.Limits.{IsValid}
-use Rattle.lert_spec.specs.Mix.{tail_of}
+use Rattle.lert_spec.specs.{declared.numbers.Numbers.Numbers, declared.piece.Piece.Piece, Bins.tallied, Edges.{span, edge, capacity}, Limits.IsValid, Mix.tail_of}
 use Rattle.lert_spec.specs.Table.{count_of, total, AscendsFrom, IsTable}
-use Rattle.lert_spec.proofs.EdgeLaws.{span_pos, edge_descends_to}
-use Rattle.lert_spec.proofs.MixLaws.{unmixed, mix-unmixed}
-use Rattle.lert_spec.proofs.Tables.{count_of-below}
+use Rattle.lert_spec.proofs.{EdgeLaws.{span_pos, edge_descends_to}, MixLaws.{unmixed, mix-unmixed}, Tables.count_of-below}
 use Rattle.lert_spec.proofs.TallyLaws.{tails, tails-append, IsTable-tallied, count_of-tallied, total-tallied, one_table, count_of-cons_same, count_of-cons_other}
-use Rattle.lert_levels.specs.declared.rows.bin_at.BinAt.{BinAt}
-use Rattle.lert_levels.specs.rows.Checked.{held_after, EachStands}
-use Rattle.lert_levels.specs.rows.Loading.{width_of}
-use Rattle.lert_levels.specs.rows.Ranges.{Range, range_at, ranges}
+use Rattle.lert_levels.specs.{declared.rows.bin_at.BinAt.BinAt, rows.Checked.{held_after, EachStands}, rows.Loading.width_of, rows.Ranges.{Range, range_at, ranges}}
 use Rattle.lert_levels.specs.rows.Rows.{range_of, IsAt, tallied_in}
-use Rattle.lert_levels.proofs.rows.HeldLaws.{all_stand}
-use Rattle.lert_levels.proofs.rows.RangeLaws.{range_cuts, edge_within, oldest_edge}
-use Rattle.lert_levels.proofs.rows.Windows.{clamp, reaches}
+use Rattle.lert_levels.proofs.{rows.HeldLaws.all_stand, rows.RangeLaws.{range_cuts, edge_within, oldest_edge}, rows.Windows.{clamp, reaches}}
 use Rattle.lert_cone.specs.Framed.{HoldsSome}
 
 -- ---- keys with given counts

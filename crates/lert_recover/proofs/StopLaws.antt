@@ -1,21 +1,12 @@
 -- Why a replay stopped, and what was so of a cone when it was made.
 use Rattle.std.proofs.Common.{ℕ, ◌≡◌, Bool, Option, List, length, refl, ap, ◌∙◌, subst, inl, inr}
-use Rattle.lert_bay.specs.declared.bay.TheConstants.{LOG, FRAMES}
-use Rattle.lert_bay.specs.Files.{Files}
-use Rattle.lert_cone.specs.declared.refusal.ReplayFault.{ReplayFault}
-use Rattle.lert_cone.specs.declared.refusal.ReplayFault.TheVariants.{Failed as ReplayFailed, Malformed as ReplayMalformed, Unsound as ReplayUnsound}
-use Rattle.lert_cone.specs.Replay.{ReplayLeavesAt}
-use Rattle.lert_cone.specs.Replaying.{Replaying, IsSameReplay}
-use Rattle.lert_cone.specs.Sound.{IsSound}
-use Rattle.lert_cone.specs.Stands.{WereSoundAs}
-use Rattle.lert_cone.specs.Tally.{Shows}
+use Rattle.lert_bay.specs.{declared.bay.TheConstants.{LOG, FRAMES}, Files.Files}
+use Rattle.lert_cone.specs.{declared.refusal.ReplayFault.ReplayFault, declared.refusal.ReplayFault.TheVariants.{Failed as ReplayFailed, Malformed as ReplayMalformed, Unsound as ReplayUnsound}}
+use Rattle.lert_cone.specs.{Replay.ReplayLeavesAt, Replaying.{Replaying, IsSameReplay}, Sound.IsSound, Stands.WereSoundAs, Tally.Shows}
 use Rattle.lert_levels.specs.declared.rows.bin_at.BinAt.{BinAt}
-use Rattle.lert_spec.specs.declared.numbers.Numbers.{Numbers}
-use Rattle.lert_spec.specs.declared.report.Report.{Report}
-use Rattle.lert_files.specs.declared.fault.ReopenFault.{ReopenFault}
-use Rattle.lert_files.specs.declared.fault.ReopenFault.TheVariants.{Failed, Malformed}
-use Rattle.lert_recover.specs.Replayed.{HasReplayed, JournalEnds, JournalLeavesAt}
-use Rattle.lert_recover.specs.Reopened.{IsStopped, IsWhy, At_call, At_place, At_sight}
+use Rattle.lert_spec.specs.{declared.numbers.Numbers.Numbers, declared.report.Report.Report}
+use Rattle.lert_files.specs.{declared.fault.ReopenFault.ReopenFault, declared.fault.ReopenFault.TheVariants.{Failed, Malformed}}
+use Rattle.lert_recover.specs.{Replayed.{HasReplayed, JournalEnds, JournalLeavesAt}, Reopened.{IsStopped, IsWhy, At_call, At_place, At_sight}}
 use Rattle.lert_recover.proofs.ReplayedLaws.{ends_from_start, here, leaves_from_start}
 
 -- a replay that stopped at a gate behind what it had replayed

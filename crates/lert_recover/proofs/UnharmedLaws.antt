@@ -1,25 +1,16 @@
 -- What a reopening leaves of the files that it was given, by what stands in them.
-use Rattle.std.proofs.Common.{◌≡◌, ◌<◌, ◌^◌, ℕ, List, Option, Some, None, Result, Ok, Err, refl, sym, ◌∙◌, subst}
+use Rattle.std.proofs.{Common.{◌≡◌, ◌<◌, ◌^◌, ℕ, List, Option, Some, None, Result, Ok, Err, refl, sym, ◌∙◌, subst}, lemmas.Option.{none-some, same_Some}}
 use Rattle.std.specs.Prelude.{IfErr, MatchResult}
-use Rattle.std.proofs.lemmas.Option.{none-some, same_Some}
 use Rattle.lert_base.specs.declared.kept.Kept.{Kept}
-use Rattle.lert_bay.specs.declared.bay.TheConstants.{JOURNAL}
-use Rattle.lert_bay.specs.Files.{Files, IfTold}
-use Rattle.lert_bay.specs.Kept.{Bays}
+use Rattle.lert_bay.specs.{declared.bay.TheConstants.JOURNAL, Files.{Files, IfTold}, Kept.Bays}
 use Rattle.lert_bay.proofs.KeptLaws.{IsLawful, calls_as, reading_none}
-use Rattle.lert_cone.specs.KeepsLog.{KeepsLog}
-use Rattle.lert_cone.specs.Stands.{Standing}
+use Rattle.lert_cone.specs.{KeepsLog.KeepsLog, Stands.Standing}
 use Rattle.lert_cone.proofs.KeepsLogLaws.{keeps_log_none}
-use Rattle.lert_files.specs.declared.fault.ReopenFault.{ReopenFault}
-use Rattle.lert_files.specs.declared.fault.ReopenFault.TheVariants.{Failed, OtherSettings}
-use Rattle.lert_files.specs.Headed.{HasOther}
-use Rattle.lert_files.specs.Opened.{AreOpened, WritesNothing}
-use Rattle.lert_files.proofs.OpenedLaws.{no_other, opened_or_left}
-use Rattle.lert_files.proofs.QuietLaws.{quiet_reading}
+use Rattle.lert_files.specs.{declared.fault.ReopenFault.ReopenFault, declared.fault.ReopenFault.TheVariants.{Failed, OtherSettings}, Headed.HasOther, Opened.{AreOpened, WritesNothing}}
+use Rattle.lert_files.proofs.{OpenedLaws.{no_other, opened_or_left}, QuietLaws.quiet_reading}
 use Rattle.lert_reports.specs.LogText.{LogRecord}
 use Rattle.lert_levels.specs.declared.rows.bin_at.BinAt.{BinAt}
-use Rattle.lert_spec.specs.declared.numbers.Numbers.{Numbers}
-use Rattle.lert_spec.specs.Limits.{IsValid}
+use Rattle.lert_spec.specs.{declared.numbers.Numbers.Numbers, Limits.IsValid}
 use Rattle.lert_recover.specs.Unharmed.{BringsNone, IsUnharmed, KeepsLogIn}
 use Rattle.lert_recover.proofs.BayLaws.{SaysOfBay}
 

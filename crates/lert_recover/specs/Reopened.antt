@@ -1,23 +1,15 @@
 -- What a cone that is reopened says of its files, and why one isn't.
 use Rattle.std.specs.Prelude.{◌≡◌, ℕ, ◌+◌, ◌-◌, ◌*◌, ◌≤◌, Bool, List, Some, length}
 use Rattle.std.proofs.Common.{◌⊎◌}
-use Rattle.lert_base.specs.declared.kept.Kept.{Kept}
-use Rattle.lert_base.specs.Packet.{Packet}
-use Rattle.lert_bay.specs.declared.bay.TheConstants.{JOURNAL, LOG}
-use Rattle.lert_bay.specs.Files.{Files}
-use Rattle.lert_cone.specs.declared.refusal.ReplayFault.{ReplayFault}
-use Rattle.lert_cone.specs.declared.refusal.ReplayFault.TheVariants.{Failed as ReplayFailed, Malformed as ReplayMalformed, Unsound as ReplayUnsound}
-use Rattle.lert_cone.specs.Sound.{IsSound}
-use Rattle.lert_cone.specs.Unread.{unread}
+use Rattle.lert_base.specs.{declared.kept.Kept.Kept, Packet.Packet}
+use Rattle.lert_bay.specs.{declared.bay.TheConstants.{JOURNAL, LOG}, Files.Files}
+use Rattle.lert_cone.specs.{declared.refusal.ReplayFault.ReplayFault, declared.refusal.ReplayFault.TheVariants.{Failed as ReplayFailed, Malformed as ReplayMalformed, Unsound as ReplayUnsound}}
+use Rattle.lert_cone.specs.{Sound.IsSound, Unread.unread}
 use Rattle.lert_gatelog.specs.Gated.{IsClosed}
 use Rattle.lert_levels.specs.declared.rows.bin_at.BinAt.{BinAt}
-use Rattle.lert_files.specs.declared.fault.ReopenFault.{ReopenFault}
-use Rattle.lert_files.specs.declared.fault.ReopenFault.TheVariants.{Failed, Malformed, OtherSettings}
-use Rattle.lert_files.specs.Headed.{HasOther, IsHeaded}
-use Rattle.lert_files.specs.Opened.{AreOpened}
+use Rattle.lert_files.specs.{declared.fault.ReopenFault.ReopenFault, declared.fault.ReopenFault.TheVariants.{Failed, Malformed, OtherSettings}, Headed.{HasOther, IsHeaded}, Opened.AreOpened}
 use Rattle.lert_recover.specs.Replayed.{AreInFormat, FirstLeaves, HasReplayed, JournalEnds, JournalLeavesAt}
-use Rattle.lert_reports.specs.Log.{is_closed, last_first, last_n0, last_offset, HasLog}
-use Rattle.lert_reports.specs.LogText.{LogRecord}
+use Rattle.lert_reports.specs.{Log.{is_closed, last_first, last_n0, last_offset, HasLog}, LogText.LogRecord}
 use Rattle.lert_spec.specs.declared.numbers.Numbers.{Numbers}
 
 -- All of the files is in its format, but for what stands before the record of the journal that the log's last one names. These are

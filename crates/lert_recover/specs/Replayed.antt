@@ -1,20 +1,13 @@
 -- The packets of a journal as they are replayed, and where the files of a cone first leave their format.
 use Rattle.std.specs.Prelude.{◌≡◌, ℕ, ◌+◌, ◌-◌, ◌≤◌, Bool, List, [], ◌∷◌, ◌++◌, length, map, Option}
 use Rattle.lert_base.specs.Packet.{Packet, events_of}
-use Rattle.lert_bay.specs.declared.bay.TheConstants.{JOURNAL}
-use Rattle.lert_bay.specs.Files.{Files, Turns}
-use Rattle.lert_cone.specs.Framed.{last_flush}
-use Rattle.lert_cone.specs.History.{most_payload, end_of}
-use Rattle.lert_cone.specs.Replay.{MayFollow, ReplayLeavesAt}
-use Rattle.lert_cone.specs.Replaying.{Replaying}
-use Rattle.lert_cone.specs.Replays.{Replays}
+use Rattle.lert_bay.specs.{declared.bay.TheConstants.JOURNAL, Files.{Files, Turns}}
+use Rattle.lert_cone.specs.{Framed.last_flush, History.{most_payload, end_of}, Replay.{MayFollow, ReplayLeavesAt}, Replaying.Replaying, Replays.Replays}
 use Rattle.lert_gatelog.specs.Gated.{IsClosed, Records, next_gate}
-use Rattle.lert_journal.specs.Journal.{HoldsPacket}
-use Rattle.lert_journal.specs.Payload.{payload_of}
+use Rattle.lert_journal.specs.{Journal.HoldsPacket, Payload.payload_of}
 use Rattle.lert_levels.specs.declared.rows.bin_at.BinAt.{BinAt}
 use Rattle.lert_files.specs.Opened.{AreOpened, LeaveAt}
-use Rattle.lert_reports.specs.Log.{is_closed, last_first, last_n0, last_offset}
-use Rattle.lert_reports.specs.LogText.{LogRecord}
+use Rattle.lert_reports.specs.{Log.{is_closed, last_first, last_n0, last_offset}, LogText.LogRecord}
 use Rattle.lert_spec.specs.declared.numbers.Numbers.{Numbers}
 
 -- these packets stand one behind the other from a gate on up to another, and each may follow the events before it, of which

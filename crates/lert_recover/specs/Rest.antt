@@ -1,15 +1,11 @@
 -- What stands at a gate of a journal that is read without a cone.
 use Rattle.std.specs.Prelude.{◌≡◌, ℕ, ◌+◌, ◌<◌, ◌≤◌, Bool, List, length}
 use Rattle.lert_base.specs.Packet.{Packet}
-use Rattle.lert_cone.specs.History.{most_payload}
-use Rattle.lert_cone.specs.Replay.{MayFollow, ReplayLeavesAt}
+use Rattle.lert_cone.specs.{History.most_payload, Replay.{MayFollow, ReplayLeavesAt}}
 use Rattle.lert_gatelog.specs.Gated.{IsClosed, next_gate}
-use Rattle.lert_journal.specs.Journal.{HoldsPacket}
-use Rattle.lert_journal.specs.Payload.{payload_of}
-use Rattle.lert_recover.specs.declared.journal_rest.Found.{Found}
-use Rattle.lert_recover.specs.declared.journal_rest.Found.TheVariants.{Packet as Followed, End, Left}
-use Rattle.lert_spec.specs.declared.numbers.Numbers.{Numbers}
-use Rattle.lert_spec.specs.Edges.{capacity}
+use Rattle.lert_journal.specs.{Journal.HoldsPacket, Payload.payload_of}
+use Rattle.lert_recover.specs.{declared.journal_rest.Found.Found, declared.journal_rest.Found.TheVariants.{Packet as Followed, End, Left}}
+use Rattle.lert_spec.specs.{declared.numbers.Numbers.Numbers, Edges.capacity}
 
 -- behind n events: a packet that may follow, up to the next gate; a closed gate with enough events before it; or a place at
 -- which the format is left

@@ -1,9 +1,7 @@
 -- The reports of a cone that is reopened.
 use Rattle.std.specs.Prelude.{Bool, List, if◌then◌else◌}
 use Rattle.lert_base.specs.Packet.{Packet, events_of}
-use Rattle.lert_spec.specs.declared.numbers.Numbers.{Numbers}
-use Rattle.lert_spec.specs.declared.report.Report.{Report}
-use Rattle.lert_spec.specs.Look.{closing, look}
+use Rattle.lert_spec.specs.{declared.numbers.Numbers.Numbers, declared.report.Report.Report, Look.{closing, look}}
 
 -- those of a list of packets: the ones that stand at the end where its log is closed, and else the ones that are made while events
 -- come

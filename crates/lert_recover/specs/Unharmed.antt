@@ -1,16 +1,11 @@
 -- What a reopening leaves of the files that it was given.
 use Rattle.std.specs.Prelude.{ℕ, ◌-◌, List}
 use Rattle.lert_base.specs.declared.kept.Kept.{Kept}
-use Rattle.lert_bay.specs.declared.bay.TheConstants.{JOURNAL, LOG}
-use Rattle.lert_bay.specs.Files.{Files, IfTold}
-use Rattle.lert_bay.specs.Kept.{Bays}
-use Rattle.lert_cone.specs.KeepsLog.{IsHeadOf, KeepsLog, head_of}
-use Rattle.lert_cone.specs.Replaying.{Replaying}
-use Rattle.lert_files.specs.Headed.{HasOther}
-use Rattle.lert_files.specs.Opened.{LeaveAt, WritesNothing}
+use Rattle.lert_bay.specs.{declared.bay.TheConstants.{JOURNAL, LOG}, Files.{Files, IfTold}, Kept.Bays}
+use Rattle.lert_cone.specs.{KeepsLog.{IsHeadOf, KeepsLog, head_of}, Replaying.Replaying}
+use Rattle.lert_files.specs.{Headed.HasOther, Opened.{LeaveAt, WritesNothing}}
 use Rattle.lert_recover.specs.Replayed.{FlushesNothing}
-use Rattle.lert_reports.specs.Log.{last_first, last_n0, last_offset, HasLog}
-use Rattle.lert_reports.specs.LogText.{LogRecord}
+use Rattle.lert_reports.specs.{Log.{last_first, last_n0, last_offset, HasLog}, LogText.LogRecord}
 use Rattle.lert_spec.specs.declared.numbers.Numbers.{Numbers}
 
 -- no flush comes by the journal of files: no flush position above the log's last record lies among the keys from the record on

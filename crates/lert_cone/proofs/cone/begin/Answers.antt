@@ -1,12 +1,8 @@
 -- Each exit is one record; where nothing is written, the bay is as `is_fresh` left it.
-use Rattle.std.proofs.Common.{◌∙◌, ap, sym}
+use Rattle.std.proofs.{Common.{◌∙◌, ap, sym}, lemmas.Result.err_from_is_err_and, lemmas.Bool.false≢true}
 use Rattle.std.specs.Prelude.{is_err}
-use Rattle.std.proofs.lemmas.Result.{err_from_is_err_and}
-use Rattle.std.proofs.lemmas.Bool.{false≢true}
-use Rattle.lert_cone.proofs.Bays.{Bays, bays_of}
+use Rattle.lert_cone.proofs.{Bays.{Bays, bays_of}, BeginLaws.{failed_not_fresh, not_fresh_not_failed, frames_same}, Refusals.{frames_stay_on, no_fault}}
 use Rattle.lert_bay.proofs.KeptLaws.{IsLawful, keeps_as, keeps_on}
-use Rattle.lert_cone.proofs.BeginLaws.{failed_not_fresh, not_fresh_not_failed, frames_same}
-use Rattle.lert_cone.proofs.Refusals.{frames_stay_on, no_fault}
 use Rattle.lert_cone.proofs.cone.begin.Given as given
 use Rattle.lert_cone.proofs.cone.begin.Goals as goal
 

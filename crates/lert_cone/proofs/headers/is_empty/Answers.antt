@@ -1,7 +1,5 @@
-use Rattle.std.proofs.Common.{◌∙◌, ap, sym, length}
+use Rattle.std.proofs.{Common.{◌∙◌, ap, sym, length}, lemmas.Bool.{false≢true, eqb-true, eq-eqb}, lemmas.List.nil_from_length}
 use Rattle.std.specs.Result.{is_err}
-use Rattle.std.proofs.lemmas.Bool.{false≢true, eqb-true, eq-eqb}
-use Rattle.std.proofs.lemmas.List.{nil_from_length}
 use Rattle.lert_cone.proofs.Bays.{Bays, bays_of}
 use Rattle.lert_bay.specs.declared.bay.TheConstants.{JOURNAL}
 use Rattle.lert_bay.proofs.KeptLaws.{IsLawful, reads_as, reads_call}

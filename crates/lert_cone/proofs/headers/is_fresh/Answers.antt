@@ -1,6 +1,5 @@
-use Rattle.std.proofs.Common.{◌≡◌, ◌∙◌, false, true, ap, refl, sym}
+use Rattle.std.proofs.{Common.{◌≡◌, ◌∙◌, false, true, ap, refl, sym}, lemmas.Bool.false≢true}
 use Rattle.std.specs.Result.{is_err}
-use Rattle.std.proofs.lemmas.Bool.{false≢true}
 use Rattle.lert_bay.specs.Kept.{OnlyReads}
 use Rattle.lert_cone.proofs.Bays.{Bays, bays_of}
 use Rattle.lert_bay.proofs.KeptLaws.{IsLawful, reads_as, reads_on}

@@ -1,12 +1,8 @@
-use Rattle.std.proofs.Common.{◌∙◌, ◌++◌, ◌∷◌, [], ap, arith, refl}
+use Rattle.std.proofs.{Common.{◌∙◌, ◌++◌, ◌∷◌, [], ap, arith, refl}, lemmas.Result.err_from_is_err_and, lemmas.Bool.false≢true}
 use Rattle.std.specs.Prelude.{is_err}
-use Rattle.std.proofs.lemmas.Result.{err_from_is_err_and}
-use Rattle.std.proofs.lemmas.Bool.{false≢true}
-use Rattle.lert_cone.proofs.Bays.{Bays, bays_of}
+use Rattle.lert_cone.proofs.{Bays.{Bays, bays_of}, Refusals.{frames_stay, frames_stay_on}, SoundLaws.{turns_back, begun_new}}
 use Rattle.lert_bay.proofs.KeptLaws.{IsLawful, keeps_as, keeps_on}
 use Rattle.lert_gatelog.specs.Kept.{OthersStay}
-use Rattle.lert_cone.proofs.Refusals.{frames_stay, frames_stay_on}
-use Rattle.lert_cone.proofs.SoundLaws.{turns_back, begun_new}
 use Rattle.lert_cone.proofs.headers.write_headers.Given as given
 use Rattle.lert_cone.proofs.headers.write_headers.Goals as goal
 

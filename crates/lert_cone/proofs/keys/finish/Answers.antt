@@ -1,7 +1,6 @@
 use Rattle.std.proofs.Common.{length}
-use Rattle.lert_cone.proofs.Bays.{Bays, bays_of}
+use Rattle.lert_cone.proofs.{Bays.{Bays, bays_of}, EndTaken.{end_refused, can_log_end, close_failed, end_taken}}
 use Rattle.lert_bay.proofs.KeptLaws.{IsLawful}
-use Rattle.lert_cone.proofs.EndTaken.{end_refused, can_log_end, close_failed, end_taken}
 use Rattle.lert_cone.proofs.keys.finish.Given as given
 use Rattle.lert_cone.proofs.keys.finish.Goals as goal
 

@@ -1,5 +1,4 @@
-use Rattle.std.proofs.Common.{◌<◌, ◌^◌, get_or, arith, rules}
-use Rattle.std.proofs.lemmas.Grind.{get_or_default_zero}
+use Rattle.std.proofs.{Common.{◌<◌, ◌^◌, get_or, arith, rules}, lemmas.Grind.get_or_default_zero}
 use Rattle.lert_cone.proofs.keys.keys_of.Goals as goal
 
 pub returns-clause-fit : goal.returns-clause-fit

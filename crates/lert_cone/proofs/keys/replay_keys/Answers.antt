@@ -1,16 +1,9 @@
-use Rattle.std.proofs.Common.{◌≡◌, ◌∙◌, ℕ, ◌-◌, ◌<◌, ◌≤◌, ◌++◌, List, All, length, drop, min, Ok, ap, sym, subst, arith, length-append}
-use Rattle.std.proofs.lemmas.Bool.{eqb-false, eqb-true}
+use Rattle.std.proofs.{Common.{◌≡◌, ◌∙◌, ℕ, ◌-◌, ◌<◌, ◌≤◌, ◌++◌, List, All, length, drop, min, Ok, ap, sym, subst, arith, length-append}, lemmas.Bool.{eqb-false, eqb-true}}
 use Rattle.std.proofs.lemmas.List.Elements.{All-take}
-use Rattle.lert_spec.specs.Mix.{cone_of}
-use Rattle.lert_cone.proofs.Bays.{Bays, bays_of}
-use Rattle.lert_spec.specs.declared.numbers.Numbers.{Numbers}
-use Rattle.lert_spec.specs.Edges.{capacity}
-use Rattle.lert_cone.specs.Listing.{Listing}
-use Rattle.lert_cone.specs.JournalPlaces.{HasPassed}
-use Rattle.lert_cone.specs.Record.{LogPlace}
-use Rattle.lert_cone.specs.Takes.{CanTake, ReplaysKeys, TakesKeys}
+use Rattle.lert_spec.specs.{Mix.cone_of, declared.numbers.Numbers.Numbers, Edges.capacity}
+use Rattle.lert_cone.proofs.{Bays.{Bays, bays_of}, KeysReplayed.{all_again, can_take_ahead, others_ahead}}
+use Rattle.lert_cone.specs.{Listing.Listing, JournalPlaces.HasPassed, Record.LogPlace, Takes.{CanTake, ReplaysKeys, TakesKeys}}
 use Rattle.lert_bay.proofs.KeptLaws.{IsLawful}
-use Rattle.lert_cone.proofs.KeysReplayed.{all_again, can_take_ahead, others_ahead}
 use Rattle.lert_cone.proofs.keys.replay_keys.Given as given
 use Rattle.lert_cone.proofs.keys.replay_keys.Goals as goal
 

@@ -1,7 +1,6 @@
 use Rattle.std.proofs.Common.{length}
-use Rattle.lert_cone.proofs.Bays.{Bays, bays_of}
+use Rattle.lert_cone.proofs.{Bays.{Bays, bays_of}, KeysTaken.{takes_none, next_can, next_takes, next_refused, all_taken}}
 use Rattle.lert_bay.proofs.KeptLaws.{IsLawful}
-use Rattle.lert_cone.proofs.KeysTaken.{takes_none, next_can, next_takes, next_refused, all_taken}
 use Rattle.lert_cone.proofs.keys.take_keys.Given as given
 use Rattle.lert_cone.proofs.keys.take_keys.Goals as goal
 

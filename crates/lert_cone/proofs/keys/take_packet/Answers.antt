@@ -1,10 +1,9 @@
 use Rattle.std.proofs.Common.{◌+◌, ◌^◌, ◌<◌, ℕ, List, All, length, ap, subst, sym, arith}
 use Rattle.lert_base.specs.Entries.{packet_of}
 use Rattle.lert_gatelog.specs.Gated.{IsClosed}
-use Rattle.lert_cone.proofs.Bays.{Bays, bays_of}
+use Rattle.lert_cone.proofs.{Bays.{Bays, bays_of}, PacketTaken.{appends_ok, packet_refused, can_take_then, packet_taken}}
 use Rattle.lert_cone.specs.Takes.{CanTake, TakesKeys}
 use Rattle.lert_bay.proofs.KeptLaws.{IsLawful}
-use Rattle.lert_cone.proofs.PacketTaken.{appends_ok, packet_refused, can_take_then, packet_taken}
 use Rattle.lert_cone.proofs.keys.take_packet.Given as given
 use Rattle.lert_cone.proofs.keys.take_packet.Goals as goal
 

@@ -1,9 +1,7 @@
 use Rattle.std.proofs.Common.{◌∙◌, length, ap, arith}
 use Rattle.lert_reports.specs.Stored.{Stored}
-use Rattle.lert_spec.specs.declared.numbers.Numbers.{Numbers}
-use Rattle.lert_spec.specs.declared.report.Report.{Report}
-use Rattle.lert_cone.proofs.RecordLaws.{record_fits, same_record}
-use Rattle.lert_cone.proofs.Bays.{Bays, bays_of}
+use Rattle.lert_spec.specs.{declared.numbers.Numbers.Numbers, declared.report.Report.Report}
+use Rattle.lert_cone.proofs.{RecordLaws.{record_fits, same_record}, Bays.{Bays, bays_of}}
 use Rattle.lert_cone.proofs.keys.write_record.Given as given
 use Rattle.lert_cone.proofs.keys.write_record.Goals as goal
 

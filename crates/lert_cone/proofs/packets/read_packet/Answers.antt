@@ -1,23 +1,13 @@
-use Rattle.std.proofs.Common.{◌≡◌, ◌∙◌, ℕ, ◌+◌, ◌*◌, ◌<◌, ◌≤◌, ◌^◌, All, Bool, List, true, false, ap, arith, inl, inr}
-use Rattle.std.proofs.Common.{length, Err, IsErrOf, subst, sym}
-use Rattle.std.proofs.lemmas.Bool.{false≢true, true≢false}
+use Rattle.std.proofs.{Common.{◌≡◌, ◌∙◌, ℕ, ◌+◌, ◌*◌, ◌<◌, ◌≤◌, ◌^◌, All, Bool, List, true, false, ap, arith, inl, inr, length, Err, IsErrOf, subst, sym}, lemmas.Bool.{false≢true, true≢false}}
 use Rattle.std.proofs.lemmas.Result.{err_from_is_err_and}
-use Rattle.lert_base.specs.Entries.{packet_of}
-use Rattle.lert_base.specs.Packet.{Packet}
+use Rattle.lert_base.specs.{Entries.packet_of, Packet.Packet}
 use Rattle.lert_bay.specs.Files.{Files}
-use Rattle.lert_cone.proofs.Bays.{Bays, bays_of}
+use Rattle.lert_cone.proofs.{Bays.{Bays, bays_of}, ReadCosts.{ended_cost, found_cost, journal_up_to, same_cost}, Refusals.{no_fault, one_fault}}
 use Rattle.lert_bay.proofs.KeptLaws.{IsLawful, reading_as}
-use Rattle.lert_gatelog.specs.declared.fault.LogFault.{LogFault}
-use Rattle.lert_gatelog.specs.declared.fault.LogFault.TheVariants.{Failed, Malformed}
-use Rattle.lert_gatelog.specs.Gated.{IsClosed, IsOpen, Log}
-use Rattle.lert_journal.specs.Journal.{HoldsPacket, LeavesAt}
-use Rattle.lert_journal.specs.Payload.{IsJournaled, payload_of}
-use Rattle.lert_spec.specs.declared.numbers.Numbers.{Numbers}
-use Rattle.lert_spec.specs.Edges.{capacity}
-use Rattle.lert_cone.specs.History.{most_payload}
-use Rattle.lert_cone.specs.Replay.{In_record, MayFollow, Past_the_end, Too_few, Too_many}
-use Rattle.lert_cone.proofs.ReadCosts.{ended_cost, found_cost, journal_up_to, same_cost}
-use Rattle.lert_cone.proofs.Refusals.{no_fault, one_fault}
+use Rattle.lert_gatelog.specs.{declared.fault.LogFault.LogFault, declared.fault.LogFault.TheVariants.{Failed, Malformed}, Gated.{IsClosed, IsOpen, Log}}
+use Rattle.lert_journal.specs.{Journal.{HoldsPacket, LeavesAt}, Payload.{IsJournaled, payload_of}}
+use Rattle.lert_spec.specs.{declared.numbers.Numbers.Numbers, Edges.capacity}
+use Rattle.lert_cone.specs.{History.most_payload, Replay.{In_record, MayFollow, Past_the_end, Too_few, Too_many}}
 use Rattle.lert_cone.proofs.packets.read_packet.Given as given
 use Rattle.lert_cone.proofs.packets.read_packet.Goals as goal
 

@@ -1,18 +1,11 @@
-use Rattle.std.proofs.Common.{ℕ, ◌≤◌, Err, refl, ap, sym, ◌∙◌, subst, arith}
-use Rattle.std.proofs.lemmas.Result.{err_from_is_err_and}
-use Rattle.lert_levels.specs.rows.Checked.{EachStands}
-use Rattle.lert_levels.specs.OnDisk.{OnDisk}
-use Rattle.lert_levels.specs.rows.Named.{IsDirectory}
-use Rattle.lert_levels.specs.rows.Rows.{IsAt, AreRows}
-use Rattle.lert_spec.specs.declared.numbers.Numbers.{Numbers}
-use Rattle.lert_spec.specs.Edges.{capacity}
+use Rattle.std.proofs.{Common.{ℕ, ◌≤◌, Err, refl, ap, sym, ◌∙◌, subst, arith}, lemmas.Result.err_from_is_err_and}
+use Rattle.lert_levels.specs.{rows.Checked.EachStands, OnDisk.OnDisk, rows.Named.IsDirectory, rows.Rows.{IsAt, AreRows}}
+use Rattle.lert_spec.specs.{declared.numbers.Numbers.Numbers, Edges.capacity}
 use Rattle.lert_bay.specs.declared.bay.TheConstants.{JOURNAL, FRAMES}
-use Rattle.lert_files.proofs.Bays.{Bays, bays_of}
+use Rattle.lert_files.proofs.{Bays.{Bays, bays_of}, GateLaws.{err_is, not_err, same_fault}, OpenedLaws.{check_failed, check_refused, header_refused, log_refused, opened_of}}
+use Rattle.lert_files.proofs.QuietLaws.{quiet_as, quiet_on, quiet_reading, quiet_reads}
 use Rattle.lert_bay.proofs.KeptLaws.{IsLawful, reading_as, reads_as}
 use Rattle.lert_files.specs.Opened.{By_call}
-use Rattle.lert_files.proofs.GateLaws.{err_is, not_err, same_fault}
-use Rattle.lert_files.proofs.OpenedLaws.{check_failed, check_refused, header_refused, log_refused, opened_of}
-use Rattle.lert_files.proofs.QuietLaws.{quiet_as, quiet_on, quiet_reading, quiet_reads}
 use Rattle.lert_files.proofs.files.read_in_order.Given as given
 use Rattle.lert_files.proofs.files.read_in_order.Goals as goal
 

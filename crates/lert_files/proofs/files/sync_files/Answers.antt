@@ -1,8 +1,7 @@
 use Rattle.std.proofs.Common.{refl, ◌∙◌}
 use Rattle.lert_bay.specs.declared.bay.TheConstants.{JOURNAL, LOG, FRAMES}
-use Rattle.lert_files.proofs.Bays.{Bays, bays_of}
+use Rattle.lert_files.proofs.{Bays.{Bays, bays_of}, QuietLaws.{all_durable, quiet_on, quiet_sync}}
 use Rattle.lert_bay.proofs.KeptLaws.{IsLawful}
-use Rattle.lert_files.proofs.QuietLaws.{all_durable, quiet_on, quiet_sync}
 use Rattle.lert_files.proofs.files.sync_files.Given as given
 use Rattle.lert_files.proofs.files.sync_files.Goals as goal
 

@@ -1,5 +1,4 @@
-use Rattle.std.proofs.Common.{take, ap, sym, ◌∙◌, inl, arith, refl}
-use Rattle.std.proofs.lemmas.List.{take-take}
+use Rattle.std.proofs.{Common.{take, ap, sym, ◌∙◌, inl, arith, refl}, lemmas.List.take-take}
 use Rattle.lert_files.proofs.HeadLaws.{front_read, read_whole, whole_file, gateless_there, fault_there, headed_there}
 use Rattle.lert_files.proofs.journal_header.check_header.Goals as goal
 

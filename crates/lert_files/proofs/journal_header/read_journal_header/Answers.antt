@@ -1,12 +1,8 @@
-use Rattle.std.proofs.Common.{◌≡◌, Some, Ok, min, length, refl, ◌∙◌, arith, subst, inl, inr}
-use Rattle.std.proofs.lemmas.Result.{err_from_is_err_and, IfErr-weaker}
-use Rattle.lert_bay.specs.declared.bay.TheConstants.{JOURNAL}
-use Rattle.lert_bay.specs.Files.{Files}
+use Rattle.std.proofs.{Common.{◌≡◌, Some, Ok, min, length, refl, ◌∙◌, arith, subst, inl, inr}, lemmas.Result.{err_from_is_err_and, IfErr-weaker}}
+use Rattle.lert_bay.specs.{declared.bay.TheConstants.JOURNAL, Files.Files}
 use Rattle.lert_spec.specs.Limits.{IsValid}
-use Rattle.lert_files.proofs.Bays.{Bays, bays_of}
-use Rattle.lert_bay.proofs.HandedLaws.{up_to_on, up_to_room, up_to_same}
-use Rattle.lert_bay.proofs.KeptLaws.{IsLawful, reading_call, reading_on}
-use Rattle.lert_files.proofs.HeadLaws.{told, headed_back, left_back, other_back, read_front}
+use Rattle.lert_files.proofs.{Bays.{Bays, bays_of}, HeadLaws.{told, headed_back, left_back, other_back, read_front}}
+use Rattle.lert_bay.proofs.{HandedLaws.{up_to_on, up_to_room, up_to_same}, KeptLaws.{IsLawful, reading_call, reading_on}}
 use Rattle.lert_files.proofs.journal_header.read_journal_header.Given as given
 use Rattle.lert_files.proofs.journal_header.read_journal_header.Goals as goal
 

@@ -1,15 +1,11 @@
-use Rattle.std.proofs.Common.{◌+◌, ◌-◌, ◌*◌, ◌<◌, [], ◌∷◌, ◌++◌, ap, ◌∙◌, arith, replicate, refl}
-use Rattle.std.proofs.lemmas.Result.{err_from_is_err_and}
+use Rattle.std.proofs.{Common.{◌+◌, ◌-◌, ◌*◌, ◌<◌, [], ◌∷◌, ◌++◌, ap, ◌∙◌, arith, replicate, refl}, lemmas.Result.err_from_is_err_and}
 use Rattle.lert_gatelog.specs.Gated.{Log}
-use Rattle.lert_spec.specs.declared.numbers.Numbers.{Numbers}
-use Rattle.lert_spec.specs.Edges.{capacity}
-use Rattle.lert_reports.specs.Log.{most_record}
-use Rattle.lert_reports.specs.Stored.{Stored}
+use Rattle.lert_spec.specs.{declared.numbers.Numbers.Numbers, Edges.capacity}
+use Rattle.lert_reports.specs.{Log.most_record, Stored.Stored}
 use Rattle.lert_bay.specs.declared.bay.TheConstants.{LOG}
 use Rattle.lert_bay.proofs.KeptLaws.{IsLawful, reads_as, reads_none, reads_on}
 use Rattle.lert_files.specs.Read.{steps}
-use Rattle.lert_files.proofs.GateLaws.{not_err, same_fault}
-use Rattle.lert_files.proofs.StepLaws.{near, read_none, read_still, up_none, steps_few, whole_log}
+use Rattle.lert_files.proofs.{GateLaws.{not_err, same_fault}, StepLaws.{near, read_none, read_still, up_none, steps_few, whole_log}}
 use Rattle.lert_files.proofs.log.read_records.Given as given
 use Rattle.lert_files.proofs.log.read_records.Invariants.{bays}
 use Rattle.lert_files.proofs.log.read_records.Goals as goal

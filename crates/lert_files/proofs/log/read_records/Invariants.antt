@@ -1,12 +1,8 @@
 use Rattle.std.proofs.Common.{◌≡◌, ◌+◌, ◌-◌, ◌*◌, ◌≤◌, Some, List}
-use Rattle.lert_bay.specs.declared.bay.TheConstants.{LOG}
-use Rattle.lert_bay.specs.Files.{Files}
-use Rattle.lert_bay.specs.Settled.{part}
-use Rattle.lert_bay.specs.Kept.{OnlyReads}
+use Rattle.lert_bay.specs.{declared.bay.TheConstants.LOG, Files.Files, Settled.part, Kept.OnlyReads}
 use Rattle.lert_files.proofs.Bays.{Bays, bays_of}
 use Rattle.lert_spec.specs.Edges.{capacity}
-use Rattle.lert_reports.specs.Log.{log_header, most_record, HasLogUpTo}
-use Rattle.lert_reports.specs.LogText.{LogRecord}
+use Rattle.lert_reports.specs.{Log.{log_header, most_record, HasLogUpTo}, LogText.LogRecord}
 use Rattle.lert_files.specs.Read.{steps, HasRead}
 use Rattle.lert_files.proofs.log.read_records.Given as goal
 

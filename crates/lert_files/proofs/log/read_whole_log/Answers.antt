@@ -1,16 +1,9 @@
-use Rattle.std.proofs.Common.{◌≡◌, Some, Err, List, ℕ, refl, ap, ◌∙◌, subst}
-use Rattle.std.proofs.lemmas.Result.{err_from_is_err_and, IfOk-weaker}
-use Rattle.lert_bay.specs.declared.bay.TheConstants.{LOG}
-use Rattle.lert_bay.specs.Files.{Files}
-use Rattle.lert_bay.specs.Settled.{part}
+use Rattle.std.proofs.{Common.{◌≡◌, Some, Err, List, ℕ, refl, ap, ◌∙◌, subst}, lemmas.Result.{err_from_is_err_and, IfOk-weaker}}
+use Rattle.lert_bay.specs.{declared.bay.TheConstants.LOG, Files.Files, Settled.part}
 use Rattle.lert_spec.specs.Limits.{IsValid}
-use Rattle.lert_reports.specs.Log.{log_header, HasLog, In_header}
-use Rattle.lert_reports.specs.LogText.{LogRecord}
-use Rattle.lert_files.proofs.Bays.{Bays, bays_of}
+use Rattle.lert_reports.specs.{Log.{log_header, HasLog, In_header}, LogText.LogRecord}
+use Rattle.lert_files.proofs.{Bays.{Bays, bays_of}, GateLaws.same_fault, PointLaws.{directs, points}, WholeLaws.{header_back, header_refuses, left_back, log_refused, up_to, whole_back}}
 use Rattle.lert_bay.proofs.KeptLaws.{IsLawful, reads_as, reads_on}
-use Rattle.lert_files.proofs.GateLaws.{same_fault}
-use Rattle.lert_files.proofs.PointLaws.{directs, points}
-use Rattle.lert_files.proofs.WholeLaws.{header_back, header_refuses, left_back, log_refused, up_to, whole_back}
 use Rattle.lert_files.proofs.log.read_whole_log.Given as given
 use Rattle.lert_files.proofs.log.read_whole_log.Goals as goal
 

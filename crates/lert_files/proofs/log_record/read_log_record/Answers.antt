@@ -1,15 +1,9 @@
-use Rattle.std.proofs.Common.{ℕ, ◌≡◌, ◌+◌, true, false, length, take, refl, ap, sym, ◌∙◌, subst, arith, inr}
-use Rattle.std.proofs.lemmas.Bool.{true≢false}
-use Rattle.std.proofs.lemmas.List.{length-take-le}
-use Rattle.std.proofs.lemmas.Result.{err_from_is_err_and}
+use Rattle.std.proofs.{Common.{ℕ, ◌≡◌, ◌+◌, true, false, length, take, refl, ap, sym, ◌∙◌, subst, arith, inr}, lemmas.Bool.true≢false, lemmas.List.length-take-le, lemmas.Result.err_from_is_err_and}
 use Rattle.lert_gatelog.specs.Gated.{IsOpen, Log}
-use Rattle.lert_reports.specs.Log.{most_record, HasLogUpTo}
-use Rattle.lert_reports.specs.LogText.{log_payload_of}
+use Rattle.lert_reports.specs.{Log.{most_record, HasLogUpTo}, LogText.log_payload_of}
 use Rattle.lert_bay.specs.declared.bay.TheConstants.{LOG}
-use Rattle.lert_files.proofs.Bays.{Bays, bays_of}
+use Rattle.lert_files.proofs.{Bays.{Bays, bays_of}, GateLaws.{same_place, same_fault, not_err, malformed_or_failed, gate_leaves, payload_leaves}, StepLaws.up_more}
 use Rattle.lert_bay.proofs.KeptLaws.{IsLawful, reads_as}
-use Rattle.lert_files.proofs.GateLaws.{same_place, same_fault, not_err, malformed_or_failed, gate_leaves, payload_leaves}
-use Rattle.lert_files.proofs.StepLaws.{up_more}
 use Rattle.lert_files.proofs.log_record.read_log_record.Given as given
 use Rattle.lert_files.proofs.log_record.read_log_record.Goals as goal
 

@@ -1,18 +1,10 @@
-use Rattle.std.proofs.Common.{ℕ, ◌≡◌, ◌≢◌, ◌-◌, ◌++◌, Some, None, length, take, drop, ap, sym, ◌∙◌, subst, arith}
-use Rattle.std.specs.Prelude.{All}
-use Rattle.std.specs.List.{AllPairs}
-use Rattle.std.proofs.lemmas.List.Elements.{All-append}
-use Rattle.std.proofs.lemmas.Option.{none-some}
-use Rattle.lert_spec.specs.declared.numbers.Numbers.{Numbers}
-use Rattle.lert_spec.specs.declared.report.Report.{Report}
-use Rattle.lert_spec.specs.Limits.{IsValid}
-use Rattle.lert_spec.specs.Mix.{cone_of}
-use Rattle.lert_reports.specs.LogRules.{record_in}
-use Rattle.lert_reports.specs.LogText.{log_left}
+use Rattle.std.proofs.{Common.{ℕ, ◌≡◌, ◌≢◌, ◌-◌, ◌++◌, Some, None, length, take, drop, ap, sym, ◌∙◌, subst, arith}, lemmas.List.Elements.All-append, lemmas.Option.none-some}
+use Rattle.std.specs.{Prelude.All, List.AllPairs}
+use Rattle.lert_spec.specs.{declared.numbers.Numbers.Numbers, declared.report.Report.Report, Limits.IsValid, Mix.cone_of}
+use Rattle.lert_reports.specs.{LogRules.record_in, LogText.log_left}
 use Rattle.lert_reports.proofs.RecordLaws.{parts_tell}
 use Rattle.lert_files.specs.Repeated.{reports_from, IsListedThere, AreNewThere}
-use Rattle.lert_files.proofs.LeavesLaws.{first_again}
-use Rattle.lert_files.proofs.RepeatLaws.{length_from}
+use Rattle.lert_files.proofs.{LeavesLaws.first_again, RepeatLaws.length_from}
 use Rattle.lert_files.proofs.StepLaws.{all_new, counted, directory_fits, directory_there, flushes_few, listed_of_cone, most_directory_fits, read_more, steps_more, IsAfter}
 use Rattle.lert_files.proofs.log_record.take_record.Goals as goal
 

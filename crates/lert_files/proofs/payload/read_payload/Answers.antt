@@ -1,11 +1,9 @@
 use Rattle.std.proofs.Common.{◌≡◌, ◌≤◌, ℕ, Err, take, refl, ap, sym, ◌∙◌, subst, inl, inr}
 use Rattle.lert_gatelog.specs.Gated.{IsOpen, IsClosed, BreaksAt}
 use Rattle.lert_bay.specs.declared.bay.TheConstants.{LOG}
-use Rattle.lert_files.proofs.Bays.{Bays, bays_of}
+use Rattle.lert_files.proofs.{Bays.{Bays, bays_of}, GateLaws.{failed_or_malformed, gate_left, malformed_or_failed, not_err, same_place}, QuietLaws.log_reads}
 use Rattle.lert_bay.proofs.KeptLaws.{IsLawful, reads_as}
 use Rattle.lert_files.specs.Read.{GateLeavesAt}
-use Rattle.lert_files.proofs.GateLaws.{failed_or_malformed, gate_left, malformed_or_failed, not_err, same_place}
-use Rattle.lert_files.proofs.QuietLaws.{log_reads}
 use Rattle.lert_files.proofs.payload.read_payload.Given as given
 use Rattle.lert_files.proofs.payload.read_payload.Goals as goal
 

@@ -1,13 +1,9 @@
 use Rattle.std.proofs.Common.{ℕ, ◌≡◌, ◌-◌, ◌/◌, ◌≤◌, ◌++◌, ap, ap₂, sym, ◌∙◌, subst, arith}
 use Rattle.std.specs.Prelude.{All}
-use Rattle.lert_spec.specs.declared.numbers.Numbers.{Numbers}
-use Rattle.lert_spec.specs.Edges.{capacity}
-use Rattle.lert_spec.specs.Look.{is_listed}
-use Rattle.lert_spec.specs.Mix.{cone_of}
+use Rattle.lert_spec.specs.{declared.numbers.Numbers.Numbers, Edges.capacity, Look.is_listed, Mix.cone_of}
 use Rattle.lert_reports.specs.Log.{before_of}
 use Rattle.lert_files.specs.Repeated.{reports_from, IsListedThere, AreNewThere}
-use Rattle.lert_files.proofs.LeftLaws.{long_enough, within_capacity}
-use Rattle.lert_files.proofs.LeavesLaws.{breaks_behind, behind_new, at_key, among, all_of_cone, key_of_cone, next_key, place_small}
+use Rattle.lert_files.proofs.{LeftLaws.{long_enough, within_capacity}, LeavesLaws.{breaks_behind, behind_new, at_key, among, all_of_cone, key_of_cone, next_key, place_small}}
 use Rattle.lert_files.proofs.reports.first_left.Goals as goal
 
 pub number_in-requires : goal.number_in-requires

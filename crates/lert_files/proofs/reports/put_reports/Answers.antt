@@ -1,11 +1,7 @@
 use Rattle.std.proofs.Common.{◌≡◌, ◌+◌, ◌*◌, ◌++◌, ℕ, [], ◌∷◌, length, ap, ap₂, sym, ◌∙◌, subst, arith, length-append}
 use Rattle.std.specs.Prelude.{All}
-use Rattle.lert_spec.specs.declared.numbers.Numbers.{Numbers}
-use Rattle.lert_spec.specs.declared.report.Report.{Report}
-use Rattle.lert_spec.specs.Look.{is_listed}
-use Rattle.lert_spec.specs.Mix.{cone_of}
-use Rattle.lert_reports.specs.Stored.{Stored}
-use Rattle.lert_reports.specs.LogText.{number_in}
+use Rattle.lert_spec.specs.{declared.numbers.Numbers.Numbers, declared.report.Report.Report, Look.is_listed, Mix.cone_of}
+use Rattle.lert_reports.specs.{Stored.Stored, LogText.number_in}
 use Rattle.lert_files.specs.Repeated.{reports_from, IsNewThere}
 use Rattle.lert_files.proofs.RepeatLaws.{length_from, listed_more, new_more, of_one_cone}
 use Rattle.lert_files.proofs.reports.put_reports.Goals as goal

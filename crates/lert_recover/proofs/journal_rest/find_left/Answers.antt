@@ -1,13 +1,10 @@
-use Rattle.std.proofs.Common.{◌+◌, ◌*◌, ◌^◌, ◌≤◌, ◌∙◌, ap, arith, subst, sym}
-use Rattle.std.proofs.lemmas.Result.{err_from_is_err_and}
+use Rattle.std.proofs.{Common.{◌+◌, ◌*◌, ◌^◌, ◌≤◌, ◌∙◌, ap, arith, subst, sym}, lemmas.Result.err_from_is_err_and}
 use Rattle.lert_bay.specs.declared.bay.TheConstants.{JOURNAL}
 use Rattle.lert_bay.proofs.KeptLaws.{IsLawful, reading_as, reading_none, reading_on}
 use Rattle.lert_gatelog.specs.Gated.{Log}
 use Rattle.lert_spec.specs.Limits.{IsValid}
 use Rattle.lert_recover.specs.Replayed.{JournalEnds, JournalLeavesAt}
-use Rattle.lert_recover.proofs.ReplayedLaws.{ends_here, here}
-use Rattle.lert_recover.proofs.ReplayingLaws.{fewer_left}
-use Rattle.lert_recover.proofs.RestLaws.{ends_packet, onward_packet}
+use Rattle.lert_recover.proofs.{ReplayedLaws.{ends_here, here}, ReplayingLaws.fewer_left, RestLaws.{ends_packet, onward_packet}}
 use Rattle.lert_recover.proofs.journal_rest.find_left.Given as given
 use Rattle.lert_recover.proofs.journal_rest.find_left.Invariants.{bays}
 use Rattle.lert_recover.proofs.journal_rest.find_left.Goals as goal

@@ -1,8 +1,6 @@
 use Rattle.std.proofs.Common.{◌≡◌, ◌+◌, ◌-◌, ◌*◌, ◌^◌, ◌≤◌, ℕ, Some}
-use Rattle.lert_bay.specs.declared.bay.TheConstants.{JOURNAL}
-use Rattle.lert_bay.specs.Files.{Files}
+use Rattle.lert_bay.specs.{declared.bay.TheConstants.JOURNAL, Files.Files, Kept.ReadsBay}
 use Rattle.lert_cone.specs.History.{most_payload}
-use Rattle.lert_bay.specs.Kept.{ReadsBay}
 use Rattle.lert_cone.proofs.Bays.{Bays, bays_of}
 use Rattle.lert_spec.specs.Edges.{capacity}
 use Rattle.lert_recover.specs.Replayed.{JournalEnds, JournalLeavesAt}

@@ -1,16 +1,13 @@
 use Rattle.std.proofs.Common.{◌≡◌, ◌++◌, Bool, length}
 use Rattle.lert_cone.proofs.Bays.{Bays, bays_of}
 use Rattle.lert_bay.proofs.KeptLaws.{IsLawful}
-use Rattle.lert_cone.specs.declared.state.ConeState.TheVariants.{Finished, Running}
-use Rattle.lert_cone.specs.Stands.{Standing, StandsFor}
+use Rattle.lert_cone.specs.{declared.state.ConeState.TheVariants.{Finished, Running}, Stands.{Standing, StandsFor}}
 use Rattle.std.specs.Prelude.{if◌then◌else◌}
 use Rattle.lert_files.specs.declared.fault.ReopenFault.TheVariants.{Failed}
 use Rattle.lert_reports.specs.Log.{is_closed}
 use Rattle.lert_recover.specs.declared.recovery.ReopenRefused.{ReopenRefused}
-use Rattle.lert_recover.proofs.FinalLaws.{closed_told, differs_told, journal_told, malformed_told, other_told, refuses_told, sound_told, whole_told}
-use Rattle.lert_recover.proofs.ReopenLaws.{ok_on}
-use Rattle.lert_recover.proofs.ShownLaws.{reports_told, shown_told}
-use Rattle.lert_recover.proofs.UnharmedLaws.{other_quiet}
+use Rattle.lert_recover.proofs.{FinalLaws.{closed_told, differs_told, journal_told, malformed_told, other_told, refuses_told, sound_told, whole_told}, ReopenLaws.ok_on}
+use Rattle.lert_recover.proofs.{ShownLaws.{reports_told, shown_told}, UnharmedLaws.other_quiet}
 use Rattle.lert_recover.proofs.recovery.reopen.Given as given
 use Rattle.lert_recover.proofs.recovery.reopen.Goals as goal
 

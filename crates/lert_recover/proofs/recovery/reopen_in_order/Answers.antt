@@ -1,41 +1,21 @@
-use Rattle.std.proofs.Common.{◌≡◌, ℕ, ◌+◌, ◌-◌, ◌<◌, ◌≤◌, Some, Err, List, length, ap, sym, ◌∙◌, subst, arith}
-use Rattle.std.specs.List.{length_refill}
-use Rattle.std.proofs.lemmas.Option.{same_Some}
-use Rattle.std.proofs.lemmas.Result.{IfErr-weaker}
-use Rattle.std.specs.Prelude.{All, IfOk, MatchResult, if◌then◌else◌}
+use Rattle.std.proofs.{Common.{◌≡◌, ℕ, ◌+◌, ◌-◌, ◌<◌, ◌≤◌, Some, Err, List, length, ap, sym, ◌∙◌, subst, arith}, lemmas.Option.same_Some, lemmas.Result.IfErr-weaker}
+use Rattle.std.specs.{List.length_refill, Prelude.{All, IfOk, MatchResult, if◌then◌else◌}}
 use Rattle.lert_base.specs.Packet.{Packet, events_of}
-use Rattle.lert_bay.specs.declared.bay.TheConstants.{JOURNAL, LOG, FRAMES}
-use Rattle.lert_bay.specs.Files.{Files}
-use Rattle.lert_cone.proofs.Bays.{Bays, bays_of}
+use Rattle.lert_bay.specs.{declared.bay.TheConstants.{JOURNAL, LOG, FRAMES}, Files.Files}
+use Rattle.lert_cone.proofs.{Bays.{Bays, bays_of}, TotalLaws.edge_within, UnreadLaws.length_unread}
 use Rattle.lert_bay.proofs.KeptLaws.{IsLawful, calls_as}
 use Rattle.lert_gatelog.specs.Gated.{IsClosed}
-use Rattle.lert_cone.specs.declared.state.ConeState.TheVariants.{Finished, Running}
-use Rattle.lert_cone.specs.Framed.{HoldsSome}
-use Rattle.lert_cone.specs.Replaying.{Replaying}
-use Rattle.lert_cone.specs.Sound.{IsSound}
-use Rattle.lert_cone.specs.Stands.{Standing, StandsFor, WereSoundAs}
+use Rattle.lert_cone.specs.{declared.state.ConeState.TheVariants.{Finished, Running}, Framed.HoldsSome, Replaying.Replaying, Sound.IsSound, Stands.{Standing, StandsFor, WereSoundAs}}
 use Rattle.lert_cone.specs.Wrote.{IsShutIfTold}
-use Rattle.lert_cone.proofs.TotalLaws.{edge_within}
-use Rattle.lert_cone.proofs.UnreadLaws.{length_unread}
-use Rattle.lert_files.specs.declared.fault.ReopenFault.TheVariants.{Failed}
-use Rattle.lert_recover.specs.declared.recovery.ReopenRefused.{ReopenRefused}
-use Rattle.lert_files.specs.Opened.{WritesNothing}
+use Rattle.lert_files.specs.{declared.fault.ReopenFault.TheVariants.Failed, Opened.WritesNothing}
+use Rattle.lert_recover.specs.{declared.recovery.ReopenRefused.ReopenRefused, Replayed.{FlushesNothing, HasReplayed, ReplaysSome}, Reopened.IsStopped}
 use Rattle.lert_files.proofs.QuietLaws.{quiet_as}
-use Rattle.lert_recover.specs.Replayed.{FlushesNothing, HasReplayed, ReplaysSome}
-use Rattle.lert_recover.specs.Reopened.{IsStopped}
-use Rattle.lert_levels.specs.OnDisk.{OnDisk}
-use Rattle.lert_reports.specs.Log.{last_first, last_n0}
-use Rattle.lert_levels.specs.rows.Rows.{directory_text}
-use Rattle.lert_reports.specs.Stored.{Stored}
-use Rattle.lert_spec.specs.declared.numbers.Numbers.{Numbers}
-use Rattle.lert_spec.specs.Limits.{IsValid}
-use Rattle.lert_recover.proofs.BayLaws.{bay_before, made_of, own_of, quiet_before}
-use Rattle.lert_recover.proofs.LoggedLaws.{logs_in}
-use Rattle.lert_recover.proofs.MomentLaws.{stays_made, stays_quiet}
-use Rattle.lert_recover.proofs.ReplayingLaws.{journal_same}
+use Rattle.lert_levels.specs.{OnDisk.OnDisk, rows.Rows.directory_text}
+use Rattle.lert_reports.specs.{Log.{last_first, last_n0}, Stored.Stored}
+use Rattle.lert_spec.specs.{declared.numbers.Numbers.Numbers, Limits.IsValid}
+use Rattle.lert_recover.proofs.{BayLaws.{bay_before, made_of, own_of, quiet_before}, LoggedLaws.logs_in, MomentLaws.{stays_made, stays_quiet}, ReplayingLaws.journal_same}
 use Rattle.lert_recover.proofs.ReopenLaws.{fails_on, frames_settled, journal_settled, last_of, log_shut, ok_on, read_before, refused_before, reopened_of, sound_opened, stands_on}
-use Rattle.lert_recover.proofs.SomeEvents.{some_events}
-use Rattle.lert_recover.proofs.UnharmedLaws.{unharmed_opened, unharmed_quiet}
+use Rattle.lert_recover.proofs.{SomeEvents.some_events, UnharmedLaws.{unharmed_opened, unharmed_quiet}}
 use Rattle.lert_recover.proofs.recovery.reopen_in_order.Given as given
 use Rattle.lert_recover.proofs.recovery.reopen_in_order.Goals as goal
 

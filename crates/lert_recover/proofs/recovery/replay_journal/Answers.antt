@@ -1,28 +1,18 @@
 use Rattle.std.proofs.Common.{◌≡◌, ◌≤◌, ℕ, List, length, ap, sym, ◌∙◌, subst, arith, inl, inr}
 use Rattle.std.specs.Prelude.{if◌then◌else◌}
-use Rattle.lert_bay.specs.declared.bay.TheConstants.{JOURNAL}
-use Rattle.lert_bay.specs.Kept.{CallsBay, ReadsBay}
-use Rattle.lert_cone.proofs.Bays.{Bays, bays_of}
+use Rattle.lert_bay.specs.{declared.bay.TheConstants.JOURNAL, Kept.{CallsBay, ReadsBay}}
+use Rattle.lert_cone.proofs.{Bays.{Bays, bays_of}, SoundLaws.turns_back}
 use Rattle.lert_bay.proofs.KeptLaws.{IsLawful, calls_as, calls_on}
 use Rattle.lert_io.proofs.Rising.{risen_since, risen_then}
 use Rattle.lert_io.specs.Fault.{HasRisen}
-use Rattle.lert_spec.specs.declared.numbers.Numbers.{Numbers}
-use Rattle.lert_spec.specs.Edges.{capacity}
+use Rattle.lert_spec.specs.{declared.numbers.Numbers.Numbers, Edges.capacity}
 use Rattle.lert_reports.specs.declared.log_point.LogPoint.{LogPoint}
-use Rattle.lert_cone.specs.declared.state.ConeState.TheVariants.{Finished, Running}
-use Rattle.lert_cone.specs.Sound.{StaysSound}
-use Rattle.lert_cone.specs.Replaying.{readied}
-use Rattle.lert_cone.specs.Stands.{IsSameCone, Standing, WasSound}
-use Rattle.lert_cone.proofs.SoundLaws.{turns_back}
+use Rattle.lert_cone.specs.{declared.state.ConeState.TheVariants.{Finished, Running}, Sound.StaysSound, Replaying.readied, Stands.{IsSameCone, Standing, WasSound}}
 use Rattle.lert_gatelog.specs.Gated.{IsClosed}
 use Rattle.lert_files.specs.Opened.{WritesNothing}
 use Rattle.lert_files.proofs.QuietLaws.{quiet_on, quiet_reading}
-use Rattle.lert_recover.specs.Replayed.{HasReplayed, IsJournalSame, ReadsRest}
-use Rattle.lert_recover.specs.Reopened.{IsWhy}
-use Rattle.lert_recover.proofs.ReplayingLaws.{journal_on, journal_same}
-use Rattle.lert_recover.proofs.LoggedLaws.{logged_from}
-use Rattle.lert_recover.proofs.MomentLaws.{stays_read}
-use Rattle.lert_recover.proofs.StopLaws.{outside_of, stopped_of, was_before}
+use Rattle.lert_recover.specs.{Replayed.{HasReplayed, IsJournalSame, ReadsRest}, Reopened.IsWhy}
+use Rattle.lert_recover.proofs.{ReplayingLaws.{journal_on, journal_same}, LoggedLaws.logged_from, MomentLaws.stays_read, StopLaws.{outside_of, stopped_of, was_before}}
 use Rattle.lert_recover.proofs.recovery.replay_journal.Given as given
 use Rattle.lert_recover.proofs.recovery.replay_journal.Goals as goal
 

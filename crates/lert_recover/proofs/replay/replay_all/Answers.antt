@@ -1,23 +1,14 @@
 use Rattle.std.proofs.Common.{[], ◌∷◌, ◌++◌, length, refl, ap, sym, ◌∙◌, subst, arith, Ok, Err, List, ℕ}
-use Rattle.lert_bay.specs.declared.bay.TheConstants.{JOURNAL}
-use Rattle.lert_bay.specs.Kept.{CallsBay}
+use Rattle.lert_bay.specs.{declared.bay.TheConstants.JOURNAL, Kept.CallsBay}
 use Rattle.lert_bay.proofs.KeptLaws.{IsLawful, calls_as, calls_none, calls_on, reading_none}
 use Rattle.lert_spec.proofs.LimitLaws.{capacity_to}
 use Rattle.lert_reports.specs.declared.log_point.LogPoint.{LogPoint}
-use Rattle.lert_cone.specs.declared.refusal.ReplayFault.TheVariants.{Unsound}
-use Rattle.lert_cone.specs.History.{most_payload}
-use Rattle.lert_cone.specs.KeepsLog.{head_of}
-use Rattle.lert_cone.specs.Replaying.{Replaying}
-use Rattle.lert_cone.specs.Replays.{Replays, WhyRefused}
+use Rattle.lert_cone.specs.{declared.refusal.ReplayFault.TheVariants.Unsound, History.most_payload, KeepsLog.head_of, Replaying.Replaying, Replays.{Replays, WhyRefused}}
 use Rattle.lert_cone.proofs.KeepsLogSteps.{log_none}
 use Rattle.lert_files.proofs.QuietLaws.{quiet_on, quiet_reading}
 use Rattle.lert_recover.specs.Replayed.{HasReplayed}
-use Rattle.lert_recover.proofs.ReplayingLaws.{framed_none, has_grown, journal_none, journal_on, left_on, quiet_of, read_on, same_none, same_on, shut_on, sound_on, still_on}
-use Rattle.lert_recover.proofs.LoggedLaws.{logged_on}
-use Rattle.lert_recover.proofs.RestBytes.{past_ahead}
-use Rattle.lert_recover.proofs.ReplayedLaws.{replayed_none}
-use Rattle.lert_recover.proofs.MomentLaws.{stays_none, stays_replayed}
-use Rattle.lert_recover.proofs.StopLaws.{full_alone}
+use Rattle.lert_recover.proofs.{ReplayingLaws.{framed_none, has_grown, journal_none, journal_on, left_on, quiet_of, read_on, same_none, same_on, shut_on, sound_on, still_on}, LoggedLaws.logged_on}
+use Rattle.lert_recover.proofs.{RestBytes.past_ahead, ReplayedLaws.replayed_none, MomentLaws.{stays_none, stays_replayed}, StopLaws.full_alone}
 use Rattle.lert_recover.proofs.replay.replay_all.Given as given
 use Rattle.lert_recover.proofs.replay.replay_all.Invariants.{bays}
 use Rattle.lert_recover.proofs.replay.replay_all.Goals as goal

@@ -1,17 +1,11 @@
 use Rattle.std.proofs.Common.{◌≡◌, ◌+◌, ◌-◌, ◌*◌, ◌^◌, ◌≤◌, max, None, Some, Ok, List, length}
 use Rattle.lert_base.specs.Packet.{Packet}
-use Rattle.lert_bay.specs.declared.bay.TheConstants.{JOURNAL, FRAMES}
-use Rattle.lert_bay.specs.Files.{Files}
-use Rattle.lert_bay.specs.Kept.{CallsBay}
+use Rattle.lert_bay.specs.{declared.bay.TheConstants.{JOURNAL, FRAMES}, Files.Files, Kept.CallsBay}
 use Rattle.lert_cone.proofs.Bays.{Bays, bays_of}
-use Rattle.lert_cone.specs.Framed.{HoldsSome}
-use Rattle.lert_cone.specs.KeepsLog.{KeepsLogOf, head_of}
-use Rattle.lert_cone.specs.Replaying.{IsSameReplay}
-use Rattle.lert_cone.specs.Sound.{StaysSound}
+use Rattle.lert_cone.specs.{Framed.HoldsSome, KeepsLog.{KeepsLogOf, head_of}, Replaying.IsSameReplay, Sound.StaysSound}
 use Rattle.lert_files.specs.Opened.{WritesNothing}
 use Rattle.lert_spec.specs.Edges.{capacity}
-use Rattle.lert_recover.specs.Moments.{AreSound}
-use Rattle.lert_recover.specs.Replayed.{FlushesNothing, HasReplayed, IsJournalSame, ReplaysSome}
+use Rattle.lert_recover.specs.{Moments.AreSound, Replayed.{FlushesNothing, HasReplayed, IsJournalSame, ReplaysSome}}
 use Rattle.lert_recover.proofs.replay.replay_all.Given as goal
 
 abbrev pub bays : (g : goal.Over) → Bays g.row.B.Denot

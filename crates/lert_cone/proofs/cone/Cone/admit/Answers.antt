@@ -1,23 +1,14 @@
 use Rattle.std.proofs.Common.{ℕ, ◌≡◌, ◌∙◌, ◌+◌, ◌≤◌, ◌++◌, drop, length, take, Some, Ok, Err, refl, sym, ap, subst, arith}
-use Rattle.lert_base.specs.declared.entry.Entry.{Entry}
-use Rattle.lert_base.specs.Entries.{packet_of}
+use Rattle.lert_base.specs.{declared.entry.Entry.Entry, Entries.packet_of, declared.cone_fault.ConeFault.ConeFault}
 use Rattle.std.specs.List.{length_refill}
 use Rattle.lert_spec.specs.Edges.{capacity}
 use Rattle.lert_journal.specs.Payload.{IsJournaled}
 use Rattle.lert_reports.specs.Stored.{Stored}
 use Rattle.lert_io.proofs.Rising.{risen_since}
-use Rattle.lert_base.specs.declared.cone_fault.ConeFault.{ConeFault}
-use Rattle.lert_cone.specs.declared.state.ConeState.TheVariants.{Running}
-use Rattle.lert_cone.proofs.Bays.{Bays, bays_of}
-use Rattle.lert_cone.specs.Listing.{Listing}
-use Rattle.lert_cone.specs.InStep.{IsLogging}
-use Rattle.lert_cone.specs.Stands.{Standing, over_of, is_broken, is_finished, cone_fault}
-use Rattle.lert_cone.proofs.Admits.{Admits, not_admitted}
-use Rattle.lert_cone.proofs.AdmitsPacket.{admitted, still_cone}
-use Rattle.lert_cone.proofs.BreaksOff.{broken_off}
-use Rattle.lert_bay.proofs.KeptLaws.{IsLawful}
-use Rattle.lert_cone.proofs.StandLaws.{broken_cone, cone_at}
+use Rattle.lert_cone.specs.{declared.state.ConeState.TheVariants.Running, Listing.Listing, InStep.IsLogging, Stands.{Standing, over_of, is_broken, is_finished, cone_fault}}
+use Rattle.lert_cone.proofs.{Bays.{Bays, bays_of}, Admits.{Admits, not_admitted}, AdmitsPacket.{admitted, still_cone}, BreaksOff.broken_off, StandLaws.{broken_cone, cone_at}}
 use Rattle.lert_cone.proofs.FaultLaws.{is_broken_by, by_bay_of}
+use Rattle.lert_bay.proofs.KeptLaws.{IsLawful}
 use Rattle.lert_cone.proofs.cone.Cone.admit.Given as given
 use Rattle.lert_cone.proofs.cone.Cone.admit.Goals as goal
 

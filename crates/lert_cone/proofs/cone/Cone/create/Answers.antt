@@ -1,7 +1,6 @@
 use Rattle.std.proofs.Common.{◌≡◌, ◌∙◌, None, Err, ap, refl, false}
 use Rattle.lert_reports.specs.declared.log_point.LogPoint.{LogPoint}
-use Rattle.lert_cone.specs.Record.{LogPlace}
-use Rattle.lert_cone.specs.declared.state.ConeState.{ConeState}
+use Rattle.lert_cone.specs.{Record.LogPlace, declared.state.ConeState.ConeState}
 use Rattle.lert_gatelog.specs.Gated.{Log}
 use Rattle.lert_cone.proofs.StandLaws.{new_cone, new_stands, new_was_sound}
 use Rattle.lert_cone.proofs.cone.Cone.create.Goals as goal

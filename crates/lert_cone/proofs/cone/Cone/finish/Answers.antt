@@ -1,29 +1,16 @@
-use Rattle.std.proofs.Common.{ℕ, ◌≡◌, ◌∙◌, List, Err, true, refl, length, ap, sym, subst, inl, arith}
+use Rattle.std.proofs.{Common.{ℕ, ◌≡◌, ◌∙◌, List, Err, true, refl, length, ap, sym, subst, inl, arith}, lemmas.Bool.false≢true, lemmas.Result.err_from_is_err_and}
 use Rattle.std.specs.List.{length_refill}
-use Rattle.lert_base.specs.Packet.{Packet, events_of}
+use Rattle.lert_base.specs.{Packet.{Packet, events_of}, declared.cone_fault.ConeFault.TheVariants.{BayFailed, Unsound}}
 use Rattle.lert_bay.specs.Files.{IfTold}
-use Rattle.lert_cone.proofs.Bays.{Bays, bays_of}
+use Rattle.lert_cone.proofs.{Bays.{Bays, bays_of}, SoundLaws.turns_back, AppendLaws.whole_of, StandLaws.{cone_at, stands_whole, stands_broken, ended_cone, broken_cone, reports_finished}}
+use Rattle.lert_cone.proofs.FaultLaws.{any_turn, by_bay_of, by_read_of, failed_of, is_broken_by, kept_since, no_refusal, turned_none, turns_as, unsound_of, untold}
+use Rattle.lert_cone.proofs.{Refusals.{fault_as, no_failed, no_fault, no_unsound, one_fault}, StateLaws.{broke_broken, broke_closed, passed_broken, passed_closed}, TimeLaws.timely}
 use Rattle.lert_bay.proofs.KeptLaws.{IsLawful, keeps_as, keeps_none}
-use Rattle.std.proofs.lemmas.Bool.{false≢true}
-use Rattle.std.proofs.lemmas.Result.{err_from_is_err_and}
-use Rattle.lert_spec.specs.declared.numbers.Numbers.{Numbers}
-use Rattle.lert_spec.specs.Look.{closing}
-use Rattle.lert_spec.specs.Timely.{IsTimely}
-use Rattle.lert_base.specs.declared.cone_fault.ConeFault.TheVariants.{BayFailed, Unsound}
-use Rattle.lert_cone.specs.declared.state.ConeState.TheVariants.{Running, Finished}
-use Rattle.lert_cone.specs.InStep.{IsLogging}
-use Rattle.lert_cone.specs.Listing.{Listing}
-use Rattle.lert_cone.specs.Sound.{IsKept, IsSound, IsSoundAs, IsSoundOver}
+use Rattle.lert_spec.specs.{declared.numbers.Numbers.Numbers, Look.closing, Timely.IsTimely}
+use Rattle.lert_cone.specs.{declared.state.ConeState.TheVariants.{Running, Finished}, InStep.IsLogging, Listing.Listing, Sound.{IsKept, IsSound, IsSoundAs, IsSoundOver}}
 use Rattle.lert_cone.specs.Stands.{Standing, StandsFor, over_of, is_broken, is_finished, is_refusal, broken_by}
 use Rattle.lert_reports.specs.Stored.{Stored}
-use Rattle.lert_cone.proofs.SoundLaws.{turns_back}
 use Rattle.lert_io.proofs.Rising.{risen_since}
-use Rattle.lert_cone.proofs.AppendLaws.{whole_of}
-use Rattle.lert_cone.proofs.StandLaws.{cone_at, stands_whole, stands_broken, ended_cone, broken_cone, reports_finished}
-use Rattle.lert_cone.proofs.FaultLaws.{any_turn, by_bay_of, by_read_of, failed_of, is_broken_by, kept_since, no_refusal, turned_none, turns_as, unsound_of, untold}
-use Rattle.lert_cone.proofs.Refusals.{fault_as, no_failed, no_fault, no_unsound, one_fault}
-use Rattle.lert_cone.proofs.StateLaws.{broke_broken, broke_closed, passed_broken, passed_closed}
-use Rattle.lert_cone.proofs.TimeLaws.{timely}
 use Rattle.lert_cone.proofs.cone.Cone.finish.Given as given
 use Rattle.lert_cone.proofs.cone.Cone.finish.Goals as goal
 use Rattle.lert_cone.proofs.cone.Cone.finish.Goals.{After-len}

@@ -1,11 +1,9 @@
 use Rattle.std.proofs.Common.{◌∙◌, List, ap, sym, subst}
 use Rattle.lert_base.specs.Packet.{events_of}
-use Rattle.lert_spec.specs.declared.report.Report.{Report}
-use Rattle.lert_spec.specs.Timely.{IsTimely, IsTimelySoFar}
+use Rattle.lert_spec.specs.{declared.report.Report.Report, Timely.{IsTimely, IsTimelySoFar}}
 use Rattle.lert_reports.specs.Stored.{Stored}
 use Rattle.lert_cone.specs.Stands.{is_broken, is_finished}
-use Rattle.lert_cone.proofs.StandLaws.{reports_running, reports_finished}
-use Rattle.lert_cone.proofs.TimeLaws.{timely, timely_so_far}
+use Rattle.lert_cone.proofs.{StandLaws.{reports_running, reports_finished}, TimeLaws.{timely, timely_so_far}}
 use Rattle.lert_cone.proofs.cone.Cone.reports.Goals as goal
 
 pub returns-clause-running : goal.returns-clause-running

@@ -1,8 +1,7 @@
 -- Each state's answer; the clauses on it are lemmas over the state alone.
 use Rattle.std.proofs.Common.{◌∙◌, ap, refl, sym}
 use Rattle.lert_cone.specs.Stands.{Standing, is_broken}
-use Rattle.lert_cone.proofs.Refusals.{no_fault}
-use Rattle.lert_cone.proofs.StateLaws.{broken_broken, broken_closed, broken_full, ended_broken, ended_closed, ended_full, passed_broken, passed_closed}
+use Rattle.lert_cone.proofs.{Refusals.no_fault, StateLaws.{broken_broken, broken_closed, broken_full, ended_broken, ended_closed, ended_full, passed_broken, passed_closed}}
 use Rattle.lert_cone.proofs.cone.Cone.test_state.Goals as goal
 
 pub returns-in-Running : goal.returns-in-Running

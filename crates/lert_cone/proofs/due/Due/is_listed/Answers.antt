@@ -1,9 +1,7 @@
-use Rattle.std.proofs.Common.{arith, ap, sym, ◌∙◌, ◌≡◌, ◌<◌, ◌≤◌, ◌^◌, ◌-◌, true}
-use Rattle.std.proofs.lemmas.Bool.{false≢true}
+use Rattle.std.proofs.{Common.{arith, ap, sym, ◌∙◌, ◌≡◌, ◌<◌, ◌≤◌, ◌^◌, ◌-◌, true}, lemmas.Bool.false≢true}
 use Rattle.lert_spec.specs.Look.{is_listed}
 use Rattle.lert_spec.proofs.TailLaws.{key_with}
-use Rattle.lert_cone.proofs.DueLaws.{passes_listed}
-use Rattle.lert_cone.proofs.KeyLemmas.{key_with_is}
+use Rattle.lert_cone.proofs.{DueLaws.passes_listed, KeyLemmas.key_with_is}
 use Rattle.lert_cone.proofs.due.Due.is_listed.Goals as goal
 
 pub returns-clause-value : goal.returns-clause-value

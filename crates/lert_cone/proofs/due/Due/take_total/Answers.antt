@@ -1,11 +1,7 @@
-use Rattle.std.proofs.Common.{◌≡◌, ◌∙◌, ◌++◌, ◌∷◌, [], List, true, ap, length, subst, sym}
-use Rattle.std.proofs.lemmas.Bool.{false≢true}
-use Rattle.std.proofs.lemmas.List.Elements.{All-append, All-cons, All-nil}
+use Rattle.std.proofs.{Common.{◌≡◌, ◌∙◌, ◌++◌, ◌∷◌, [], List, true, ap, length, subst, sym}, lemmas.Bool.false≢true, lemmas.List.Elements.{All-append, All-cons, All-nil}}
 use Rattle.std.specs.Prelude.{All}
 use Rattle.lert_reports.specs.Stored.{Stored}
-use Rattle.lert_spec.specs.declared.numbers.Numbers.{Numbers}
-use Rattle.lert_spec.specs.declared.report.Report.{Report}
-use Rattle.lert_spec.specs.Mix.{cone_of}
+use Rattle.lert_spec.specs.{declared.numbers.Numbers.Numbers, declared.report.Report.Report, Mix.cone_of}
 use Rattle.lert_cone.specs.Due.{Dues}
 use Rattle.lert_cone.proofs.DueLaws.{total_full, total_none, total_one, total_over}
 use Rattle.lert_cone.proofs.due.Due.take_total.Goals as goal

@@ -1,11 +1,8 @@
-use Rattle.std.proofs.Common.{◌≡◌, ℕ, ◌+◌, ◌≤◌, ◌*◌, List, get_or, ap, arith, subst, sym, ◌∙◌}
-use Rattle.std.proofs.Math.ListN.{length-set, set}
+use Rattle.std.proofs.{Common.{◌≡◌, ℕ, ◌+◌, ◌≤◌, ◌*◌, List, get_or, ap, arith, subst, sym, ◌∙◌}, Math.ListN.{length-set, set}}
 use Rattle.lert_spec.specs.Edges.{capacity, span}
 use Rattle.lert_spec.proofs.LimitLaws.{capacity_to}
-use Rattle.lert_cone.specs.declared.journal_places.JournalPlace.{JournalPlace}
-use Rattle.lert_cone.specs.JournalPlaces.{Places, bins_begun, first_place}
-use Rattle.lert_cone.proofs.BinLaws.{begun_more, bin_more, span_few}
-use Rattle.lert_cone.proofs.JournalPlaceLaws.{newest_turned, others_turned}
+use Rattle.lert_cone.specs.{declared.journal_places.JournalPlace.JournalPlace, JournalPlaces.{Places, bins_begun, first_place}}
+use Rattle.lert_cone.proofs.{BinLaws.{begun_more, bin_more, span_few}, JournalPlaceLaws.{newest_turned, others_turned}}
 use Rattle.lert_cone.proofs.journal_places.JournalPlaces.begin.Goals as goal
 
 pub overflow_add-self : goal.overflow_add-self

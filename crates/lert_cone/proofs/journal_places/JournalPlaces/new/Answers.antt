@@ -1,7 +1,5 @@
 use Rattle.std.proofs.Common.{◌≡◌, ℕ, ◌+◌, ◌-◌, ◌*◌, ◌/◌, ◌<◌, ◌≤◌, ◌^◌, arith, ap, refl, subst, sym}
-use Rattle.lert_spec.specs.declared.numbers.Numbers.{Numbers}
-use Rattle.lert_spec.specs.Edges.{capacity, span}
-use Rattle.lert_spec.specs.Limits.{IsValid}
+use Rattle.lert_spec.specs.{declared.numbers.Numbers.Numbers, Edges.{capacity, span}, Limits.IsValid}
 use Rattle.lert_spec.proofs.LimitLaws.{capacity_to}
 use Rattle.lert_cone.proofs.BinLaws.{begun_from, span_few}
 use Rattle.lert_cone.proofs.journal_places.JournalPlaces.new.Goals as goal

@@ -1,13 +1,8 @@
-use Rattle.std.proofs.Common.{◌≡◌, ℕ, ◌+◌, ◌-◌, ◌*◌, ◌/◌, ◌≤◌, ◌<◌, length, ap, arith, sym, ◌∙◌, refl}
-use Rattle.std.proofs.lemmas.List.{get_or_default}
-use Rattle.std.proofs.Math.Nat.{div-add-mod, mul_comm}
+use Rattle.std.proofs.{Common.{◌≡◌, ℕ, ◌+◌, ◌-◌, ◌*◌, ◌/◌, ◌≤◌, ◌<◌, length, ap, arith, sym, ◌∙◌, refl}, lemmas.List.get_or_default, Math.Nat.{div-add-mod, mul_comm}}
 use Rattle.lert_spec.proofs.EdgeLaws.{steps}
 use Rattle.lert_cone.specs.JournalPlaces.{Places, bins_begun, first_place, oldest_place}
-use Rattle.lert_spec.specs.declared.numbers.Numbers.{Numbers}
-use Rattle.lert_spec.specs.Edges.{edge, offset, span}
-use Rattle.lert_spec.specs.Limits.{IsValid}
-use Rattle.lert_cone.proofs.BinLaws.{begun_to, bins_few}
-use Rattle.lert_cone.proofs.JournalPlaceLaws.{oldest_at_none, oldest_at_some, oldest_read}
+use Rattle.lert_spec.specs.{declared.numbers.Numbers.Numbers, Edges.{edge, offset, span}, Limits.IsValid}
+use Rattle.lert_cone.proofs.{BinLaws.{begun_to, bins_few}, JournalPlaceLaws.{oldest_at_none, oldest_at_some, oldest_read}}
 use Rattle.lert_cone.proofs.journal_places.JournalPlaces.oldest.Goals as goal
 
 part_within : (n less w place : ℕ) → n ≤ place → w * ((n - less) / w) ≤ place

@@ -1,9 +1,7 @@
 use Rattle.std.proofs.Common.{arith, subst, sym, ◌+◌, ◌*◌, ◌≤◌}
-use Rattle.lert_spec.specs.declared.numbers.Numbers.{Numbers}
-use Rattle.lert_spec.specs.Edges.{capacity, span}
+use Rattle.lert_spec.specs.{declared.numbers.Numbers.Numbers, Edges.{capacity, span}}
 use Rattle.lert_cone.specs.JournalPlaces.{bins_begun}
-use Rattle.lert_cone.proofs.BinLaws.{begun_to}
-use Rattle.lert_cone.proofs.JournalPlaceLaws.{passing_all, passing_more, passing_none}
+use Rattle.lert_cone.proofs.{BinLaws.begun_to, JournalPlaceLaws.{passing_all, passing_more, passing_none}}
 use Rattle.lert_cone.proofs.journal_places.JournalPlaces.pass.Goals as goal
 
 pub bins-init : goal.bins-init

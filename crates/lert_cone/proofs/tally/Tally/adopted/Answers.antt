@@ -1,8 +1,6 @@
 use Rattle.std.proofs.Common.{◌≡◌, ◌≤◌, ◌++◌, ◌∙◌, List, ℕ, append-nil, ap, length, subst, sym}
-use Rattle.lert_spec.specs.Limits.{IsValid}
-use Rattle.lert_spec.proofs.LookLaws.{AreKeys}
-use Rattle.lert_spec.proofs.TailLaws.{AreOfCone}
-use Rattle.lert_spec.specs.Edges.{edge}
+use Rattle.lert_spec.specs.{Limits.IsValid, Edges.edge}
+use Rattle.lert_spec.proofs.{LookLaws.AreKeys, TailLaws.AreOfCone}
 use Rattle.lert_cone.specs.Due.{Dues}
 use Rattle.lert_cone.proofs.RecountLaws.{recounted_none}
 use Rattle.lert_cone.proofs.tally.Tally.adopted.Goals as goal

@@ -1,10 +1,8 @@
 use Rattle.std.proofs.Common.{◌≡◌, false, Option, ap, refl, sym, ◌∙◌, subst}
-use Rattle.lert_cone.proofs.Bays.{Bays, bays_of}
+use Rattle.lert_cone.proofs.{Bays.{Bays, bays_of}, EndCounted.{not_ended, no_room_left, all_counted}}
 use Rattle.lert_bay.proofs.KeptLaws.{IsLawful}
 use Rattle.lert_levels.specs.OnDisk.{OnDisk}
-use Rattle.lert_cone.specs.Due.{Dues, started}
-use Rattle.lert_cone.specs.Tally.{Tallied, IsCounted, due_in}
-use Rattle.lert_cone.proofs.EndCounted.{not_ended, no_room_left, all_counted}
+use Rattle.lert_cone.specs.{Due.{Dues, started}, Tally.{Tallied, IsCounted, due_in}}
 use Rattle.lert_cone.proofs.tally.Tally.finish.Given as given
 use Rattle.lert_cone.proofs.tally.Tally.finish.Goals as goal
 

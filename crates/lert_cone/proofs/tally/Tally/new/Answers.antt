@@ -1,18 +1,11 @@
 use Rattle.std.proofs.Common.{◌≡◌, ◌∙◌, ℕ, false, All, List, [], replicate, length, ap, sym, subst, arith}
-use Rattle.lert_levels.specs.declared.rows.bin_at.BinAt.{BinAt}
-use Rattle.lert_levels.specs.OnDisk.{OnDisk}
-use Rattle.lert_levels.proofs.LaterLaws.{HoldsBins-none}
+use Rattle.lert_levels.specs.{declared.rows.bin_at.BinAt.BinAt, OnDisk.OnDisk, rows.Rows.{IsAt, AreRows, HoldsBins}}
+use Rattle.lert_levels.proofs.{LaterLaws.HoldsBins-none, rows.MoveLaws.AreRows-none}
 use Rattle.lert_reports.specs.Stored.{Stored}
-use Rattle.lert_levels.specs.rows.Rows.{IsAt, AreRows, HoldsBins}
-use Rattle.lert_levels.proofs.rows.MoveLaws.{AreRows-none}
-use Rattle.lert_spec.specs.declared.report.Report.{Report}
-use Rattle.lert_spec.specs.Limits.{IsValid}
-use Rattle.lert_spec.specs.Mix.{cone_of}
-use Rattle.lert_spec.proofs.LookLaws.{AreKeys}
-use Rattle.lert_spec.proofs.TailLaws.{AreOfCone}
+use Rattle.lert_spec.specs.{declared.report.Report.Report, Limits.IsValid, Mix.cone_of}
+use Rattle.lert_spec.proofs.{LookLaws.AreKeys, TailLaws.AreOfCone}
 use Rattle.lert_cone.specs.Listing.{Listing, reports_of}
-use Rattle.lert_cone.proofs.RecountLaws.{counted_from_none}
-use Rattle.lert_cone.proofs.TallyLaws.{rows_none}
+use Rattle.lert_cone.proofs.{RecountLaws.counted_from_none, TallyLaws.rows_none}
 use Rattle.lert_cone.proofs.tally.Tally.new.Goals as goal
 
 pub adopted-requires-clause-are : goal.adopted-requires-clause-are

@@ -1,7 +1,6 @@
 use Rattle.std.proofs.Common.{◌∙◌, ◌≤◌, ap, sym, subst, refl}
 use Rattle.lert_spec.specs.Edges.{edge, capacity}
-use Rattle.lert_cone.specs.Listing.{Listing}
-use Rattle.lert_cone.specs.Tally.{Tallied}
+use Rattle.lert_cone.specs.{Listing.Listing, Tally.Tallied}
 use Rattle.lert_cone.proofs.KeysRecounted.{none_again, zero_least, own_again, within_again, one_again, all_again}
 use Rattle.lert_cone.proofs.tally.Tally.recount.Goals as goal
 

@@ -1,11 +1,8 @@
 use Rattle.std.proofs.Common.{◌≡◌, ◌∙◌, ℕ, ◌+◌, ◌-◌, ◌^◌, ◌<◌, List, suc, length, ap, sym, subst, arith, cond, ltb, refl, [], ◌∷◌, ◌++◌, append_assoc, length-append}
-use Rattle.lert_spec.specs.declared.numbers.Numbers.{Numbers}
+use Rattle.lert_spec.specs.{declared.numbers.Numbers.Numbers, Edges.edge, Mix.cone_of}
 use Rattle.lert_levels.specs.rows.Young.{IsNextPosition, with_event}
-use Rattle.lert_spec.specs.Edges.{edge}
-use Rattle.lert_spec.specs.Mix.{cone_of}
 use Rattle.lert_cone.specs.Tally.{Tallied, IsRecounted, due_in}
-use Rattle.lert_cone.proofs.RecountLaws.{again_settings, recount_position, recounted_more}
-use Rattle.lert_cone.proofs.NextFlush.{flush_next}
+use Rattle.lert_cone.proofs.{RecountLaws.{again_settings, recount_position, recounted_more}, NextFlush.flush_next}
 use Rattle.lert_cone.proofs.tally.Tally.recount_key.Goals as goal
 
 pub overflow_add-m : goal.overflow_add-m

@@ -1,15 +1,9 @@
 use Rattle.std.proofs.Common.{◌≡◌, ◌+◌, ◌-◌, ◌^◌, ◌<◌, ◌≤◌, ◌++◌, ◌∷◌, [], suc, false, length, ap, sym, ◌∙◌, refl, subst, arith, append_assoc, length-append}
-use Rattle.lert_spec.specs.declared.numbers.Numbers.{Numbers}
-use Rattle.lert_spec.specs.Edges.{capacity}
-use Rattle.lert_spec.specs.Limits.{IsValid}
-use Rattle.lert_spec.specs.Mix.{cone_of}
+use Rattle.lert_spec.specs.{declared.numbers.Numbers.Numbers, Edges.capacity, Limits.IsValid, Mix.cone_of}
 use Rattle.lert_cone.specs.Tally.{Tallied, IsCounted, due_in}
-use Rattle.lert_cone.proofs.KeyCounted.{not_counted, no_room, key_counted}
-use Rattle.lert_cone.proofs.NextFlush.{flush_next, next_flushes, next_stays}
-use Rattle.lert_cone.proofs.TakeLaws.{rows_before, to_take}
-use Rattle.lert_cone.proofs.TallyLaws.{next_position}
-use Rattle.lert_levels.specs.rows.Young.{IsNextPosition, Young}
+use Rattle.lert_cone.proofs.{KeyCounted.{not_counted, no_room, key_counted}, NextFlush.{flush_next, next_flushes, next_stays}, TakeLaws.{rows_before, to_take}, TallyLaws.next_position}
 use Rattle.lert_cone.proofs.Bays.{Bays, bays_of}
+use Rattle.lert_levels.specs.rows.Young.{IsNextPosition, Young}
 use Rattle.lert_bay.proofs.KeptLaws.{IsLawful}
 use Rattle.lert_cone.proofs.tally.Tally.take.Given as given
 use Rattle.lert_cone.proofs.tally.Tally.take.Goals as goal

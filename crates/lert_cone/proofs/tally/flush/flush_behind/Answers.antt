@@ -1,8 +1,6 @@
 use Rattle.std.proofs.Common.{◌≡◌, ◌+◌, ◌<◌, ◌^◌, ◌∙◌, ℕ, ap, subst, arith}
-use Rattle.lert_spec.specs.declared.numbers.Numbers.{Numbers}
-use Rattle.lert_spec.specs.Edges.{span, capacity}
+use Rattle.lert_spec.specs.{declared.numbers.Numbers.Numbers, Edges.{span, capacity}, Limits.IsValid}
 use Rattle.lert_spec.proofs.LimitLaws.{capacity_to, span_within}
-use Rattle.lert_spec.specs.Limits.{IsValid}
 use Rattle.lert_cone.proofs.NextFlush.{flush_passed, flush_ahead}
 use Rattle.lert_cone.proofs.tally.flush.flush_behind.Goals as goal
 

@@ -1,10 +1,6 @@
-use Rattle.std.proofs.Common.{◌≡◌, ◌+◌, ◌*◌, ◌<◌, ◌≤◌, ◌^◌, ◌∙◌, ℕ, ap, arith, subst}
-use Rattle.std.proofs.lemmas.Nat.{mul-le}
-use Rattle.lert_spec.specs.declared.numbers.Numbers.{Numbers}
-use Rattle.lert_spec.specs.Edges.{capacity, edge, span}
-use Rattle.lert_spec.specs.Limits.{IsValid}
-use Rattle.lert_spec.proofs.BinLaws.{edge_within}
-use Rattle.lert_spec.proofs.LimitLaws.{capacity_to, span_within}
+use Rattle.std.proofs.{Common.{◌≡◌, ◌+◌, ◌*◌, ◌<◌, ◌≤◌, ◌^◌, ◌∙◌, ℕ, ap, arith, subst}, lemmas.Nat.mul-le}
+use Rattle.lert_spec.specs.{declared.numbers.Numbers.Numbers, Edges.{capacity, edge, span}, Limits.IsValid}
+use Rattle.lert_spec.proofs.{BinLaws.edge_within, LimitLaws.{capacity_to, span_within}}
 use Rattle.lert_cone.proofs.tally.flush.flush_from.Goals as goal
 
 pub edge-requires-clause-events : goal.edge-requires-clause-events

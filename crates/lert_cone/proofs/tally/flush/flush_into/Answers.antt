@@ -1,14 +1,8 @@
 use Rattle.std.proofs.Common.{◌≡◌, ◌∙◌, List, OnOk, Result, Ok, Err, ap, subst, sym, slice_range}
 use Rattle.lert_bay.specs.Files.{IfTold}
-use Rattle.lert_levels.specs.declared.rows.fault.FlushFault.{FlushFault}
-use Rattle.lert_levels.specs.declared.rows.fault.FlushFault.TheVariants.{Failed}
-use Rattle.lert_levels.specs.Flushed.{AreEvents}
-use Rattle.lert_levels.specs.OnDisk.{OnDisk}
-use Rattle.lert_levels.specs.rows.Ranges.{young_bins}
+use Rattle.lert_levels.specs.{declared.rows.fault.FlushFault.FlushFault, declared.rows.fault.FlushFault.TheVariants.Failed, Flushed.AreEvents, OnDisk.OnDisk, rows.Ranges.young_bins}
 use Rattle.lert_levels.specs.rows.Rows.{HoldsBins, moved}
-use Rattle.lert_spec.specs.declared.piece.Piece.{Piece}
-use Rattle.lert_spec.specs.Bins.{tallied}
-use Rattle.lert_spec.specs.Edges.{depth, lookback}
+use Rattle.lert_spec.specs.{declared.piece.Piece.Piece, Bins.tallied, Edges.{depth, lookback}}
 use Rattle.lert_cone.specs.Due.{Dues, TookFrom}
 use Rattle.lert_cone.proofs.TakeLaws.{ok_of, on_ok, never_malformed, one_of_first}
 use Rattle.lert_cone.proofs.tally.flush.flush_into.Goals as goal

@@ -1,27 +1,12 @@
-use Rattle.std.proofs.Common.{◌≡◌, ℕ, ◌+◌, List, [], ◌∷◌, drop, refl, subst, sym, sum_by, ap, ap₂, ◌∙◌, arith}
-use Rattle.std.proofs.lemmas.Option.{same_Some}
+use Rattle.std.proofs.{Common.{◌≡◌, ℕ, ◌+◌, List, [], ◌∷◌, drop, refl, subst, sym, sum_by, ap, ap₂, ◌∙◌, arith}, lemmas.Option.same_Some}
 use Rattle.lert_bay.specs.Files.{Files}
-use Rattle.lert_cone.proofs.Bays.{Bays, bays_of}
-use Rattle.lert_bay.proofs.KeptLaws.{IsLawful}
-use Rattle.lert_bay.proofs.Lasting.{lasts_none}
-use Rattle.lert_spec.specs.declared.numbers.Numbers.{Numbers}
-use Rattle.lert_spec.specs.declared.piece.Piece.{Piece}
-use Rattle.lert_spec.specs.Bins.{Bin}
-use Rattle.lert_spec.specs.Edges.{span}
-use Rattle.lert_spec.specs.Table.{count_of}
-use Rattle.lert_levels.specs.Flushed.{InNamed}
-use Rattle.lert_levels.specs.rows.Loading.{OneBreaks}
-use Rattle.lert_levels.specs.OnDisk.{OnDisk}
-use Rattle.lert_levels.specs.rows.Ranges.{young_bins}
-use Rattle.lert_levels.specs.rows.Rows.{IsAt, AreRows, HoldsBins}
-use Rattle.lert_levels.specs.rows.Young.{Young}
-use Rattle.lert_levels.proofs.rows.LandLaws.{rest_none}
-use Rattle.lert_levels.proofs.rows.RowLaws.{IsAt-moved, AreRows-moved}
-use Rattle.lert_cone.specs.Due.{TookFrom}
-use Rattle.lert_cone.proofs.TallyLaws.{young_total, flush_total, rows_still, dropped_edge, dropped_bins}
-use Rattle.lert_cone.proofs.NextFlush.{moves_deep, stays_shallow}
-use Rattle.lert_cone.proofs.Refusals.{no_fault}
+use Rattle.lert_cone.proofs.{Bays.{Bays, bays_of}, TallyLaws.{young_total, flush_total, rows_still, dropped_edge, dropped_bins}, NextFlush.{moves_deep, stays_shallow}, Refusals.no_fault}
 use Rattle.lert_cone.proofs.TotalLaws.{edge_within}
+use Rattle.lert_bay.proofs.{KeptLaws.IsLawful, Lasting.lasts_none}
+use Rattle.lert_spec.specs.{declared.numbers.Numbers.Numbers, declared.piece.Piece.Piece, Bins.Bin, Edges.span, Table.count_of}
+use Rattle.lert_levels.specs.{Flushed.InNamed, rows.Loading.OneBreaks, OnDisk.OnDisk, rows.Ranges.young_bins, rows.Rows.{IsAt, AreRows, HoldsBins}, rows.Young.Young}
+use Rattle.lert_levels.proofs.{rows.LandLaws.rest_none, rows.RowLaws.{IsAt-moved, AreRows-moved}}
+use Rattle.lert_cone.specs.Due.{TookFrom}
 use Rattle.lert_cone.proofs.tally.flush.give_totals.Given as given
 use Rattle.lert_cone.proofs.tally.flush.give_totals.Goals as goal
 

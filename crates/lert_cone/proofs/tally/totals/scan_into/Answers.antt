@@ -1,10 +1,6 @@
 use Rattle.std.proofs.Common.{◌≡◌, ◌∙◌, List, OnOk, Result, Ok, Err, ap, subst, sym}
-use Rattle.lert_levels.specs.declared.rows.fault.FlushFault.{FlushFault}
-use Rattle.lert_levels.specs.declared.rows.fault.FlushFault.TheVariants.{Failed}
-use Rattle.lert_levels.specs.Flushed.{AreAllEvents}
-use Rattle.lert_levels.specs.rows.Ranges.{young_bins}
-use Rattle.lert_spec.specs.declared.piece.Piece.{Piece}
-use Rattle.lert_spec.specs.Bins.{tallied}
+use Rattle.lert_levels.specs.{declared.rows.fault.FlushFault.FlushFault, declared.rows.fault.FlushFault.TheVariants.Failed, Flushed.AreAllEvents, rows.Ranges.young_bins}
+use Rattle.lert_spec.specs.{declared.piece.Piece.Piece, Bins.tallied}
 use Rattle.lert_cone.specs.Due.{Dues, TookFrom}
 use Rattle.lert_cone.proofs.TakeLaws.{ok_of, never_malformed}
 use Rattle.lert_cone.proofs.tally.totals.scan_into.Goals as goal

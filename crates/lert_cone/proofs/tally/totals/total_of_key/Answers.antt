@@ -1,5 +1,4 @@
-use Rattle.std.proofs.Common.{◌<◌, [], ◌∷◌, subst}
-use Rattle.std.proofs.lemmas.List.Elements.{All-nil}
+use Rattle.std.proofs.{Common.{◌<◌, [], ◌∷◌, subst}, lemmas.List.Elements.All-nil}
 use Rattle.lert_spec.specs.declared.piece.Piece.{Piece}
 use Rattle.lert_cone.specs.Due.{TookFrom}
 use Rattle.lert_cone.proofs.tally.totals.total_of_key.Goals as goal

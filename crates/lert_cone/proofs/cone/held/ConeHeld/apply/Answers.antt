@@ -1,6 +1,5 @@
 use Rattle.lert_base.specs.Entries.{packet_of}
-use Rattle.lert_cone.proofs.Bays.{Bays, bays_of}
-use Rattle.lert_cone.proofs.HeldLaws.{answers_under, refuses_under}
+use Rattle.lert_cone.proofs.{Bays.{Bays, bays_of}, HeldLaws.{answers_under, refuses_under}}
 use Rattle.lert_cone.proofs.cone.held.ConeHeld.apply.Given as given
 use Rattle.lert_cone.proofs.cone.held.ConeHeld.apply.Goals as goal
 

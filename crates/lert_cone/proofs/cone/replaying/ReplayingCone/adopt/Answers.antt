@@ -1,21 +1,12 @@
-use Rattle.std.proofs.Common.{◌≡◌, ◌∙◌, ◌+◌, ◌-◌, ◌≤◌, List, Option, ℕ, length, ap, sym, subst, arith}
-use Rattle.std.proofs.Math.Nat.{mul-div-le}
+use Rattle.std.proofs.{Common.{◌≡◌, ◌∙◌, ◌+◌, ◌-◌, ◌≤◌, List, Option, ℕ, length, ap, sym, subst, arith}, Math.Nat.mul-div-le}
 use Rattle.lert_base.specs.Keys.{Keys}
 use Rattle.lert_bay.specs.Files.{Files}
 use Rattle.lert_gatelog.specs.Gated.{Log}
 use Rattle.lert_reports.specs.Log.{most_record}
-use Rattle.lert_spec.specs.declared.numbers.Numbers.{Numbers}
-use Rattle.lert_spec.specs.declared.report.Report.{Report}
-use Rattle.lert_spec.specs.Edges.{capacity, edge, offset, span}
-use Rattle.lert_spec.proofs.LookLaws.{AreKeys}
-use Rattle.lert_spec.proofs.TailLaws.{AreOfCone}
-use Rattle.lert_cone.specs.Listing.{Listing}
-use Rattle.lert_cone.specs.JournalPlaces.{places_from}
-use Rattle.lert_cone.specs.Record.{LogPlace}
-use Rattle.lert_cone.specs.Unread.{unread}
-use Rattle.lert_cone.proofs.AdoptLaws.{adopted, before, past}
-use Rattle.lert_cone.proofs.AdoptStands.{adopted_cone, adopted_head, adopted_replays}
-use Rattle.lert_cone.proofs.UnreadLaws.{length_unread, unread_keys, unread_own}
+use Rattle.lert_spec.specs.{declared.numbers.Numbers.Numbers, declared.report.Report.Report, Edges.{capacity, edge, offset, span}}
+use Rattle.lert_spec.proofs.{LookLaws.AreKeys, TailLaws.AreOfCone}
+use Rattle.lert_cone.specs.{Listing.Listing, JournalPlaces.places_from, Record.LogPlace, Unread.unread}
+use Rattle.lert_cone.proofs.{AdoptLaws.{adopted, before, past}, AdoptStands.{adopted_cone, adopted_head, adopted_replays}, UnreadLaws.{length_unread, unread_keys, unread_own}}
 use Rattle.lert_cone.proofs.cone.replaying.ReplayingCone.adopt.Goals as goal
 
 -- the keys that aren't read are fewer than those of the log's last record, since level 0 has none of them there

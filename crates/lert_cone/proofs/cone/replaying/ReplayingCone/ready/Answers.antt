@@ -1,8 +1,6 @@
 use Rattle.std.proofs.Common.{◌≡◌, ◌∙◌, ◌≤◌, None, length, ap, subst, sym, refl}
 use Rattle.lert_gatelog.specs.Gated.{Log}
-use Rattle.lert_cone.specs.History.{most_payload}
-use Rattle.lert_cone.specs.Replaying.{Replaying}
-use Rattle.lert_cone.specs.Wrote.{IsShutIfTold}
+use Rattle.lert_cone.specs.{History.most_payload, Replaying.Replaying, Wrote.IsShutIfTold}
 use Rattle.lert_cone.proofs.ReplayStands.{ready_cone, ready_stands, seen_as}
 use Rattle.lert_cone.proofs.cone.replaying.ReplayingCone.ready.Goals as goal
 

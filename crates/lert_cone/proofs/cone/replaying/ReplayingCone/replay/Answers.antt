@@ -1,31 +1,16 @@
-use Rattle.std.proofs.Common.{◌≡◌, ◌∙◌, ℕ, ◌+◌, ◌*◌, ◌<◌, ◌++◌, ◌∷◌, [], All, List, length, max, None, Some, Err, Ok, IsFalse}
-use Rattle.std.proofs.Common.{◌≤◌, le_refl, refl, sym, ap, subst, arith}
-use Rattle.lert_base.specs.Entries.{packet_of}
-use Rattle.lert_base.specs.Packet.{events_of}
+use Rattle.std.proofs.Common.{◌≡◌, ◌∙◌, ℕ, ◌+◌, ◌*◌, ◌<◌, ◌++◌, ◌∷◌, [], All, List, length, max, None, Some, Err, Ok, IsFalse, ◌≤◌, le_refl, refl, sym, ap, subst, arith}
+use Rattle.lert_base.specs.{Entries.packet_of, Packet.events_of}
 use Rattle.lert_bay.specs.Files.{Files}
 use Rattle.lert_bay.proofs.KeptLaws.{calls_as}
 use Rattle.lert_gatelog.specs.Gated.{IsClosed, Log}
 use Rattle.lert_journal.specs.Payload.{payload_of}
 use Rattle.lert_reports.specs.Log.{most_record}
 use Rattle.lert_spec.specs.Mix.{cone_of}
-use Rattle.lert_cone.specs.declared.refusal.ReplayFault.{ReplayFault}
-use Rattle.lert_cone.specs.declared.refusal.ReplayFault.TheVariants.{Failed, Malformed, Unsound}
-use Rattle.lert_cone.specs.Framed.{HoldsSome}
-use Rattle.lert_cone.specs.History.{most_payload}
-use Rattle.lert_cone.specs.InStep.{IsLogging}
-use Rattle.lert_cone.specs.Listing.{Listing}
-use Rattle.lert_cone.specs.Replay.{IsPast}
-use Rattle.lert_cone.specs.Replays.{WhyRefused}
-use Rattle.lert_cone.specs.Replaying.{Replaying}
-use Rattle.lert_cone.proofs.GateLaws.{past_more}
-use Rattle.lert_cone.proofs.JournalPlaceLaws.{next_holds}
-use Rattle.lert_cone.proofs.ReadCosts.{broken_read, ended_read, taken_read}
-use Rattle.lert_cone.proofs.Calls.{alone_reading}
-use Rattle.lert_cone.proofs.ReplayCalls.{alone_behind, calls_behind, ended_at, ended_replays, held_at, keys_stay, keys_unwritten, length_more, listing_more, moved_on, read_stays}
-use Rattle.lert_cone.proofs.ReplayCalls.{logged_behind, read_logged, read_unwritten, refilled, with_keys}
-use Rattle.lert_cone.proofs.ReplayStands.{keys_never_malformed, failed_keys, unsound_keys, only_by_bay, read_shut, refused_keys}
-use Rattle.lert_cone.proofs.ReplayStands.{seen_as}
-use Rattle.lert_cone.proofs.ReplayStep.{told_once}
+use Rattle.lert_cone.specs.{declared.refusal.ReplayFault.ReplayFault, declared.refusal.ReplayFault.TheVariants.{Failed, Malformed, Unsound}, Framed.HoldsSome, History.most_payload, InStep.IsLogging}
+use Rattle.lert_cone.specs.{Listing.Listing, Replay.IsPast, Replays.WhyRefused, Replaying.Replaying}
+use Rattle.lert_cone.proofs.{GateLaws.past_more, JournalPlaceLaws.next_holds, ReadCosts.{broken_read, ended_read, taken_read}, Calls.alone_reading, ReplayCalls.{alone_behind, calls_behind, ended_at}}
+use Rattle.lert_cone.proofs.ReplayCalls.{ended_replays, held_at, keys_stay, keys_unwritten, length_more, listing_more, moved_on, read_stays, logged_behind, read_logged, read_unwritten, refilled}
+use Rattle.lert_cone.proofs.{ReplayCalls.with_keys, ReplayStands.{keys_never_malformed, failed_keys, unsound_keys, only_by_bay, read_shut, refused_keys, seen_as}, ReplayStep.told_once}
 use Rattle.lert_cone.proofs.Refusals.{no_fault, one_fault}
 use Rattle.lert_cone.proofs.cone.replaying.ReplayingCone.replay.Given as given
 use Rattle.lert_cone.proofs.cone.replaying.ReplayingCone.replay.Goals as goal

@@ -1,21 +1,13 @@
 -- What a replay of one record keeps of its cone, at each of its exits.
 use Rattle.std.proofs.Common.{◌≡◌, ◌∙◌, ◌*◌, ◌++◌, length, take, drop, None, refl, sym, ap, subst, arith}
 use Rattle.lert_base.specs.Entries.{packet_of}
-use Rattle.lert_cone.proofs.Bays.{Bays, bays_of}
+use Rattle.lert_cone.proofs.{Bays.{Bays, bays_of}, ReplayCalls.{length_more, lent_again, listing_more, moved_on, refilled, refilled_twice}}
+use Rattle.lert_cone.proofs.{ReplayStands.{near_then, read_settled, read_shut, seen_as, settled_then, stopped_cone}, FaultLaws.{turns_as, turns_on}}
 use Rattle.lert_bay.proofs.KeptLaws.{IsLawful}
 use Rattle.lert_gatelog.specs.Gated.{Log}
 use Rattle.lert_journal.specs.Payload.{payload_of}
 use Rattle.lert_spec.specs.declared.numbers.Numbers.{Numbers}
-use Rattle.lert_cone.specs.History.{most_payload}
-use Rattle.lert_cone.specs.InStep.{IsLogging}
-use Rattle.lert_cone.specs.Listing.{Listing}
-use Rattle.lert_cone.specs.Room.{room_of}
-use Rattle.lert_cone.specs.Replaying.{Replaying}
-use Rattle.lert_cone.specs.Wrote.{Anything}
-use Rattle.lert_cone.proofs.ReplayCalls.{length_more, lent_again, listing_more, moved_on}
-use Rattle.lert_cone.proofs.ReplayCalls.{refilled, refilled_twice}
-use Rattle.lert_cone.proofs.ReplayStands.{near_then, read_settled, read_shut, seen_as, settled_then, stopped_cone}
-use Rattle.lert_cone.proofs.FaultLaws.{turns_as, turns_on}
+use Rattle.lert_cone.specs.{History.most_payload, InStep.IsLogging, Listing.Listing, Room.room_of, Replaying.Replaying, Wrote.Anything}
 use Rattle.lert_cone.proofs.cone.replaying.ReplayingCone.replay.Given as given
 use Rattle.lert_cone.proofs.cone.replaying.ReplayingCone.replay.Goals as goal
 

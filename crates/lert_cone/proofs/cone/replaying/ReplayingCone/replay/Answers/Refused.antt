@@ -1,21 +1,12 @@
 -- A record of the journal that isn't taken, since it leaves the format, or a call of the bay failed.
-use Rattle.std.proofs.Common.{◌≡◌, ◌∙◌, length, None, Some, Err}
-use Rattle.std.proofs.Common.{refl, sym, ap, subst}
+use Rattle.std.proofs.Common.{◌≡◌, ◌∙◌, length, None, Some, Err, refl, sym, ap, subst}
 use Rattle.lert_base.specs.Entries.{packet_of}
 use Rattle.lert_bay.proofs.KeptLaws.{calls_as}
 use Rattle.lert_gatelog.specs.Gated.{Log}
-use Rattle.lert_cone.specs.declared.refusal.ReplayFault.{ReplayFault}
-use Rattle.lert_cone.specs.declared.refusal.ReplayFault.TheVariants.{Failed, Unsound}
-use Rattle.lert_cone.specs.Replay.{IsPast, ReplayLeavesAt}
-use Rattle.lert_cone.specs.Replays.{WhyRefused}
+use Rattle.lert_cone.specs.{declared.refusal.ReplayFault.ReplayFault, declared.refusal.ReplayFault.TheVariants.{Failed, Unsound}, Replay.{IsPast, ReplayLeavesAt}, Replays.WhyRefused}
 use Rattle.lert_cone.specs.Replaying.{Replaying}
-use Rattle.lert_cone.proofs.ReplayLaws.{never_on_way}
-use Rattle.lert_cone.proofs.ReadCosts.{refused_read}
-use Rattle.lert_cone.proofs.Calls.{alone_reading}
-use Rattle.lert_cone.proofs.ReplayCalls.{read_stays}
-use Rattle.lert_cone.proofs.ReplayCalls.{read_logged, read_unwritten}
-use Rattle.lert_cone.proofs.ReplayStands.{leaves_listing, never_unsound, failed_record, only_failed, refused_record, seen_as}
-use Rattle.lert_cone.proofs.Refusals.{one_fault}
+use Rattle.lert_cone.proofs.{ReplayLaws.never_on_way, ReadCosts.refused_read, Calls.alone_reading, ReplayCalls.{read_stays, read_logged, read_unwritten}}
+use Rattle.lert_cone.proofs.{ReplayStands.{leaves_listing, never_unsound, failed_record, only_failed, refused_record, seen_as}, Refusals.one_fault}
 use Rattle.lert_cone.proofs.cone.replaying.ReplayingCone.replay.Goals as goal
 use Rattle.lert_cone.proofs.cone.replaying.ReplayingCone.replay.Answers.Kept.{bays, lawful}
 
