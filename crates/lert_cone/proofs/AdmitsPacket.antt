@@ -39,7 +39,7 @@ module _ {B : Type 0} (bays : Bays B) (lawful : IsLawful bays) (packet : Packet)
           (ap is_broken running) (stands.none_over (ap is_broken running)) (some_more h packet stands.some some) (omega (arith, counted_more h packet, stands.counted, events_are)) (omega
           (arith, events_are, within))
           (λ sound seen told.
-          let was = turns_back Anything (bays.files bay) (bays.files bay_after) did.seen seen told in
+          let was = turns_back did.seen seen told in
           let whole = stands.whole (ap is_broken running) sound was.0 was.1 in
           whole_of (bays.leaves bay_after) seen (h ++ packet ∷ []) after journal_after.gate log_after did.counted (did.in_step was.0 was.1 h whole seen told) (lawful.as_read bay_after seen told)
           (ap (λ (l : Listing). l.events) is ∙ keys_more h packet tally.listing.events whole.keys)

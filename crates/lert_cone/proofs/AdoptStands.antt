@@ -46,7 +46,7 @@ module _ {B : Type 0} (files : B → Option Files) (leaves : B → Files → Typ
         valid = subst IsValid same valid;
         never_falls = omega (arith, ap faults made_is);
         marked = ap mark (sym made_is);
-        tells = turns_as (files made) (files bay) (ap files (sym made_is));
+        tells = turns_as (ap files (sym made_is));
         taking = λ _. record {
           counted = long;
           recounted = recounted;

@@ -42,14 +42,12 @@ module _ {B : Type 0} (bays : Bays B) (lawful : IsLawful bays) (packet : Packet)
               (cone_at bay_after made after events state_after over_after journal_after.gate log_after last) h same
               (ap is_broken state_is ∙ is_broken_by fault) refl
               (λ by_bay. risen_since (bays.faults made) (bays.faults bay) (bays.faults bay_after) risen did.kept.never_falls
-              (did.kept.failed (ap Err (by_bay_of fault (sym state_is ∙ by_bay)))))
-              (λ file at by_read sound. turned_none (bays.files bay) (bays.files bay_after) did.seen (untold (bays.files bay)
+              (did.kept.failed (ap Err (by_bay_of fault (sym state_is ∙ by_bay))))) (λ file at by_read sound. turned_none did.seen (untold (bays.files bay)
               (λ seen told. did.sound seen told h (stands.whole (ap is_broken running) sound seen told) file at (ap Err (by_read_of fault file at (sym state_is ∙ by_read))))))
               (λ sound seen told.
-              let was = turns_back Anything (bays.files bay) (bays.files bay_after) did.seen seen told in
+              let was = turns_back did.seen seen told in
               subst (λ (l : Listing). IsKept (bays.leaves bay_after) seen (IsSoundOver l.settings l.cone h over_after)) (sym did.listing)
-              (subst (λ (o : Option Packet). IsKept (bays.leaves bay_after) seen (IsSoundOver tally.listing.settings tally.listing.cone h o)) (sym over_is)
-              (kept_since (bays.leaves bay_after) (bays.left_since bay_after (bays.moment bay)) seen (IsSoundOver tally.listing.settings tally.listing.cone h (Some packet))
+              (subst (λ (o : Option Packet). IsKept (bays.leaves bay_after) seen (IsSoundOver tally.listing.settings tally.listing.cone h o)) (sym over_is) (kept_since
               (lawful.as_read bay_after seen told) did.now
               (did.each_moment was.0 was.1 h (stands.whole (ap is_broken running) sound was.0 was.1)))))
               stands;

@@ -43,12 +43,10 @@ module _ {B : Type 0} (bays : Bays B) (lawful : IsLawful bays) where
       IsWhollySettled (bays.leaves before) old file →
       (new : Files) → bays.files after ≡ Some new → IsWhollySettled (bays.leaves after) new file
   settled_alone file before after =
-      settled_through file (bays.files before) (bays.files after) (bays.leaves before) (bays.leaves after) (bays.moment before) (bays.moment after) (bays.left_since before) (bays.left_since after)
+      settled_through
 
   pub shut_alone : (file gate : ℕ) (before after : B) → LeavesAlone bays file before after → IsShutIfTold (bays.files before) (bays.leaves before) file gate →
       IsShutIfTold (bays.files after)
       (bays.leaves after) file gate
   shut_alone file gate before after left =
-      shut_through file gate (bays.files before) (bays.files after) (bays.leaves before) (bays.leaves after) (bays.moment before) (bays.moment after) (bays.left_since before)
-      (bays.left_since after)
-      left (lawful.as_read before)
+      shut_through left (lawful.as_read before)

@@ -39,8 +39,8 @@ no_refusal (TakeUnsound file at) = refl
 -- ---- what is left of a bay
 
 -- files that are told stay told
-pub any_turn : (step : Files → Files → Type 0) (before after : Option Files) → Turns step before after → Turns Anything before after
-any_turn step before after turns = record {
+pub any_turn : {step : Files → Files → Type 0} {before after : Option Files} → Turns step before after → Turns Anything before after
+any_turn turns = record {
   told = λ old told.
       let came = turns.told old told in
       (came.0, came.1, tt);
@@ -48,22 +48,22 @@ any_turn step before after turns = record {
 }
 
 -- a bay that is the same tells the same
-pub turns_as : (before after : Option Files) → after ≡ before → Turns Anything before after
-turns_as before after same = record { told = λ old told. (old, same ∙ told, tt); untold = λ none. same ∙ none }
+pub turns_as : {before after : Option Files} → after ≡ before → Turns Anything before after
+turns_as same = record { told = λ old told. (old, same ∙ told, tt); untold = λ none. same ∙ none }
 
 -- what holds in each image of each moment holds as the files read then, and in each image
-pub kept_since : (after since : Files → Type 0) (seen : Files) (P : Files → Type 0) → after seen → ((image : Files) → after image → since image) →
+pub kept_since : {after since : Files → Type 0} {seen : Files} {P : Files → Type 0} → after seen → ((image : Files) → after image → since image) →
     ((image : Files) → since image → P image) →
     IsKept after seen P
-kept_since after since seen P read now each = record { as_read = each seen (now seen read); images = λ image may. each image (now image may) }
+kept_since {seen = seen} read now each = record { as_read = each seen (now seen read); images = λ image may. each image (now image may) }
 
 -- files that aren't told stay untold
-pub turned_none : {step : Files → Files → Type 0} (before after : Option Files) → Turns step before after → before ≡ None → after ≡ None
-turned_none before after turns = turns.untold
+pub turned_none : {step : Files → Files → Type 0} {before after : Option Files} → Turns step before after → before ≡ None → after ≡ None
+turned_none turns = turns.untold
 
 -- turns in a row
-pub turns_on : (one two : Files → Files → Type 0) (before between after : Option Files) → Turns one before between → Turns two between after → Turns Anything before after
-turns_on one two before between after first second = record {
+pub turns_on : {one two : Files → Files → Type 0} {before between after : Option Files} → Turns one before between → Turns two between after → Turns Anything before after
+turns_on first second = record {
   told = λ old told.
       let came = first.told old told in
       let went = second.told came.0 came.1 in

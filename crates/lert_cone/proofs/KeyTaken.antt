@@ -8,14 +8,14 @@ use Rattle.lert_spec.specs.{declared.numbers.Numbers.Numbers, Edges.{edge, capac
 use Rattle.lert_base.specs.Packet.{Packet}
 use Rattle.lert_cone.specs.{declared.journal_places.JournalPlace.JournalPlace, declared.tally.TakeFault.TakeFault, declared.tally.TakeFault.TheVariants.Failed, Appends.AppendsRecord, Counts.CountsKey}
 use Rattle.lert_cone.specs.{Framed.{HoldsSome, last_flush}, InStep.{IsLogging, IsPartway}, KeepsLog.NamesRows, Listing.Listing, JournalPlaces.{ArePlacesIn, HasPassed, Places}}
-use Rattle.lert_cone.specs.{Record.{LogPlace, payload_at}, Sound.IsSound, Takes.{Workplace, CanLog, CanTake, AreInStep, AreNext, TakesKeys}, Tally.{Tallied, IsHeld}, Wrote.LeavesAlone}
+use Rattle.lert_cone.specs.{Record.{LogPlace, payload_at}, Sound.IsSound, Takes.{Workplace, work_at, CanLog, CanTake, AreInStep, AreNext, TakesKeys}, Tally.{Tallied, IsHeld}, Wrote.LeavesAlone}
 use Rattle.lert_bay.proofs.KeptLaws.{IsLawful, keeps_as, keeps_on}
 use Rattle.lert_cone.proofs.{Calls.{now_since, alone_on, alone_rest, alone_others, settled_alone, shut_alone}, FlushLaws.flush_passed, KeepsLogSteps.{IsFlushed, log_failed, log_flushed, log_rest}}
 use Rattle.lert_cone.proofs.{KeyStep.{IsTaken, held_of, sound_rest, taken_of, up_between, sound_append, up_flushed}, JournalPlaceLaws.record_part, RecordLaws.{record_fits, logging_more}}
 use Rattle.lert_cone.proofs.{SoundLaws.turns_back, TakeLaws.handed_on}
 use Rattle.std.specs.Result.{IsErrAnd}
 
-module _ {B : Type 0} (bays : Bays B) (lawful : IsLawful bays) (place : JournalPlace) (old : Workplace B) (key : ℕ) (can : CanTake bays (key ∷ []) old) (bay : B) (counts : Tallied) where
+module _ {B : Type 0} {bays : Bays B} (lawful : IsLawful bays) (place : JournalPlace) {old : Workplace B} {key : ℕ} (can : CanTake bays (key ∷ []) old) {bay : B} {counts : Tallied} where
   -- whatever comes of it, the frames of before stand at each moment
   module _ (result : Result (Unit {0}) TakeFault) (did : CountsKey bays key old.bay bay old.counts counts result) where
     sound_key : IfTold (bays.files old.bay) (λ seen. (history : List Packet) → AreNext history place old (key ∷ []) →
@@ -52,14 +52,18 @@ module _ {B : Type 0} (bays : Bays B) (lawful : IsLawful bays) (place : JournalP
   }
 
   -- the key isn't counted
-  pub key_refused : (result : Result (Unit {0}) TakeFault) (fault : TakeFault) → result ≡ Err fault → CountsKey bays key old.bay bay old.counts counts result →
-      (given : Result (Unit {0}) TakeFault) → IsErrAnd given (λ g. g ≡ fault) → TakesKeys bays place (key ∷ []) old (record old { bay = bay; counts = counts }) given
-  key_refused result fault is did given given_is =
+  pub key_refused : {result given : Result (Unit {0}) TakeFault} {fault : TakeFault} → result ≡ Err fault → CountsKey bays key old.bay bay old.counts counts result →
+      IsErrAnd given (λ g. g ≡ fault) → TakesKeys bays place (key ∷ []) old (record old { bay = bay; counts = counts }) given
+  key_refused {given = given} {fault = fault} is did given_is =
       subst (λ (r : Result (Unit {0}) TakeFault). TakesKeys bays place (key ∷ []) old (record old { bay = bay; counts = counts }) r) (handed_on given fault given_is)
       (refused_by fault (subst (λ (r : Result (Unit {0}) TakeFault). CountsKey bays key old.bay bay old.counts counts r) is did))
 
   -- the key is counted, and passed
-  module _ (did : CountsKey bays key old.bay bay old.counts counts (Ok tt)) (places : Places) (over : HasPassed (length counts.listing.events) place old.log.places places) where
+  module _ (did : CountsKey bays key old.bay bay old.counts counts (Ok tt)) {at : ℕ} {places : Places} {log_mid : LogPlace} (at_is : at ≡ length counts.listing.events)
+      (passed : HasPassed at place old.log.places places) (rest : log_mid ≡ record old.log { places = places }) where
+    over : HasPassed (length counts.listing.events) place old.log.places places
+    over = subst (λ n. HasPassed n place old.log.places places) at_is passed
+
     abbrev log_then : LogPlace
     log_then = record old.log { places = places }
 
@@ -118,26 +122,29 @@ module _ {B : Type 0} (bays : Bays B) (lawful : IsLawful bays) (place : JournalP
         subst (λ (s : Numbers). HoldsSome s (length counts.listing.events) counts.rows (after 2)) settings_are (did.framed seen told some after told_after)
 
     -- where it stands then the log's next record may be appended
-    pub can_log_then : CanLog bays (record { bay = bay; counts = counts; log = record old.log { places = places }; room = old.room })
-    can_log_then = record {
+    can_log_here : CanLog bays (work_at bay counts log_then old.room)
+    can_log_here = record {
       logging = logging_kept;
       log_shut = shut_alone bays lawful 1 old.log.gate old.bay bay
           (alone_rest bays lawful (InNamed old.counts.listing.settings old.counts.rows) 1 (λ same. absurd (omega (arith, same))) old.bay bay did.rest did.kept.time) can.can_log.log_shut;
     }
 
+    pub can_log_then : CanLog bays (work_at bay counts log_mid old.room)
+    can_log_then = subst (λ (l : LogPlace). CanLog bays (work_at bay counts l old.room)) (sym rest) can_log_here
+
     -- between two flushes
     pub key_between : edge counts.listing.settings 0 (length counts.listing.events) ≡ edge counts.listing.settings 0 (length counts.listing.events - 1) →
-        TakesKeys bays place (key ∷ []) old (record { bay = bay; counts = counts; log = record old.log { places = places }; room = old.room }) (Ok tt)
+        TakesKeys bays place (key ∷ []) old (work_at bay counts log_mid old.room) (Ok tt)
     key_between stays_now =
         let stays : edge old.counts.listing.settings 0 (length counts.listing.events) ≡ edge old.counts.listing.settings 0 (length counts.listing.events - 1) =
         subst (λ (s : Numbers). edge s 0 (length counts.listing.events) ≡ edge s 0 (length counts.listing.events - 1)) settings_are stays_now in
         let before : length counts.listing.events - 1 ≡ length old.counts.listing.events = omega (arith, long) in
         let rows_are = did.still (ap (edge old.counts.listing.settings 0) (sym long) ∙ stays ∙ ap (edge old.counts.listing.settings 0) before) in
-        record {
+        subst (λ (l : LogPlace). TakesKeys bays place (key ∷ []) old (work_at bay counts l old.room) (Ok tt)) (sym rest) (record {
           listing = did.listing;
           taken = did.taken;
           counted = did.counted;
-          can_log = can_log_then;
+          can_log = can_log_here;
           in_step = λ seen told history next up after told_after.
               up_between (bays.leaves bay) after history old.counts counts log_then up.logged key can.still can.counted did.counted (taken seen told history next up after told_after) stays
               rows_are;
@@ -160,7 +167,7 @@ module _ {B : Type 0} (bays : Bays B) (lawful : IsLawful bays) (place : JournalP
             most = refl;
             kept = did.kept;
           };
-        }
+        })
 
     -- a flush
     module _ (moves_now : edge counts.listing.settings 0 (length counts.listing.events) ≢ edge counts.listing.settings 0 (length counts.listing.events - 1))
@@ -210,97 +217,93 @@ module _ {B : Type 0} (bays : Bays B) (lawful : IsLawful bays) (place : JournalP
     -- its record isn't appended
     pub record_failed : edge counts.listing.settings 0 (length counts.listing.events) ≢ edge counts.listing.settings 0 (length counts.listing.events - 1) →
         length counts.due.reports ≤ counts.listing.settings.room →
-        {E : Type 0} (failed : E) (bay_after : B) (log_after : LogPlace) (room : ℕ) →
-        AppendsRecord bays LogKind.Flush (length counts.listing.events) (directory_text counts.rows) counts.due.reports bay bay_after log_then log_after (Err failed) →
-        (given : Result (Unit {0}) TakeFault) → IsErrAnd given (λ fault. fault ≡ Failed) → TakesKeys bays place (key ∷ []) old (record {
-          bay = bay_after;
-          counts = counts;
-          log = log_after;
-          room = room;
-        }) given
-    record_failed moves_now few failed bay_after log_after room appends given given_is = subst (λ (r : Result (Unit {0}) TakeFault). TakesKeys bays place (key ∷ []) old (record {
-      bay = bay_after;
-      counts = counts;
-      log = log_after;
-      room = room;
-    }) r) (handed_on given Failed given_is) (record {
-      listing = did.listing;
-      taken = tt;
-      counted = tt;
-      can_log = tt;
-      in_step = λ seen told history next up. tt;
-      each_moment = sound_flush moves_now few (Err failed) bay_after log_after appends;
-      sound = λ seen told history next up file at same. (let never : ⊥ = cc in never);
-      framed = λ seen told some. tt;
-      whole = λ seen told some at same. (let never : ⊥ = cc in never);
-      unflushed = λ passed. absurd (never_passed moves_now few (Err failed) bay_after log_after appends passed);
-      log = log_failed bays lawful old.counts.listing.settings can.counted.valid old.counts.rows can.counted.are (length old.counts.listing.events) old.log.gate old.bay bay did.rest
-          can.can_log.log_shut did.kept.time.later can_log_then.log_shut counts.rows (length counts.listing.events) (flushed_then (moves moves_now few (Err failed) bay_after log_after appends))
-          framed_then counts.due.reports log_then refl
-          can.can_log.logging.most (Err failed) bay_after log_after appends (record { rows = counts.rows; events = length counts.listing.events; gate = log_after.gate }) Failed;
-      keeps = record {
-        shows = λ seen told file at same. absurd (let never : ⊥ = cc in never);
-        journal = journal_then moves_now few (Err failed) bay_after log_after appends;
-        most = ap (λ (l : LogPlace). l.most) appends.stayed;
-        kept = keeps_as bays lawful old.bay bay_after _ _ (λ _. refl) (keeps_on bays lawful old.bay bay bay_after _ _ did.kept appends.kept);
-      };
-    })
+        {E : Type 0} {failed : E} {bay_after : B} {log_after : LogPlace} {room : ℕ} {given : Result (Unit {0}) TakeFault} →
+        AppendsRecord bays LogKind.Flush (length counts.listing.events) (directory_text counts.rows) counts.due.reports bay bay_after log_mid log_after (Err failed) →
+        IsErrAnd given (λ fault. fault ≡ Failed) → TakesKeys bays place (key ∷ []) old (work_at bay_after counts log_after room) given
+    record_failed moves_now few {failed = failed} {bay_after = bay_after} {log_after = log_after} {room = room} {given = given} appended given_is =
+        let appends = subst (λ (l : LogPlace). AppendsRecord bays LogKind.Flush (length counts.listing.events) (directory_text counts.rows) counts.due.reports bay bay_after l log_after
+        (Err failed)) rest appended in
+        subst (λ (r : Result (Unit {0}) TakeFault). TakesKeys bays place (key ∷ []) old (work_at bay_after counts log_after room) r) (handed_on given Failed given_is) (record {
+          listing = did.listing;
+          taken = tt;
+          counted = tt;
+          can_log = tt;
+          in_step = λ seen told history next up. tt;
+          each_moment = sound_flush moves_now few (Err failed) bay_after log_after appends;
+          sound = λ seen told history next up file at same. (let never : ⊥ = cc in never);
+          framed = λ seen told some. tt;
+          whole = λ seen told some at same. (let never : ⊥ = cc in never);
+          unflushed = λ passed. absurd (never_passed moves_now few (Err failed) bay_after log_after appends passed);
+          log = log_failed bays lawful old.counts.listing.settings can.counted.valid old.counts.rows can.counted.are (length old.counts.listing.events) old.log.gate old.bay bay did.rest
+              can.can_log.log_shut did.kept.time.later can_log_here.log_shut counts.rows (length counts.listing.events) (flushed_then (moves moves_now few (Err failed) bay_after log_after appends))
+              framed_then counts.due.reports log_then refl
+              can.can_log.logging.most (Err failed) bay_after log_after appends (record { rows = counts.rows; events = length counts.listing.events; gate = log_after.gate }) Failed;
+          keeps = record {
+            shows = λ seen told file at same. absurd (let never : ⊥ = cc in never);
+            journal = journal_then moves_now few (Err failed) bay_after log_after appends;
+            most = ap (λ (l : LogPlace). l.most) appends.stayed;
+            kept = keeps_as bays lawful old.bay bay_after _ _ (λ _. refl) (keeps_on bays lawful old.bay bay bay_after _ _ did.kept appends.kept);
+          };
+        })
 
     -- its record is appended
     pub key_flushed : edge counts.listing.settings 0 (length counts.listing.events) ≢ edge counts.listing.settings 0 (length counts.listing.events - 1) →
         length counts.due.reports ≤ counts.listing.settings.room →
-        {E : Type 0} (bay_after : B) (log_after : LogPlace) (room : ℕ) → room ≡ old.room →
-        AppendsRecord {E = E} bays LogKind.Flush (length counts.listing.events) (directory_text counts.rows) counts.due.reports bay bay_after log_then log_after (Ok tt) →
-        TakesKeys bays place (key ∷ []) old (record { bay = bay_after; counts = counts; log = log_after; room = room }) (Ok tt)
-    key_flushed moves_now few bay_after log_after room room_is appends = record {
-      listing = did.listing;
-      taken = did.taken;
-      counted = did.counted;
-      can_log = record {
-        logging = logging_more old.counts counts old.log log_after old.room room key (directory_text counts.rows) counts.due.reports can.counted.valid can.can_log.logging is
-            (ap (λ (l : LogPlace). l.most) appends.moved) (ap (λ (l : LogPlace). l.named) appends.moved) (ap (λ (l : LogPlace). l.gate) appends.moved ∙ appends.long)
-            (record_fits counts.listing.settings counts.rows log_then (directory_text counts.rows) counts.due.reports counts.due.reports did.counted.are
-            (can.can_log.logging.most ∙ ap most_record (sym settings_are)) refl refl few)
-            room_is
-            (ap (λ (l : LogPlace). l.places.settings) appends.moved ∙ same ∙ sym settings_are) (ap (λ (l : LogPlace). l.places.passed) appends.moved ∙ over.passed);
-        log_shut = λ after told_after.
-            let back = turns_back (OthersStay 1) (bays.files bay) (bays.files bay_after) appends.seen after told_after in
-            record { settled = appends.settled after told_after; closed = appends.closed back.0 back.1 };
-      };
-      in_step = λ seen told history next up after told_after.
-          let mid = did.rest.seen.told seen told in
-          let taken_then = taken seen told history next up mid.0 mid.1 in
-          let all : InEach (bays.leaves bay) 1 (λ bytes. IsGated old.log.most bytes 8 (map log_payload_of up.logged) old.log.gate) =
-          λ earlier left. subst (λ (m : ℕ). IsGated m (earlier 1) 8 (map log_payload_of up.logged) old.log.gate) (sym can.can_log.logging.most)
-          (taken_then.log_there earlier left).records_stand in
-          let pay = payload_at log_then LogKind.Flush (length counts.listing.events) (directory_text counts.rows) counts.due.reports in
-          let stands : InEach (bays.leaves bay_after) 1 (λ bytes. IsGated (most_record old.counts.listing.settings) bytes 8 (map log_payload_of up.logged ++ pay ∷ []) log_after.gate) =
-          λ later left. subst (λ (m : ℕ). IsGated m (later 1) 8 (map log_payload_of up.logged ++ pay ∷ []) log_after.gate) can.can_log.logging.most
-          (appends.appended mid.0 mid.1 8 (map log_payload_of up.logged) all later left) in
-          up_flushed (bays.leaves bay) mid.0 history old.counts counts log_then up.logged key can.still can.counted did.counted taken_then
-          (moves moves_now few (Ok tt) bay_after log_after appends) (few_here moves_now few (Ok tt) bay_after log_after appends)
-          (bays.left_since bay_after (bays.moment bay)) pay refl (appends.others mid.0 mid.1) (appends.before mid.0 mid.1) (bays.leaves bay_after) after log_after
-          (now_since bays lawful bay bay_after appends.kept.time.later) (ap (λ (l : LogPlace). l.named) appends.moved)
-          (ap (λ (l : LogPlace). l.places) appends.moved) stands
-          (settled_alone bays lawful 0 bay bay_after (alone_others bays lawful 1 0 (λ same. absurd (omega (arith, same))) bay bay_after appends.seen appends.others appends.kept.time)
-          mid.0 mid.1 taken_then.journal_settled after told_after)
-          (appends.settled after told_after);
-      each_moment = sound_flush moves_now few (Ok tt) bay_after log_after appends;
-      sound = λ seen told history next up. did.sound seen told (held (Ok tt) did seen told history up);
-      framed = λ seen told some after told_after.
-          let was = turns_back (OthersStay 1) (bays.files bay) (bays.files bay_after) appends.seen after told_after in
-          subst (λ (bytes : List ℕ). HoldsSome counts.listing.settings (length counts.listing.events) counts.rows bytes) (sym (was.2 2 (λ same. absurd (omega (arith, same)))))
-          (did.framed seen told some was.0 was.1);
-      whole = did.whole;
-      unflushed = λ passed. absurd (never_passed moves_now few (Ok tt) bay_after log_after appends passed);
-      log = log_flushed bays lawful old.counts.listing.settings can.counted.valid old.counts.rows can.counted.are (length old.counts.listing.events) old.log.gate old.bay bay did.rest
-          can.can_log.log_shut did.kept.time.later can_log_then.log_shut counts.rows (length counts.listing.events) (flushed_then (moves moves_now few (Ok tt) bay_after log_after appends))
-          framed_then counts.due.reports log_then refl
-          can.can_log.logging.most bay_after log_after appends;
-      keeps = record {
-        shows = λ seen told file at same. absurd (let never : ⊥ = cc in never);
-        journal = journal_then moves_now few (Ok tt) bay_after log_after appends;
-        most = ap (λ (l : LogPlace). l.most) appends.moved;
-        kept = keeps_as bays lawful old.bay bay_after _ _ (λ same. absurd (let never : ⊥ = cc in never)) (keeps_on bays lawful old.bay bay bay_after _ _ did.kept appends.kept);
-      };
-    }
+        {E : Type 0} {bay_after : B} {log_after : LogPlace} {room : ℕ} → room ≡ old.room →
+        AppendsRecord {E = E} bays LogKind.Flush (length counts.listing.events) (directory_text counts.rows) counts.due.reports bay bay_after log_mid log_after (Ok tt) →
+        TakesKeys bays place (key ∷ []) old (work_at bay_after counts log_after room) (Ok tt)
+    key_flushed moves_now few {E = E} {bay_after = bay_after} {log_after = log_after} {room = room} room_is appended =
+        let appends = subst (λ (l : LogPlace). AppendsRecord {E = E} bays LogKind.Flush (length counts.listing.events) (directory_text counts.rows) counts.due.reports bay bay_after l
+        log_after (Ok tt)) rest appended in
+        record {
+          listing = did.listing;
+          taken = did.taken;
+          counted = did.counted;
+          can_log = record {
+            logging = logging_more old.counts counts old.log log_after old.room room key (directory_text counts.rows) counts.due.reports can.counted.valid can.can_log.logging is
+                (ap (λ (l : LogPlace). l.most) appends.moved) (ap (λ (l : LogPlace). l.named) appends.moved) (ap (λ (l : LogPlace). l.gate) appends.moved ∙ appends.long)
+                (record_fits counts.listing.settings counts.rows log_then (directory_text counts.rows) counts.due.reports counts.due.reports did.counted.are
+                (can.can_log.logging.most ∙ ap most_record (sym settings_are)) refl refl few)
+                room_is
+                (ap (λ (l : LogPlace). l.places.settings) appends.moved ∙ same ∙ sym settings_are) (ap (λ (l : LogPlace). l.places.passed) appends.moved ∙ over.passed);
+            log_shut = λ after told_after.
+                let back = turns_back appends.seen after told_after in
+                record { settled = appends.settled after told_after; closed = appends.closed back.0 back.1 };
+          };
+          in_step = λ seen told history next up after told_after.
+              let mid = did.rest.seen.told seen told in
+              let taken_then = taken seen told history next up mid.0 mid.1 in
+              let all : InEach (bays.leaves bay) 1 (λ bytes. IsGated old.log.most bytes 8 (map log_payload_of up.logged) old.log.gate) =
+              λ earlier left. subst (λ (m : ℕ). IsGated m (earlier 1) 8 (map log_payload_of up.logged) old.log.gate) (sym can.can_log.logging.most)
+              (taken_then.log_there earlier left).records_stand in
+              let pay = payload_at log_then LogKind.Flush (length counts.listing.events) (directory_text counts.rows) counts.due.reports in
+              let stands : InEach (bays.leaves bay_after) 1 (λ bytes. IsGated (most_record old.counts.listing.settings) bytes 8 (map log_payload_of up.logged ++ pay ∷ []) log_after.gate) =
+              λ later left. subst (λ (m : ℕ). IsGated m (later 1) 8 (map log_payload_of up.logged ++ pay ∷ []) log_after.gate) can.can_log.logging.most
+              (appends.appended mid.0 mid.1 8 (map log_payload_of up.logged) all later left) in
+              up_flushed (bays.leaves bay) mid.0 history old.counts counts log_then up.logged key can.still can.counted did.counted taken_then
+              (moves moves_now few (Ok tt) bay_after log_after appends) (few_here moves_now few (Ok tt) bay_after log_after appends)
+              (bays.left_since bay_after (bays.moment bay)) pay refl (appends.others mid.0 mid.1) (appends.before mid.0 mid.1) (bays.leaves bay_after) after log_after
+              (now_since bays lawful bay bay_after appends.kept.time.later) (ap (λ (l : LogPlace). l.named) appends.moved)
+              (ap (λ (l : LogPlace). l.places) appends.moved) stands
+              (settled_alone bays lawful 0 bay bay_after (alone_others bays lawful 1 0 (λ same. absurd (omega (arith, same))) bay bay_after appends.seen appends.others appends.kept.time)
+              mid.0 mid.1 taken_then.journal_settled after told_after)
+              (appends.settled after told_after);
+          each_moment = sound_flush moves_now few (Ok tt) bay_after log_after appends;
+          sound = λ seen told history next up. did.sound seen told (held (Ok tt) did seen told history up);
+          framed = λ seen told some after told_after.
+              let was = turns_back appends.seen after told_after in
+              subst (λ (bytes : List ℕ). HoldsSome counts.listing.settings (length counts.listing.events) counts.rows bytes) (sym (was.2 2 (λ same. absurd (omega (arith, same)))))
+              (did.framed seen told some was.0 was.1);
+          whole = did.whole;
+          unflushed = λ passed. absurd (never_passed moves_now few (Ok tt) bay_after log_after appends passed);
+          log = log_flushed bays lawful old.counts.listing.settings can.counted.valid old.counts.rows can.counted.are (length old.counts.listing.events) old.log.gate old.bay bay did.rest
+              can.can_log.log_shut did.kept.time.later can_log_here.log_shut counts.rows (length counts.listing.events) (flushed_then (moves moves_now few (Ok tt) bay_after log_after appends))
+              framed_then counts.due.reports log_then refl
+              can.can_log.logging.most bay_after log_after appends;
+          keeps = record {
+            shows = λ seen told file at same. absurd (let never : ⊥ = cc in never);
+            journal = journal_then moves_now few (Ok tt) bay_after log_after appends;
+            most = ap (λ (l : LogPlace). l.most) appends.moved;
+            kept = keeps_as bays lawful old.bay bay_after _ _ (λ same. absurd (let never : ⊥ = cc in never)) (keeps_on bays lawful old.bay bay bay_after _ _ did.kept appends.kept);
+          };
+        }

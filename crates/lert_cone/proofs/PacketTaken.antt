@@ -85,7 +85,7 @@ module _ {B : Type 0} (bays : Bays B) (lawful : IsLawful bays) (old : Workplace 
     each_moment = sound_append (Err failed) appends;
     sound = λ seen told history whole file at same. (let never : ⊥ = cc in never);
     shows = λ seen told file at same. absurd (let never : ⊥ = cc in never);
-    seen = any_turn (OthersStay journal.file) (bays.files old.bay) (bays.files bay) appends.seen;
+    seen = any_turn appends.seen;
     now = now (Err failed) appends;
     kept = record { time = appends.kept.time; never_falls = appends.kept.never_falls; failed = λ _. appends.kept.failed refl; mark = appends.kept.mark; journal = appends.kept.journal };
   }
@@ -122,7 +122,7 @@ module _ {B : Type 0} (bays : Bays B) (lawful : IsLawful bays) (old : Workplace 
 
     shut_then : IsShutIfTold (bays.files bay) (bays.leaves bay) 0 journal_after.gate
     shut_then seen told =
-        let was = turns_back (OthersStay journal.file) (bays.files old.bay) (bays.files bay) appends.seen seen told in
+        let was = turns_back appends.seen seen told in
         record {
           settled = subst (λ (f : ℕ). IsWhollySettled (bays.leaves bay) seen f) can.file (appends.settled seen told);
           closed = λ image may. subst (λ (f : ℕ). IsClosed (image f) journal_after.gate) can.file (appends.closed was.0 was.1 image may);
@@ -180,7 +180,7 @@ module _ {B : Type 0} (bays : Bays B) (lawful : IsLawful bays) (old : Workplace 
           let mid = appends.seen.told seen told in
           did.sound mid.0 mid.1 (history ++ packet ∷ []) (next_then place gate_is first_is seen history whole) (up_then seen told history whole mid.0 mid.1);
       shows = did.keeps.shows;
-      seen = turns_on (OthersStay journal.file) (λ before after. after 0 ≡ before 0) (bays.files old.bay) (bays.files bay) (bays.files new.bay) appends.seen did.keeps.journal.seen;
+      seen = turns_on appends.seen did.keeps.journal.seen;
       now = λ image may. lawful.since_earlier new.bay (bays.moment old.bay) (bays.moment bay) image appends.kept.time.later (did.keeps.journal.now image may);
       kept = keeps_on bays lawful old.bay bay new.bay _ _ appends.kept did.keeps.kept;
     }

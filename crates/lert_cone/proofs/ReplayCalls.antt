@@ -72,7 +72,7 @@ module _ {B : Type 0} (bays : Bays B) (lawful : IsLawful bays) where
   }
 
   -- a record is read at the gate
-  module _ (bay bay_read : B) (journal journal_read : Log) (room room_read : ℕ) (Failed : Type 0)
+  module _ {bay bay_read : B} {journal journal_read : Log} {room room_read : ℕ} {Failed : Type 0}
       (read : OnlyReadsJournal bays bay bay_read journal journal_read room room_read Failed) where
     pub read_unwritten : IsUnwritten bays bay bay_read
     read_unwritten = record { seen = read.reads.seen; images = read.reads.images; moments = read.reads.moments }
@@ -116,17 +116,21 @@ module _ {B : Type 0} (bays : Bays B) (lawful : IsLawful bays) where
     ended_at made t events stopped before after at log last after_is enough settled closed = record {
       enough = enough;
       stands = closed;
-      shut = shut_there 0 at (bays.files bay_read) (bays.leaves bay_read)
-          (read_settled 0 (bays.files bay) (bays.files bay_read) (bays.leaves bay) (bays.leaves bay_read) read.reads.seen read.reads.images settled)
-          (λ seen told. closed seen (sym read.reads.seen ∙ told));
+      shut = shut_there (read_settled read.reads.seen read.reads.images settled) (λ seen told. closed seen (sym read.reads.seen ∙ told));
       seen = read.reads.seen;
       images = read.reads.images;
       is = λ i. seen_as bay_read made t events stopped (after_is i) log last;
     }
 
     -- the cone is on its way through the journal of a history
-    module _ (t : Tallied) (log : LogPlace) (last : LogPoint) (seen : Files) (told : bays.files bay ≡ Some seen) (history done : List Packet) (gate : ℕ)
-        (on_way : IsOnWay (bays.leaves bay) seen history t.listing t.rows t.due.reports log last.n0) (past : IsPast history done t.listing.events gate) where
+    module _ (t : Tallied) (log : LogPlace) (last : LogPoint) (seen : Files) (told : bays.files bay ≡ Some seen) (history done : List Packet) (gate : ℕ) {made : B} {events own : ℕ}
+        {stopped : Option ReplayFault} (way : Replays bays.files bays.leaves (seen_as bay made t events stopped own log last) history done) (gate_same : gate ≡ own) where
+      on_way : IsOnWay (bays.leaves bay) seen history t.listing t.rows t.due.reports log last.n0
+      on_way = way.on_way seen told
+
+      past : IsPast history done t.listing.events gate
+      past = subst (IsPast history done t.listing.events) (sym gate_same) way.past
+
       -- a packet that stands there is the next one, and memory and files are where they were
       pub with_keys : (packet : Packet) → HoldsPacket t.listing.settings t.listing.cone (most_payload t.listing.settings) (seen 0) gate packet → (keys : List ℕ) → keys ≡ packet.keys →
           {X : Type 0} → (bays.files bay_read ≡ Some seen → (next : IsNext history done packet) → events_of history ≡ t.listing.events ++ (keys ++ events_of next.rest) →
@@ -138,13 +142,13 @@ module _ {B : Type 0} (bays : Bays B) (lawful : IsLawful bays) where
           (on_way_read (bays.leaves bay) seen history t.listing t.rows t.due.reports log last.n0 on_way (bays.leaves bay_read) (λ image may. (read.reads.images image).0 may))
 
       -- a closed gate that stands there is behind the last packet
-      pub ended_replays : (made : B) (events : ℕ) (stopped : Option ReplayFault) (after : ℕ) → stopped ≡ None → after ≡ gate → IsClosed (seen 0) gate →
+      pub ended_replays : (after : ℕ) → after ≡ gate → IsClosed (seen 0) gate →
           (done ≡ history) × Replays bays.files bays.leaves (seen_as bay_read made t events stopped after log last) history done
-      ended_replays made events stopped after taking after_is closed = (
+      ended_replays after after_is closed = (
         ends_there t.listing.settings t.listing.cone (seen 0) history done t.listing.events gate
             (journal_on_way (bays.leaves bay) seen history t.listing t.rows t.due.reports log last.n0 on_way (lawful.as_read bay seen told)) past closed,
         record {
-          taking = taking;
+          taking = way.taking;
           past = subst (λ at. IsPast history done t.listing.events at) (sym after_is) past;
           on_way = λ seen_after told_after.
               subst (λ (files : Files). IsOnWay (bays.leaves bay_read) files history t.listing t.rows t.due.reports log last.n0)

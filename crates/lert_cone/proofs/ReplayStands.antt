@@ -22,17 +22,17 @@ use Rattle.lert_cone.proofs.{FaultLaws.turns_on, GateLaws.is_next, ReplayLaws.{j
 -- ---- calls that read alone
 
 -- a file stays wholly settled
-pub read_settled : (file : ℕ) (before after : Option Files) (leaves leaves_after : Files → Type 0) → after ≡ before → KeepsImages leaves leaves_after → IfTold before
+pub read_settled : {file : ℕ} {before after : Option Files} {leaves leaves_after : Files → Type 0} → after ≡ before → KeepsImages leaves leaves_after → IfTold before
     (λ seen. IsWhollySettled leaves seen file) → IfTold after (λ seen. IsWhollySettled leaves_after seen file)
-read_settled file before after leaves leaves_after same images settled seen told =
+read_settled same images settled seen told =
     let was = settled seen (sym same ∙ told) in
     record { within = was.within; same = λ image may. was.same image ((images image).0 may) }
 
 -- and a gate in it closed
-pub read_shut : (file gate : ℕ) (before after : Option Files) (leaves leaves_after : Files → Type 0) → after ≡ before → KeepsImages leaves leaves_after →
+pub read_shut : {file gate : ℕ} {before after : Option Files} {leaves leaves_after : Files → Type 0} → after ≡ before → KeepsImages leaves leaves_after →
     IsShutIfTold before leaves file gate →
     IsShutIfTold after leaves_after file gate
-read_shut file gate before after leaves leaves_after same images shut seen told =
+read_shut same images shut seen told =
     let was = shut seen (sym same ∙ told) in
     record {
       settled = record { within = was.settled.within; same = λ image may. was.settled.same image ((images image).0 may) };
@@ -40,10 +40,10 @@ read_shut file gate before after leaves leaves_after same images shut seen told 
     }
 
 -- a gate that is closed as the file reads is closed in every image, where the file is settled
-pub shut_there : (file gate : ℕ) (told : Option Files) (leaves : Files → Type 0) → IfTold told (λ seen. IsWhollySettled leaves seen file) →
+pub shut_there : {file gate : ℕ} {told : Option Files} {leaves : Files → Type 0} → IfTold told (λ seen. IsWhollySettled leaves seen file) →
     IfTold told (λ seen. IsClosed (seen file) gate) →
     IsShutIfTold told leaves file gate
-shut_there file gate told leaves settled closed seen is = record {
+shut_there {file = file} {gate = gate} settled closed seen is = record {
   settled = settled seen is;
   closed = λ image may. closed_behind gate (length (image file)) (seen file) (image file) (closed seen is) (torn_behind (seen file) (image file) (gate + 1) ((settled seen is).same image may));
 }
@@ -148,8 +148,7 @@ module _ {B : Type 0} (files : B → Option Files) (leaves : B → Files → Typ
         valid = subst IsValid (sym same) cone.valid;
         never_falls = omega (arith, ap faults made_is, cone.never_falls, falls);
         marked = marked ∙ cone.marked ∙ ap mark (sym made_is);
-        tells = turns_on Anything Anything (files new.made) (files old.bay) (files new.bay)
-            (subst (λ (m : B). Turns Anything (files m) (files old.bay)) (sym made_is) cone.tells) turns;
+        tells = turns_on (subst (λ (m : B). Turns Anything (files m) (files old.bay)) (sym made_is) cone.tells) turns;
         taking = stopped_there new.stopped fault stopped;
       }
 
@@ -214,12 +213,12 @@ module _ {B : Type 0} (files : B → Option Files) (leaves : B → Files → Typ
 -- ---- through the calls of a record's keys
 
 -- a file stays wholly settled through calls that leave it alone
-pub settled_then : (file : ℕ) (before after : Option Files) (leaves_before leaves_after : Files → Type 0) (first last : ℕ) (since_before since_after : ℕ → Files → Type 0) →
+pub settled_then : {file : ℕ} {before after : Option Files} {leaves_before leaves_after : Files → Type 0} {first last : ℕ} {since_before since_after : ℕ → Files → Type 0} →
     LeavesFile file before after leaves_before leaves_after first last since_before since_after → IfTold before (λ seen. IsWhollySettled leaves_before seen file) → IfTold after
     (λ seen. IsWhollySettled leaves_after seen file)
-settled_then file before after leaves_before leaves_after first last since_before since_after left settled seen told =
-    let back = turns_back (λ old later. later file ≡ old file) before after left.seen seen told in
-    settled_through file before after leaves_before leaves_after first last since_before since_after left back.0 back.1 (settled back.0 back.1) seen told
+settled_then left settled seen told =
+    let back = turns_back left.seen seen told in
+    settled_through left back.0 back.1 (settled back.0 back.1) seen told
 
 -- the gate behind a packet lies as far on as its keys need
 pub near_then : (gate gate_after events events_after : ℕ) (packet : Packet) → gate ≤ 2 ^ 62 → gate_after ≡ next_gate gate (payload_of packet) → 0 < length packet.keys →

@@ -15,12 +15,12 @@ use Rattle.lert_reports.proofs.LogLaws.{records_none}
 -- ---- told files
 
 -- files that are told after a step were told before it
-pub turns_back : (step : Files → Files → Type 0) (before after : Option Files) → Turns step before after → (new : Files) → after ≡ Some new →
+pub turns_back : {step : Files → Files → Type 0} {before after : Option Files} → Turns step before after → (new : Files) → after ≡ Some new →
     (old : Files) × (before ≡ Some old) × step old new
-turns_back step (Some old) after turns new told =
+turns_back {step = step} {before = Some old} turns new told =
     let came = turns.told old refl in
     (old, refl, subst (step old) (same_Some came.0 new (sym came.1 ∙ told)) came.2)
-turns_back step None after turns new told = absurd (none-some new (sym (turns.untold refl) ∙ told))
+turns_back {before = None} turns new told = absurd (none-some new (sym (turns.untold refl) ∙ told))
 
 -- ---- histories
 

@@ -127,7 +127,7 @@ module _ {B : Type 0} (files : B → Option Files) (leaves : B → Files → Typ
     valid = subst (λ (l : Listing). IsValid l.settings) (sym is) valid;
     never_falls = omega (arith, ap faults made_is);
     marked = ap mark (sym made_is);
-    tells = turns_as (files made) (files bay) (ap files (sym made_is));
+    tells = turns_as (ap files (sym made_is));
     by_bay = λ never. absurd (false≢true (ap is_broken never));
     none_over = λ _. refl;
     counted = λ _. ap (λ (l : Listing). length l.events) is;
@@ -216,7 +216,7 @@ module _ {B : Type 0} (files : B → Option Files) (leaves : B → Files → Typ
         valid = subst (λ (l : Listing). IsValid l.settings) (sym is) cone.valid;
         never_falls = omega (arith, cone.never_falls, falls);
         marked = marked ∙ cone.marked;
-        tells = turns_on Anything Anything (files made) (files bay) (files last) cone.tells turns;
+        tells = turns_on cone.tells turns;
         by_bay = λ never. absurd (false≢true (sym (ap is_broken running) ∙ ap is_broken never));
         none_over = cone.none_over;
         counted = λ still. omega (arith, ap (λ (l : Listing). length l.events) is, length-append tally.listing.events packet.keys, cone.counted still, events_is);
@@ -245,7 +245,7 @@ module _ {B : Type 0} (files : B → Option Files) (leaves : B → Files → Typ
     valid = subst (λ (l : Listing). IsValid l.settings) (sym is) cone.valid;
     never_falls = omega (arith, cone.never_falls, falls);
     marked = marked ∙ cone.marked;
-    tells = turns_on Anything Anything (files made) (files bay) (files last) cone.tells turns;
+    tells = turns_on cone.tells turns;
     by_bay = λ never. absurd (false≢true (sym (ap is_broken finished) ∙ ap is_broken never));
     none_over = λ _. cone.none_over (ap is_broken running);
     counted = λ _. ap (λ (l : Listing). length l.events) is ∙ cone.counted (ap is_broken running);
@@ -277,8 +277,7 @@ module _ {B : Type 0} (files : B → Option Files) (leaves : B → Files → Typ
         valid = subst IsValid (sym same) cone.valid;
         never_falls = omega (arith, ap faults made_is, cone.never_falls, falls);
         marked = marked ∙ cone.marked ∙ ap mark (sym made_is);
-        tells = turns_on Anything Anything (files new.made) (files old.bay) (files new.bay)
-            (subst (λ (m : B). Turns Anything (files m) (files old.bay)) (sym made_is) cone.tells) turns;
+        tells = turns_on (subst (λ (m : B). Turns Anything (files m) (files old.bay)) (sym made_is) cone.tells) turns;
         by_bay = by_bay;
         none_over = λ still. absurd (false≢true (sym still ∙ broken));
         counted = λ still. absurd (false≢true (sym still ∙ broken));

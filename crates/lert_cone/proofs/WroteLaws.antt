@@ -117,10 +117,10 @@ torn_behind old new at same =
     }
 
 -- a file stays wholly settled, and its gate closed, through calls that leave it alone
-pub settled_through : (file : ℕ) (before after : Option Files) (leaves_before leaves_after : Files → Type 0) (first last : ℕ) (since_before since_after : ℕ → Files → Type 0) →
+pub settled_through : {file : ℕ} {before after : Option Files} {leaves_before leaves_after : Files → Type 0} {first last : ℕ} {since_before since_after : ℕ → Files → Type 0} →
     LeavesFile file before after leaves_before leaves_after first last since_before since_after → (old : Files) → before ≡ Some old → IsWhollySettled leaves_before old file →
     (new : Files) → after ≡ Some new → IsWhollySettled leaves_after new file
-settled_through file before after leaves_before leaves_after first last since_before since_after left old told settled new told_after =
+settled_through {file = file} left old told settled new told_after =
     let came = left.seen.told old told in
     let stays : new file ≡ old file = ap (λ (f : Files). f file) (turned came.0 new (sym came.1 ∙ told_after)) ∙ came.2 in
     record {
@@ -132,14 +132,14 @@ settled_through file before after leaves_before leaves_after first last since_be
     turned : (a b : Files) → Some a ≡ Some b → b ≡ a
     turned a b same = (let is : b ≡ a = cc in is)
 
-pub shut_through : (file gate : ℕ) (before after : Option Files) (leaves_before leaves_after : Files → Type 0) (first last : ℕ) (since_before since_after : ℕ → Files → Type 0) →
+pub shut_through : {file gate : ℕ} {before after : Option Files} {leaves_before leaves_after : Files → Type 0} {first last : ℕ} {since_before since_after : ℕ → Files → Type 0} →
     LeavesFile file before after leaves_before leaves_after first last since_before since_after → IfTold before leaves_before → IsShutIfTold before leaves_before file gate →
     IsShutIfTold after leaves_after file gate
-shut_through file gate before after leaves_before leaves_after first last since_before since_after left as_read shut new told_after =
-    let back = turns_back (λ old later. later file ≡ old file) before after left.seen new told_after in
+shut_through {file = file} {gate = gate} left as_read shut new told_after =
+    let back = turns_back left.seen new told_after in
     let here = shut back.0 back.1 in
     record {
-      settled = settled_through file before after leaves_before leaves_after first last since_before since_after left back.0 back.1 here.settled new told_after;
+      settled = settled_through left back.0 back.1 here.settled new told_after;
       closed = λ image may.
           closed_behind gate (length (image file)) (back.0 file) (image file) (here.closed back.0 (as_read back.0 back.1))
           (torn_behind (back.0 file) (image file) (gate + 1) (left.settled back.0 back.1 0 (length (back.0 file)) here.settled image (left.now image may)));

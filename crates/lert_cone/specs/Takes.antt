@@ -17,6 +17,9 @@ pub record Workplace (B : Type 0) : Type 0 where
   pub log : LogPlace
   pub room : ℕ
 
+abbrev pub work_at : {B : Type 0} → B → Tallied → LogPlace → ℕ → Workplace B
+work_at bay counts log room = record { bay = bay; counts = counts; log = log; room = room }
+
 -- where its log is before its next record, and its gate closed in every image
 pub record CanLog {B : Type 0} (bays : Bays B) (at : Workplace B) : Type 0 where
   pub logging : IsLogging at.counts at.log at.room

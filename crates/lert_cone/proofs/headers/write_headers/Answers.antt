@@ -28,7 +28,7 @@ returns-in_err-journal g c =
 
 pub create-requires-2-clause-empty : goal.create-requires-2-clause-empty
 create-requires-2-clause-empty g c = λ seen told.
-    let was = turns_back (OthersStay 0) (g.B.Bay.files c.args.bay.now) (g.B.Bay.files c.create.new.bay) c.create.ensures.seen seen told in
+    let was = turns_back c.create.ensures.seen seen told in
     was.2 1 (λ same. absurd (omega (arith, same))) ∙ (c.requires.fresh was.0 was.1).log
 
 pub returns-in_err-log : goal.returns-in_err-log
@@ -57,8 +57,8 @@ returns-clause-kept g c =
 
 pub returns-clause-begun : goal.returns-clause-begun
 returns-clause-begun g c = λ seen told.
-    let one = turns_back (OthersStay 1) (g.B.Bay.files c.create.new.bay) (g.B.Bay.files c.create-2.new.bay) c.create-2.ensures.seen seen told in
-    let zero_ = turns_back (OthersStay 0) (g.B.Bay.files c.args.bay.now) (g.B.Bay.files c.create.new.bay) c.create.ensures.seen one.0 one.1 in
+    let one = turns_back c.create-2.ensures.seen seen told in
+    let zero_ = turns_back c.create.ensures.seen one.0 one.1 in
     begun_new c.args.settings.now c.args.cone (g.B.Bay.leaves c.create.new.bay) (g.B.Bay.leaves c.create-2.new.bay) (g.B.Bay.left_since c.create-2.new.bay
     (g.B.Bay.moment c.create.new.bay)) one.0 seen refl
     (record {

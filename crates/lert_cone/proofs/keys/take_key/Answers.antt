@@ -27,10 +27,7 @@ pub take-requires-clause-counted : goal.take-requires-clause-counted
 take-requires-clause-counted g c = c.requires.counted
 
 pub returns-in_err-take : goal.returns-in_err-take
-returns-in_err-take g c = key_refused (bays g) (lawful g) c.args.place
-    (record { bay = c.args.bay.now; counts = c.args.tally.now; log = c.args.log.now; room = length c.args.buffer.now })
-    c.args.key c.requires c.take.new.bay c.take.new.self c.take.result c.in_err-take.field-0.0 c.in_err-take.was c.take.ensures
-    c.from_residual.result c.from_residual.ensures.1
+returns-in_err-take g c = key_refused (lawful g) c.args.place c.requires c.in_err-take.was c.take.ensures c.from_residual.ensures.1
 
 pub is_flushed-requires-clause-some : goal.is_flushed-requires-clause-some
 is_flushed-requires-clause-some g c = omega (arith, ap (length {A = ℕ}) c.in_ok-take.ensures.taken, length-append c.args.tally.now.listing.events (c.args.key ∷ []))
@@ -55,46 +52,20 @@ pass-requires-clause-within g c =
 
 pub returns-then-not-is_flushed : goal.returns-then-not-is_flushed
 returns-then-not-is_flushed g c =
-    let over : HasPassed (length c.take.new.self.listing.events) c.args.place c.args.log.now.places c.pass.new.self.places =
-    subst (λ n. HasPassed n c.args.place c.args.log.now.places c.pass.new.self.places) c.len.ensures c.pass.ensures.passed in
-    subst (λ (l : LogPlace). TakesKeys (bays g) c.args.place (c.args.key ∷ [])
-    (record { bay = c.args.bay.now; counts = c.args.tally.now; log = c.args.log.now; room = length c.args.buffer.now })
-    (record { bay = c.take.new.bay; counts = c.take.new.self; log = l; room = length c.args.buffer.now }) (Ok tt)) (sym c.pass.ensures.rest)
-    (key_between (bays g) (lawful g) c.args.place
-    (record { bay = c.args.bay.now; counts = c.args.tally.now; log = c.args.log.now; room = length c.args.buffer.now })
-    c.args.key c.requires c.take.new.bay c.take.new.self c.in_ok-take.ensures c.pass.new.self.places over (c.is_flushed.ensures.still c.if-not-is_flushed.true))
+    key_between (lawful g) c.args.place c.requires c.in_ok-take.ensures c.len.ensures c.pass.ensures.passed c.pass.ensures.rest (c.is_flushed.ensures.still c.if-not-is_flushed.true)
 
 pub write_record-requires-clause-counted : goal.write_record-requires-clause-counted
 write_record-requires-clause-counted g c = c.in_ok-take.ensures.counted
 
 pub write_record-requires-clause-can_log : goal.write_record-requires-clause-can_log
-write_record-requires-clause-can_log g c =
-    let over : HasPassed (length c.take.new.self.listing.events) c.args.place c.args.log.now.places c.pass.new.self.places =
-    subst (λ n. HasPassed n c.args.place c.args.log.now.places c.pass.new.self.places) c.len.ensures c.pass.ensures.passed in
-    subst (λ (l : LogPlace). CanLog (bays g) (record { bay = c.take.new.bay; counts = c.take.new.self; log = l; room = length c.args.buffer.now })) (sym c.pass.ensures.rest)
-    (can_log_then (bays g) (lawful g) c.args.place
-    (record { bay = c.args.bay.now; counts = c.args.tally.now; log = c.args.log.now; room = length c.args.buffer.now })
-    c.args.key c.requires c.take.new.bay c.take.new.self c.in_ok-take.ensures c.pass.new.self.places over)
+write_record-requires-clause-can_log g c = can_log_then (lawful g) c.args.place c.requires c.in_ok-take.ensures c.len.ensures c.pass.ensures.passed c.pass.ensures.rest
 
 pub returns-in_err-write_record : goal.returns-in_err-write_record
 returns-in_err-write_record g c =
-    let over : HasPassed (length c.take.new.self.listing.events) c.args.place c.args.log.now.places c.pass.new.self.places =
-    subst (λ n. HasPassed n c.args.place c.args.log.now.places c.pass.new.self.places) c.len.ensures c.pass.ensures.passed in
-    record_failed (bays g) (lawful g) c.args.place
-    (record { bay = c.args.bay.now; counts = c.args.tally.now; log = c.args.log.now; room = length c.args.buffer.now })
-    c.args.key c.requires c.take.new.bay c.take.new.self c.in_ok-take.ensures c.pass.new.self.places over (c.is_flushed.ensures.flushed c.if-not-is_flushed.false) c.write_record.ensures.few
-    c.in_err-write_record.field-0.0 c.write_record.new.bay c.write_record.new.log (length c.write_record.new.buffer)
-    (subst (λ (l : LogPlace). AppendsRecord (bays g) LogKind.Flush (length c.take.new.self.listing.events) (directory_text c.take.new.self.rows) c.take.new.self.due.reports
-    c.take.new.bay c.write_record.new.bay l c.write_record.new.log (Err c.in_err-write_record.field-0.0)) c.pass.ensures.rest
-    (rw c.in_err-write_record.was at c.write_record.ensures.appends)) c.from_residual-in_err-write_record.result c.from_residual-in_err-write_record.ensures.1
+    record_failed (lawful g) c.args.place c.requires c.in_ok-take.ensures c.len.ensures c.pass.ensures.passed c.pass.ensures.rest (c.is_flushed.ensures.flushed c.if-not-is_flushed.false)
+    c.write_record.ensures.few (rw c.in_err-write_record.was at c.write_record.ensures.appends) c.from_residual-in_err-write_record.ensures.1
 
 pub returns : goal.returns
 returns g c =
-    let over : HasPassed (length c.take.new.self.listing.events) c.args.place c.args.log.now.places c.pass.new.self.places =
-    subst (λ n. HasPassed n c.args.place c.args.log.now.places c.pass.new.self.places) c.len.ensures c.pass.ensures.passed in
-    key_flushed (bays g) (lawful g) c.args.place
-    (record { bay = c.args.bay.now; counts = c.args.tally.now; log = c.args.log.now; room = length c.args.buffer.now })
-    c.args.key c.requires c.take.new.bay c.take.new.self c.in_ok-take.ensures c.pass.new.self.places over (c.is_flushed.ensures.flushed c.if-not-is_flushed.false) c.write_record.ensures.few
-    c.write_record.new.bay c.write_record.new.log (length c.write_record.new.buffer) c.write_record.auto.buffer (subst (λ (l : LogPlace). AppendsRecord (bays g) LogKind.Flush
-    (length c.take.new.self.listing.events) (directory_text c.take.new.self.rows) c.take.new.self.due.reports
-    c.take.new.bay c.write_record.new.bay l c.write_record.new.log (Ok tt)) c.pass.ensures.rest (rw c.in_ok-write_record.was at c.write_record.ensures.appends))
+    key_flushed (lawful g) c.args.place c.requires c.in_ok-take.ensures c.len.ensures c.pass.ensures.passed c.pass.ensures.rest (c.is_flushed.ensures.flushed c.if-not-is_flushed.false)
+    c.write_record.ensures.few c.write_record.auto.buffer (rw c.in_ok-write_record.was at c.write_record.ensures.appends)

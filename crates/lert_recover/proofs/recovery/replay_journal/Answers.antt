@@ -85,7 +85,7 @@ returns-in-Ok g c =
           let end = c.replay_all.new.cone in
           c.ready.ensures.stands_for h some (count ∙ ap (λ (k : Standing g.row.B.Denot). k.events) c.ready.ensures.value)
           (λ was now told.
-          let back = turns_back (λ old new. new JOURNAL ≡ old JOURNAL) (files start.bay) (files end.bay) c.replay_all.ensures.journal now told in
+          let back = turns_back c.replay_all.ensures.journal now told in
           c.in-Ok.ensures.replays back.0 back.1 h (begun (was_before files start end c.replay_all.ensures.same_cone (subst (WasSound files) c.ready.ensures.value was)) back.0 back.1));
       passed = omega (arith, all.passed, count_is);
       counted = ap (λ (k : Standing g.row.B.Denot). k.events) value ∙ (all.counted ∙ sym count_is);

@@ -65,7 +65,7 @@ returns-in_err-test_state g c =
           ((stands.whole still sound seen told).files.kept.images image (g.met.B.Bay.only_now c.args.self.now.bay image may)).sound;
       whole = λ seen told. tt;
       sound_closed = tt;
-      seen = turns_as (g.B.Bay.files c.args.self.now.bay) (g.B.Bay.files c.args.self.now.bay) refl;
+      seen = turns_as refl;
       kept = keeps_none (bays g) (lawful g) c.args.self.now.bay _ (no_failed _ refusal);
     })
 
@@ -76,7 +76,7 @@ invariant_of-self g c =
     broken_cone g.B.Bay.files g.B.Bay.leaves g.B.Faulty.faults g.B.Faulty.mark _ _ c.self.inside.tally c.finish.new.tally c.self.inside.journal c.self.inside.journal _ _ _ _
     (ap is_broken c.broken_by-self-inside.ensures ∙ is_broken_by c.in-Err.fault) (ap (λ (l : Listing). l.settings) c.finish.ensures.listing) refl refl refl refl
     (sym (length_refill c.self.inside.buffer.len c.self.inside.buffer.items c.finish.new.buffer len_is) ∙ len_is) refl c.finish.ensures.keeps.kept.never_falls
-    (any_turn (λ old new. new 0 ≡ old 0) (g.B.Bay.files c.self.inside.bay) (g.B.Bay.files c.finish.new.bay) c.finish.ensures.keeps.journal.seen) c.finish.ensures.keeps.kept.mark
+    (any_turn c.finish.ensures.keeps.journal.seen) c.finish.ensures.keeps.kept.mark
     (λ same. risen_since (g.B.Faulty.faults c.self.inside.made.value) (g.B.Faulty.faults c.self.inside.bay) (g.B.Faulty.faults c.finish.new.bay) c.self.invariant.never_falls
     c.finish.ensures.keeps.kept.never_falls
     (c.finish.ensures.keeps.kept.failed (c.in-Err.is ∙ ap Err (by_bay_of c.in-Err.fault (sym c.broken_by-self-inside.ensures ∙ same)))))
@@ -101,16 +101,14 @@ returns-in-Err g c =
           (λ same. risen_since (g.B.Faulty.faults c.self.inside.made.value) (g.B.Faulty.faults c.self.inside.bay) (g.B.Faulty.faults c.finish.new.bay) c.self.invariant.never_falls
           c.finish.ensures.keeps.kept.never_falls
           (c.finish.ensures.keeps.kept.failed (c.in-Err.is ∙ ap Err (by_bay_of c.in-Err.fault (sym c.broken_by-self-inside.ensures ∙ same)))))
-          (λ file at same sound. turned_none (g.B.Bay.files c.self.inside.bay) (g.B.Bay.files c.finish.new.bay) c.finish.ensures.keeps.journal.seen (untold (g.B.Bay.files c.self.inside.bay)
+          (λ file at same sound. turned_none c.finish.ensures.keeps.journal.seen (untold (g.B.Bay.files c.self.inside.bay)
           (λ seen told. c.finish.ensures.sound seen told h (stands.whole (ap is_broken running) sound seen told).in_step file at (c.in-Err.is ∙ ap Err (by_read_of c.in-Err.fault file at
           (sym c.broken_by-self-inside.ensures ∙ same))))))
           (λ sound seen told.
-          let was = turns_back (λ old new. new 0 ≡ old 0) (g.B.Bay.files c.self.inside.bay) (g.B.Bay.files c.finish.new.bay) c.finish.ensures.keeps.journal.seen seen told in
+          let was = turns_back c.finish.ensures.keeps.journal.seen seen told in
           let whole = stands.whole (ap is_broken running) sound was.0 was.1 in
           subst (λ (l : Listing). IsKept (g.B.Bay.leaves c.finish.new.bay) seen (IsSoundOver l.settings l.cone h (over_of c.self.inside.over))) (sym c.finish.ensures.listing)
-          (kept_since (g.B.Bay.leaves c.finish.new.bay) (g.B.Bay.left_since c.finish.new.bay (g.B.Bay.moment c.self.inside.bay)) seen
-          (IsSoundOver c.self.inside.tally.listing.settings c.self.inside.tally.listing.cone h (over_of c.self.inside.over))
-          (g.met.B.Bay.as_read c.finish.new.bay seen told) c.finish.ensures.keeps.journal.now
+          (kept_since (g.met.B.Bay.as_read c.finish.new.bay seen told) c.finish.ensures.keeps.journal.now
           (λ image may. inl (c.finish.ensures.each_moment was.0 was.1 h whole.keys whole.in_step image may))))
           stands;
       unchanged = λ same. absurd (false≢true (sym (ap is_refusal c.from.ensures ∙ no_refusal c.in-Err.fault) ∙ same));
@@ -139,7 +137,7 @@ returns-in-Err g c =
           let whole = stands.whole still sound seen told in
           c.finish.ensures.each_moment seen told h whole.keys whole.in_step image may;
       sound_closed = tt;
-      seen = any_turn (λ old new. new 0 ≡ old 0) (g.B.Bay.files c.self.inside.bay) (g.B.Bay.files c.finish.new.bay) c.finish.ensures.keeps.journal.seen;
+      seen = any_turn c.finish.ensures.keeps.journal.seen;
       kept = keeps_as (bays g) (lawful g) c.self.inside.bay c.finish.new.bay _ _ (λ same.
           let answer : c.from.result ≡ BayFailed = one_fault same in
           c.in-Err.is ∙ ap Err (failed_of c.in-Err.fault (sym c.from.ensures ∙ answer))) c.finish.ensures.keeps.kept;
@@ -155,8 +153,7 @@ invariant_of-self-2 g c =
     c.self.inside.state Finished (over_of c.self.inside.over) c.self.inside.journal c.self.inside.log c.finish.new.log c.self.inside.last
     running refl (c.finish.ensures.listing ∙ ap (λ closed. record c.self.inside.tally.listing { closed = closed }) c.in_default.ensures.closed) c.in_default.ensures.counted (sym
     (length_refill c.self.inside.buffer.len c.self.inside.buffer.items c.finish.new.buffer len_is) ∙ len_is) c.finish.ensures.keeps.kept.never_falls
-    (any_turn (λ old new. new 0 ≡ old 0) (g.B.Bay.files c.self.inside.bay) (g.B.Bay.files c.finish.new.bay) c.finish.ensures.keeps.journal.seen) c.finish.ensures.keeps.kept.mark
-    c.self.invariant
+    (any_turn c.finish.ensures.keeps.journal.seen) c.finish.ensures.keeps.kept.mark c.self.invariant
 
 was_running : (g : given.Over) (c : After-len g) → c.self.inside.state ≡ Running
 was_running g c = subst (λ (v : Standing g.row.B.Denot). v.state ≡ Running) (sym c.self.view_is) c.in_ok-test_state.ensures.ok
@@ -179,7 +176,7 @@ stands_then g c h stands =
       last = refl;
     }) refl (stands.none_over (ap is_broken running)) stands.some stands.counted stands.within
     (λ sound seen told.
-    let was = turns_back (λ old new. new 0 ≡ old 0) (g.B.Bay.files c.self.inside.bay) (g.B.Bay.files c.finish.new.bay) c.finish.ensures.keeps.journal.seen seen told in
+    let was = turns_back c.finish.ensures.keeps.journal.seen seen told in
     let whole = stands.whole (ap is_broken running) sound was.0 was.1 in
     whole_of (g.B.Bay.leaves c.finish.new.bay) seen h c.finish.new.tally c.self.inside.journal.gate c.finish.new.log c.in_default.ensures.counted
     (c.in_default.ensures.in_step was.0 was.1 h whole.keys whole.in_step seen told) (g.met.B.Bay.as_read c.finish.new.bay seen told)
@@ -190,7 +187,7 @@ pub returns : goal.returns
 returns g c =
     let running = was_running g c in
     let is = ended g c in
-    let turned = any_turn (λ old new. new 0 ≡ old 0) (g.B.Bay.files c.self.inside.bay) (g.B.Bay.files c.finish.new.bay) c.finish.ensures.keeps.journal.seen in
+    let turned = any_turn c.finish.ensures.keeps.journal.seen in
     rw (← c.self.view_is) (record {
       stands_for = stands_then g c;
       answers = λ h stands sound seen told.

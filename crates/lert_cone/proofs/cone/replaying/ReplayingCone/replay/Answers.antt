@@ -20,8 +20,7 @@ mod Kept
 mod Refused
 
 pub read_packet-requires-clause-most : goal.read_packet-requires-clause-most
-read_packet-requires-clause-most g c = ap (λ (j : Log). j.most) c.at_gate-self-inside.ensures ∙ c.greatest_payload-most.ensures.value
-    ∙ ap most_payload c.settings.ensures
+read_packet-requires-clause-most g c = ap (λ (j : Log). j.most) c.at_gate-self-inside.ensures ∙ c.greatest_payload-most.ensures.value ∙ ap most_payload c.settings.ensures
 
 pub read_packet-requires-clause-entry : goal.read_packet-requires-clause-entry
 read_packet-requires-clause-entry g c = subst (λ n. n ≤ c.self.inside.entry.keys.room) c.self.invariant.keys_roomy (le_refl _)
@@ -68,9 +67,7 @@ replay_keys-requires g c =
       recounted = was.recounted;
       can_log = record {
         logging = subst (λ n. IsLogging c.self.inside.tally c.self.inside.log n) (sym room) was.logging;
-        log_shut = read_shut 1 c.self.inside.log.gate (g.B.Bay.files c.self.inside.bay) (g.B.Bay.files c.read_packet.new.bay) (g.B.Bay.leaves c.self.inside.bay)
-            (g.B.Bay.leaves c.read_packet.new.bay)
-            c.read_packet.ensures.keeps.reads.seen c.read_packet.ensures.keeps.reads.images was.log_shut;
+        log_shut = read_shut c.read_packet.ensures.keeps.reads.seen c.read_packet.ensures.keeps.reads.images was.log_shut;
       };
     }
 
@@ -99,38 +96,26 @@ returns-in-Err-replay_keys g c =
           }));
       broke = λ i. record (seen_as c.replay_keys.new.bay c.self.inside.made.value c.replay_keys.new.tally c.self.inside.events (Some c.from-fault.result)
           c.read_packet.new.journal.gate c.replay_keys.new.log c.self.inside.last) { listing = c.replay_keys.ensures.listing i };
-      replays = λ seen told h done way gate_same. subst (λ (fault : ReplayFault). fault ≡ Failed) (sym c.from-fault.ensures)
-          (only_by_bay c.in-Err-replay_keys.fault (λ file at same.
-          with_keys (bays g) (lawful g) c.self.inside.bay c.read_packet.new.bay _ _ _ _ _ c.read_packet.ensures.keeps c.self.inside.tally
-          c.self.inside.log c.self.inside.last
-          seen told h done c.args.gate (way.on_way seen told) (subst (λ g. IsPast h done c.self.inside.tally.listing.events g)
-          (sym gate_same) way.past)
+      replays = λ seen told h done way gate_same. subst (λ (fault : ReplayFault). fault ≡ Failed) (sym c.from-fault.ensures) (only_by_bay c.in-Err-replay_keys.fault (λ file at same.
+          with_keys (bays g) (lawful g) c.read_packet.ensures.keeps c.self.inside.tally c.self.inside.log c.self.inside.last seen told h done c.args.gate way gate_same
           (packet_of c.read_packet.new.entry) (held_at c.at_gate-self-inside.ensures (c.in-Ok-true.ensures.found seen told
-          c.in-Ok-true.field-0-test)) c.keys_of.result.now c.keys_of.ensures.value
-          (λ told_read next is on_read. c.replay_keys.ensures.sound seen told_read h (events_of next.rest) is
+          c.in-Ok-true.field-0-test)) c.keys_of.result.now c.keys_of.ensures.value (λ told_read next is on_read. c.replay_keys.ensures.sound seen told_read h (events_of next.rest) is
           (next_holds h done c.self.inside.tally.listing.events c.args.gate (packet_of c.read_packet.new.entry) c.keys_of.result.now _
-          (subst (λ g. IsPast h done c.self.inside.tally.listing.events g) (sym gate_same) way.past) next c.keys_of.ensures.value refl (ap
-          (λ n. n + 1) c.len-first.ensures)) on_read file at
+          (subst (λ g. IsPast h done c.self.inside.tally.listing.events g) (sym gate_same) way.past) next c.keys_of.ensures.value refl (ap (λ n. n + 1) c.len-first.ensures)) on_read file at
           (c.in-Err-replay_keys.is ∙ ap Err same))));
-      stays_sound = λ seen told h done way gate_same.
-          keys_stay (bays g) (lawful g) c.self.inside.bay c.read_packet.new.bay _ _ _ _ _ c.read_packet.ensures.keeps c.self.inside.tally
-          c.self.inside.log c.self.inside.last
-          seen told h done c.args.gate (way.on_way seen told) (subst (λ g. IsPast h done c.self.inside.tally.listing.events g)
-          (sym gate_same) way.past) (c.self.invariant.taking way.taking).recounted
-          (packet_of c.read_packet.new.entry) (held_at c.at_gate-self-inside.ensures (c.in-Ok-true.ensures.found seen told
-          c.in-Ok-true.field-0-test))
+      stays_sound = λ seen told h done way gate_same. keys_stay (bays g) (lawful g) c.read_packet.ensures.keeps c.self.inside.tally c.self.inside.log c.self.inside.last
+          seen told h done c.args.gate way gate_same (c.self.invariant.taking way.taking).recounted
+          (packet_of c.read_packet.new.entry) (held_at c.at_gate-self-inside.ensures (c.in-Ok-true.ensures.found seen told c.in-Ok-true.field-0-test))
           c.keys_of.result.now c.keys_of.ensures.value _ refl (ap (λ n. n + 1) c.len-first.ensures) _ _ _ c.replay_keys.ensures;
-      unflushed = λ seen told none. keys_unwritten (bays g) (lawful g) c.self.inside.bay c.read_packet.new.bay _ _ _ _ _ c.read_packet.ensures.keeps
-          c.self.inside.tally.listing.settings
-          (length c.self.inside.tally.listing.events) c.self.inside.last.n0 (packet_of c.read_packet.new.entry) c.keys_of.result.now _
-          c.keys_of.ensures.value
+      unflushed = λ seen told none. keys_unwritten (bays g) (lawful g) c.read_packet.ensures.keeps c.self.inside.tally.listing.settings
+          (length c.self.inside.tally.listing.events) c.self.inside.last.n0 (packet_of c.read_packet.new.entry) c.keys_of.result.now _ c.keys_of.ensures.value
           (none (packet_of c.read_packet.new.entry) (held_at c.at_gate-self-inside.ensures (c.in-Ok-true.ensures.found seen told
           c.in-Ok-true.field-0-test)) (c.in-Ok-true.ensures.follows c.in-Ok-true.field-0-test)) c.replay_keys.ensures.unflushed;
       malformed = λ at same.
           let answer : c.from-fault.result ≡ Malformed at = one_fault same in
           absurd (keys_never_malformed c.in-Err-replay_keys.fault at (sym c.from-fault.ensures ∙ answer));
       log = let taking : c.self.inside.stopped ≡ None = subst (λ (v : Replaying g.row.B.Denot). v.stopped ≡ None) (sym c.self.view_is) c.requires.taking in
-          logged_behind (bays g) (lawful g) c.self.inside.bay c.read_packet.new.bay _ _ _ _ _ c.read_packet.ensures.keeps c.self.inside.tally.listing.settings _ _
+          logged_behind (bays g) (lawful g) c.read_packet.ensures.keeps c.self.inside.tally.listing.settings _ _
           c.replay_keys.new.bay c.replay_keys.result (Err c.from-fault.result) (c.self.invariant.taking taking).log_shut c.replay_keys.ensures.keeps.journal (λ P holds. tt)
           c.replay_keys.ensures.log;
       framed = λ seen told some. tt;
@@ -148,15 +133,12 @@ returns-in-Err-replay_keys g c =
         made = refl;
         last = refl;
       };
-      journal = alone_behind (bays g) (lawful g) c.self.inside.bay c.read_packet.new.bay _ _ _ _ _ c.read_packet.ensures.keeps 0 c.replay_keys.new.bay c.replay_keys.ensures.keeps.journal;
-      kept = calls_behind (bays g) (lawful g) c.self.inside.bay c.read_packet.new.bay _ _ _ _ _ c.read_packet.ensures.keeps
-          c.replay_keys.new.bay _ _ (λ same.
+      journal = alone_behind (bays g) (lawful g) c.read_packet.ensures.keeps 0 c.replay_keys.new.bay c.replay_keys.ensures.keeps.journal;
+      kept = calls_behind (bays g) (lawful g) c.read_packet.ensures.keeps c.replay_keys.new.bay _ _ (λ same.
           let answer : c.from-fault.result ≡ Failed = one_fault same in
           c.in-Err-replay_keys.is ∙ ap Err (failed_keys c.in-Err-replay_keys.fault (sym c.from-fault.ensures ∙ answer))) c.replay_keys.ensures.keeps.kept;
-      handed = broken_read c.self.inside.tally.listing.settings (packet_of c.read_packet.new.entry) _ _ (g.B.Bay.handed_out c.replay_keys.new.bay)
-          c.replay_keys.ensures.keeps.kept.journal
-          c.in-Ok-true.field-0 _ _ c.in-Ok-true.ensures.handed c.in-Ok-true.field-0-test (ap (λ (j : Log). j.gate) (c.in-Ok-true.ensures.moved
-          c.in-Ok-true.field-0-test))
+      handed = broken_read c.self.inside.tally.listing.settings (packet_of c.read_packet.new.entry) _ _ (g.B.Bay.handed_out c.replay_keys.new.bay) c.replay_keys.ensures.keeps.kept.journal
+          c.in-Ok-true.field-0 _ _ c.in-Ok-true.ensures.handed c.in-Ok-true.field-0-test (ap (λ (j : Log). j.gate) (c.in-Ok-true.ensures.moved c.in-Ok-true.field-0-test))
           (c.in-Ok-true.ensures.forward c.in-Ok-true.field-0-test).1;
     })
 
@@ -169,13 +151,10 @@ returns-in_default g c =
     rw (← c.self.view_is) (record {
       taken = let taking : c.self.inside.stopped ≡ None = subst (λ (v : Replaying g.row.B.Denot). v.stopped ≡ None) (sym c.self.view_is) c.requires.taking in
           let was = c.self.invariant.taking taking in
-          let listing_is = listing_more c.self.inside.tally.listing c.replay_keys.new.tally.listing c.read_packet.new.entry.keys.keys
-          c.keys_of.result.now
+          let listing_is = listing_more c.self.inside.tally.listing c.replay_keys.new.tally.listing c.read_packet.new.entry.keys.keys c.keys_of.result.now
           c.replay_keys.ensures.listing c.in_default.ensures.taken c.keys_of.ensures.value in
-          let moved = moved_on (payload_of (packet_of c.read_packet.new.entry)) (c.in-Ok-true.ensures.moved c.in-Ok-true.field-0-test)
-          c.at_gate-self-inside.ensures in
-          let events_is = length_more c.self.inside.tally.listing c.replay_keys.new.tally.listing c.read_packet.new.entry.keys.keys
-          c.self.inside.events c.len-self-inside.result
+          let moved = moved_on (payload_of (packet_of c.read_packet.new.entry)) (c.in-Ok-true.ensures.moved c.in-Ok-true.field-0-test) c.at_gate-self-inside.ensures in
+          let events_is = length_more c.self.inside.tally.listing c.replay_keys.new.tally.listing c.read_packet.new.entry.keys.keys c.self.inside.events c.len-self-inside.result
           listing_is was.counted c.len-self-inside.ensures in
           record {
             packet = (packet_of c.read_packet.new.entry);
@@ -192,53 +171,37 @@ returns-in_default g c =
       ended = tt;
       refused = tt;
       broke = tt;
-      replays = let listing_is = listing_more c.self.inside.tally.listing c.replay_keys.new.tally.listing c.read_packet.new.entry.keys.keys
-          c.keys_of.result.now
+      replays = let listing_is = listing_more c.self.inside.tally.listing c.replay_keys.new.tally.listing c.read_packet.new.entry.keys.keys c.keys_of.result.now
           c.replay_keys.ensures.listing c.in_default.ensures.taken c.keys_of.ensures.value in
-          let moved = moved_on (payload_of (packet_of c.read_packet.new.entry)) (c.in-Ok-true.ensures.moved c.in-Ok-true.field-0-test)
-          c.at_gate-self-inside.ensures in
+          let moved = moved_on (payload_of (packet_of c.read_packet.new.entry)) (c.in-Ok-true.ensures.moved c.in-Ok-true.field-0-test) c.at_gate-self-inside.ensures in
           λ seen told h done way gate_same.
-          let past : IsPast h done c.self.inside.tally.listing.events c.args.gate = subst (λ g. IsPast h done c.self.inside.tally.listing.events g)
-          (sym gate_same) way.past in
-          with_keys (bays g) (lawful g) c.self.inside.bay c.read_packet.new.bay _ _ _ _ _ c.read_packet.ensures.keeps c.self.inside.tally
-          c.self.inside.log c.self.inside.last
-          seen told h done c.args.gate (way.on_way seen told) past
+          let past : IsPast h done c.self.inside.tally.listing.events c.args.gate = subst (λ g. IsPast h done c.self.inside.tally.listing.events g) (sym gate_same) way.past in
+          with_keys (bays g) (lawful g) c.read_packet.ensures.keeps c.self.inside.tally c.self.inside.log c.self.inside.last seen told h done c.args.gate way gate_same
           (packet_of c.read_packet.new.entry) (held_at c.at_gate-self-inside.ensures (c.in-Ok-true.ensures.found seen told
-          c.in-Ok-true.field-0-test)) c.keys_of.result.now c.keys_of.ensures.value
-          (λ told_read next is on_read. (
+          c.in-Ok-true.field-0-test)) c.keys_of.result.now c.keys_of.ensures.value (λ told_read next is on_read. (
             (packet_of c.read_packet.new.entry),
             record {
               taking = way.taking;
-              past = subst (λ (l : Listing). IsPast h (done ++ (packet_of c.read_packet.new.entry) ∷ []) l.events c.read_packet.new.journal.gate)
-                  (sym listing_is)
-                  (subst (λ g. IsPast h (done ++ (packet_of c.read_packet.new.entry) ∷ []) (c.self.inside.tally.listing.events ++
-                  c.read_packet.new.entry.keys.keys) g) (sym moved)
+              past = subst (λ (l : Listing). IsPast h (done ++ (packet_of c.read_packet.new.entry) ∷ []) l.events c.read_packet.new.journal.gate) (sym listing_is)
+                  (subst (λ g. IsPast h (done ++ (packet_of c.read_packet.new.entry) ∷ []) (c.self.inside.tally.listing.events ++ c.read_packet.new.entry.keys.keys) g) (sym moved)
                   (past_more h done c.self.inside.tally.listing.events c.args.gate (packet_of c.read_packet.new.entry) past next));
               on_way = c.in_default.ensures.on_way seen told_read h (events_of next.rest) is
-                  (next_holds h done c.self.inside.tally.listing.events c.args.gate (packet_of c.read_packet.new.entry)
-                  c.keys_of.result.now _ past next c.keys_of.ensures.value refl
+                  (next_holds h done c.self.inside.tally.listing.events c.args.gate (packet_of c.read_packet.new.entry) c.keys_of.result.now _ past next c.keys_of.ensures.value refl
                   (ap (λ n. n + 1) c.len-first.ensures)) on_read;
             },
           ));
-      stays_sound = λ seen told h done way gate_same.
-          keys_stay (bays g) (lawful g) c.self.inside.bay c.read_packet.new.bay _ _ _ _ _ c.read_packet.ensures.keeps c.self.inside.tally
-          c.self.inside.log c.self.inside.last
-          seen told h done c.args.gate (way.on_way seen told) (subst (λ g. IsPast h done c.self.inside.tally.listing.events g)
-          (sym gate_same) way.past) (c.self.invariant.taking way.taking).recounted
-          (packet_of c.read_packet.new.entry) (held_at c.at_gate-self-inside.ensures (c.in-Ok-true.ensures.found seen told
-          c.in-Ok-true.field-0-test))
+      stays_sound = λ seen told h done way gate_same. keys_stay (bays g) (lawful g) c.read_packet.ensures.keeps c.self.inside.tally c.self.inside.log c.self.inside.last
+          seen told h done c.args.gate way gate_same (c.self.invariant.taking way.taking).recounted
+          (packet_of c.read_packet.new.entry) (held_at c.at_gate-self-inside.ensures (c.in-Ok-true.ensures.found seen told c.in-Ok-true.field-0-test))
           c.keys_of.result.now c.keys_of.ensures.value _ refl (ap (λ n. n + 1) c.len-first.ensures) _ _ _ c.replay_keys.ensures;
-      unflushed = λ seen told none. keys_unwritten (bays g) (lawful g) c.self.inside.bay c.read_packet.new.bay _ _ _ _ _ c.read_packet.ensures.keeps
-          c.self.inside.tally.listing.settings
-          (length c.self.inside.tally.listing.events) c.self.inside.last.n0 (packet_of c.read_packet.new.entry) c.keys_of.result.now _
-          c.keys_of.ensures.value
+      unflushed = λ seen told none. keys_unwritten (bays g) (lawful g) c.read_packet.ensures.keeps c.self.inside.tally.listing.settings
+          (length c.self.inside.tally.listing.events) c.self.inside.last.n0 (packet_of c.read_packet.new.entry) c.keys_of.result.now _ c.keys_of.ensures.value
           (none (packet_of c.read_packet.new.entry) (held_at c.at_gate-self-inside.ensures (c.in-Ok-true.ensures.found seen told
           c.in-Ok-true.field-0-test)) (c.in-Ok-true.ensures.follows c.in-Ok-true.field-0-test)) c.replay_keys.ensures.unflushed;
       malformed = λ at same. absurd (no_fault same);
       log = let taking : c.self.inside.stopped ≡ None = subst (λ (v : Replaying g.row.B.Denot). v.stopped ≡ None) (sym c.self.view_is) c.requires.taking in
-          logged_behind (bays g) (lawful g) c.self.inside.bay c.read_packet.new.bay _ _ _ _ _ c.read_packet.ensures.keeps c.self.inside.tally.listing.settings _ _
-          c.replay_keys.new.bay _ (Ok (Some c.gate.result)) (c.self.invariant.taking taking).log_shut c.replay_keys.ensures.keeps.journal (λ P holds. holds)
-          c.in_default.ensures.log;
+          logged_behind (bays g) (lawful g) c.read_packet.ensures.keeps c.self.inside.tally.listing.settings _ _
+          c.replay_keys.new.bay _ (Ok (Some c.gate.result)) (c.self.invariant.taking taking).log_shut c.replay_keys.ensures.keeps.journal (λ P holds. holds) c.in_default.ensures.log;
       framed = λ seen told some. c.in_default.ensures.framed seen (c.read_packet.ensures.keeps.reads.seen ∙ told) some;
       whole = λ seen told some at same. no_fault same;
       unsound = λ file at same. absurd (no_fault same);
@@ -248,14 +211,11 @@ returns-in_default g c =
         made = refl;
         last = refl;
       };
-      journal = alone_behind (bays g) (lawful g) c.self.inside.bay c.read_packet.new.bay _ _ _ _ _ c.read_packet.ensures.keeps 0 c.replay_keys.new.bay c.replay_keys.ensures.keeps.journal;
-      kept = calls_behind (bays g) (lawful g) c.self.inside.bay c.read_packet.new.bay _ _ _ _ _ c.read_packet.ensures.keeps c.replay_keys.new.bay _ _
-          (λ same. absurd (no_fault same)) c.replay_keys.ensures.keeps.kept;
-      handed = taken_read c.self.inside.tally.listing.settings (packet_of c.read_packet.new.entry) _ _ (g.B.Bay.handed_out c.replay_keys.new.bay)
-          c.replay_keys.ensures.keeps.kept.journal
+      journal = alone_behind (bays g) (lawful g) c.read_packet.ensures.keeps 0 c.replay_keys.new.bay c.replay_keys.ensures.keeps.journal;
+      kept = calls_behind (bays g) (lawful g) c.read_packet.ensures.keeps c.replay_keys.new.bay _ _ (λ same. absurd (no_fault same)) c.replay_keys.ensures.keeps.kept;
+      handed = taken_read c.self.inside.tally.listing.settings (packet_of c.read_packet.new.entry) _ _ (g.B.Bay.handed_out c.replay_keys.new.bay) c.replay_keys.ensures.keeps.kept.journal
           c.in-Ok-true.field-0 c.args.gate c.gate.result c.in-Ok-true.ensures.handed c.in-Ok-true.field-0-test
-          (c.gate.ensures.value ∙ moved_on (payload_of (packet_of c.read_packet.new.entry)) (c.in-Ok-true.ensures.moved c.in-Ok-true.field-0-test)
-          c.at_gate-self-inside.ensures);
+          (c.gate.ensures.value ∙ moved_on (payload_of (packet_of c.read_packet.new.entry)) (c.in-Ok-true.ensures.moved c.in-Ok-true.field-0-test) c.at_gate-self-inside.ensures);
     })
 
 pub invariant_of-self-in-Ok-false : goal.invariant_of-self-in-Ok-false
@@ -271,46 +231,31 @@ returns-in-Ok-false g c =
           let no_packet : IsFalse c.in-Ok-false.field-0 = c.in-Ok-false.field-0-test in
           let gate_at : c.read_packet.new.journal.gate ≡ c.args.gate =
           ap (λ (j : Log). j.gate) ((c.in-Ok-false.ensures.waits no_packet).0 ∙ c.at_gate-self-inside.ensures) in
-          ended_at (bays g) (lawful g) c.self.inside.bay c.read_packet.new.bay _ _ _ _ _ c.read_packet.ensures.keeps c.self.inside.made.value
-          c.self.inside.tally
-          c.self.inside.events c.self.inside.stopped c.self.inside.journal.gate c.read_packet.new.journal.gate
-          c.args.gate c.self.inside.log c.self.inside.last
+          ended_at (bays g) (lawful g) c.read_packet.ensures.keeps c.self.inside.made.value c.self.inside.tally
+          c.self.inside.events c.self.inside.stopped c.self.inside.journal.gate c.read_packet.new.journal.gate c.args.gate c.self.inside.log c.self.inside.last
           gate_at (c.in-Ok-false.ensures.enough no_packet) (c.self.invariant.taking taking).journal_settled
-          (λ seen told. subst (λ (j : Log). IsClosed (seen 0) j.gate) c.at_gate-self-inside.ensures
-          (c.in-Ok-false.ensures.closed seen told no_packet));
+          (λ seen told. subst (λ (j : Log). IsClosed (seen 0) j.gate) c.at_gate-self-inside.ensures (c.in-Ok-false.ensures.closed seen told no_packet));
       refused = tt;
       broke = tt;
       replays = let no_packet : IsFalse c.in-Ok-false.field-0 = c.in-Ok-false.field-0-test in
-          let gate_at : c.read_packet.new.journal.gate ≡ c.args.gate = ap (λ (j : Log). j.gate) ((c.in-Ok-false.ensures.waits no_packet).0 ∙
-          c.at_gate-self-inside.ensures) in
-          λ seen told h done way gate_same.
-          ended_replays (bays g) (lawful g) c.self.inside.bay c.read_packet.new.bay _ _ _ _ _ c.read_packet.ensures.keeps c.self.inside.tally
-          c.self.inside.log c.self.inside.last
-          seen told h done c.args.gate (way.on_way seen told) (subst (λ g. IsPast h done c.self.inside.tally.listing.events g)
-          (sym gate_same) way.past)
-          c.self.inside.made.value c.self.inside.events c.self.inside.stopped
-          c.read_packet.new.journal.gate way.taking gate_at
+          let gate_at : c.read_packet.new.journal.gate ≡ c.args.gate = ap (λ (j : Log). j.gate) ((c.in-Ok-false.ensures.waits no_packet).0 ∙ c.at_gate-self-inside.ensures) in
+          λ seen told h done way gate_same. ended_replays (bays g) (lawful g) c.read_packet.ensures.keeps c.self.inside.tally c.self.inside.log c.self.inside.last
+          seen told h done c.args.gate way gate_same c.read_packet.new.journal.gate gate_at
           (subst (λ (j : Log). IsClosed (seen 0) j.gate) c.at_gate-self-inside.ensures (c.in-Ok-false.ensures.closed seen told no_packet));
-      stays_sound = λ seen told h done way gate_same.
-          read_stays (bays g) (lawful g) c.self.inside.bay c.read_packet.new.bay _ _ _ _ _ c.read_packet.ensures.keeps c.self.inside.tally
-          c.self.inside.log c.self.inside.last
-          seen told h done c.args.gate (way.on_way seen told) (subst (λ g. IsPast h done c.self.inside.tally.listing.events g)
-          (sym gate_same) way.past) (c.self.invariant.taking way.taking).recounted;
-      unflushed = λ seen told none. read_unwritten (bays g) (lawful g) c.self.inside.bay c.read_packet.new.bay _ _ _ _ _ c.read_packet.ensures.keeps;
+      stays_sound = λ seen told h done way gate_same. read_stays (bays g) (lawful g) c.read_packet.ensures.keeps c.self.inside.tally c.self.inside.log c.self.inside.last
+          seen told h done c.args.gate way gate_same (c.self.invariant.taking way.taking).recounted;
+      unflushed = λ seen told none. read_unwritten (bays g) (lawful g) c.read_packet.ensures.keeps;
       malformed = λ at same. absurd (no_fault same);
       log = let taking : c.self.inside.stopped ≡ None = subst (λ (v : Replaying g.row.B.Denot). v.stopped ≡ None) (sym c.self.view_is) c.requires.taking in
-          read_logged (bays g) (lawful g) c.self.inside.bay c.read_packet.new.bay _ _ _ _ _ c.read_packet.ensures.keeps c.self.inside.tally.listing.settings _ _
-          (c.self.invariant.taking taking).log_shut;
-      framed = λ seen told some after told_after.
-          subst (λ (files : Files). HoldsSome c.self.inside.tally.listing.settings (max c.self.inside.last.n0 (length
+          read_logged (bays g) (lawful g) c.read_packet.ensures.keeps c.self.inside.tally.listing.settings _ _ (c.self.invariant.taking taking).log_shut;
+      framed = λ seen told some after told_after. subst (λ (files : Files). HoldsSome c.self.inside.tally.listing.settings (max c.self.inside.last.n0 (length
           c.self.inside.tally.listing.events)) c.self.inside.tally.rows (files 2))
           (told_once (g.B.Bay.files c.self.inside.bay) seen after told (sym c.read_packet.ensures.keeps.reads.seen ∙ told_after)) some;
       whole = λ seen told some at same. no_fault same;
       unsound = λ file at same. absurd (no_fault same);
       same_cone = record { settings = refl; cone = refl; made = refl; last = refl };
       journal = alone_reading (bays g) (lawful g) 0 c.self.inside.bay c.read_packet.new.bay _ c.read_packet.ensures.keeps.reads;
-      kept = calls_as (bays g) (lawful g) c.self.inside.bay c.read_packet.new.bay _ _ (λ same. absurd (no_fault same))
-          c.read_packet.ensures.keeps.reads.kept;
+      kept = calls_as (bays g) (lawful g) c.self.inside.bay c.read_packet.new.bay _ _ (λ same. absurd (no_fault same)) c.read_packet.ensures.keeps.reads.kept;
       handed = ended_read c.self.inside.tally.listing.settings (packet_of c.read_packet.new.entry) _ _
           (g.B.Bay.handed_out c.read_packet.new.bay) refl c.in-Ok-false.field-0 c.in-Ok-false.ensures.handed c.in-Ok-false.field-0-test;
     })

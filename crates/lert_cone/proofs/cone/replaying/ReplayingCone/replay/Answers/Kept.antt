@@ -27,9 +27,8 @@ broken_keys_kept g c =
     ((c.read_packet.ensures.keeps.file ∙ ap (λ (j : Log). j.file) c.at_gate-self-inside.ensures) ∙ sym c.self.invariant.file)
     ((c.read_packet.ensures.keeps.most ∙ ap (λ (j : Log). j.most) c.at_gate-self-inside.ensures ∙ c.greatest_payload-most.ensures.value ∙ ap most_payload c.settings.ensures)
     ∙ sym c.self.invariant.most) (refilled_twice c.self.inside.buffer.len c.self.inside.buffer.items c.read_packet.new.buffer c.replay_keys.new.buffer len_is) c.read_packet.ensures.keeps.roomy
-    (omega (arith, c.read_packet.ensures.keeps.reads.kept.never_falls, c.replay_keys.ensures.keeps.kept.never_falls))
-    (turns_on Anything (λ old new. new 0 ≡ old 0) (g.B.Bay.files c.self.inside.bay) (g.B.Bay.files c.read_packet.new.bay) (g.B.Bay.files c.replay_keys.new.bay)
-    (turns_as (g.B.Bay.files c.self.inside.bay) (g.B.Bay.files c.read_packet.new.bay) c.read_packet.ensures.keeps.reads.seen) c.replay_keys.ensures.keeps.journal.seen)
+    (omega (arith, c.read_packet.ensures.keeps.reads.kept.never_falls, c.replay_keys.ensures.keeps.kept.never_falls)) (turns_on
+    (turns_as c.read_packet.ensures.keeps.reads.seen) c.replay_keys.ensures.keeps.journal.seen)
     (c.replay_keys.ensures.keeps.kept.mark ∙ c.read_packet.ensures.keeps.reads.kept.mark)
     c.self.invariant
 
@@ -57,9 +56,7 @@ taken_kept g c =
       within = omega (arith, c.in_default.ensures.recounted.fits, c.len-self-inside.ensures);
       valid = c.in_default.ensures.recounted.valid;
       never_falls = omega (arith, c.self.invariant.never_falls, c.read_packet.ensures.keeps.reads.kept.never_falls, c.replay_keys.ensures.keeps.kept.never_falls);
-      tells = turns_on Anything (λ old new. new 0 ≡ old 0) (g.B.Bay.files c.self.inside.made.value) (g.B.Bay.files c.read_packet.new.bay) (g.B.Bay.files c.replay_keys.new.bay)
-          (turns_on Anything Anything (g.B.Bay.files c.self.inside.made.value) (g.B.Bay.files c.self.inside.bay) (g.B.Bay.files c.read_packet.new.bay) c.self.invariant.tells
-          (turns_as (g.B.Bay.files c.self.inside.bay) (g.B.Bay.files c.read_packet.new.bay) c.read_packet.ensures.keeps.reads.seen)) c.replay_keys.ensures.keeps.journal.seen;
+      tells = turns_on (turns_on c.self.invariant.tells (turns_as c.read_packet.ensures.keeps.reads.seen)) c.replay_keys.ensures.keeps.journal.seen;
       marked = c.replay_keys.ensures.keeps.kept.mark ∙ c.read_packet.ensures.keeps.reads.kept.mark ∙ c.self.invariant.marked;
       taking = λ _. record {
         counted = sym c.len-self-inside.ensures;
@@ -67,11 +64,7 @@ taken_kept g c =
         closed = ap (λ (l : Listing). l.closed) listing_is ∙ was.closed;
         near = near_then c.args.gate c.read_packet.new.journal.gate c.self.inside.events c.len-self-inside.result (packet_of c.read_packet.new.entry) c.requires.reach moved journaled.some
             events_is;
-        journal_settled = settled_then 0 (g.B.Bay.files c.read_packet.new.bay) (g.B.Bay.files c.replay_keys.new.bay) (g.B.Bay.leaves c.read_packet.new.bay)
-            (g.B.Bay.leaves c.replay_keys.new.bay)
-            (g.B.Bay.moment c.read_packet.new.bay) (g.B.Bay.moment c.replay_keys.new.bay) (g.B.Bay.left_since c.read_packet.new.bay)
-            (g.B.Bay.left_since c.replay_keys.new.bay) c.replay_keys.ensures.keeps.journal (read_settled 0 (g.B.Bay.files c.self.inside.bay) (g.B.Bay.files c.read_packet.new.bay)
-            (g.B.Bay.leaves c.self.inside.bay) (g.B.Bay.leaves c.read_packet.new.bay) c.read_packet.ensures.keeps.reads.seen c.read_packet.ensures.keeps.reads.images was.journal_settled);
+        journal_settled = settled_then c.replay_keys.ensures.keeps.journal (read_settled c.read_packet.ensures.keeps.reads.seen c.read_packet.ensures.keeps.reads.images was.journal_settled);
         logging = subst (λ n. IsLogging c.replay_keys.new.tally c.replay_keys.new.log n) long c.in_default.ensures.can_log.logging;
         log_shut = c.in_default.ensures.can_log.log_shut;
       };
@@ -93,19 +86,16 @@ ended_kept g c =
       within = c.self.invariant.within;
       valid = c.self.invariant.valid;
       never_falls = omega (arith, c.self.invariant.never_falls, c.read_packet.ensures.keeps.reads.kept.never_falls);
-      tells = turns_on Anything Anything (g.B.Bay.files c.self.inside.made.value) (g.B.Bay.files c.self.inside.bay) (g.B.Bay.files c.read_packet.new.bay) c.self.invariant.tells
-          (turns_as (g.B.Bay.files c.self.inside.bay) (g.B.Bay.files c.read_packet.new.bay) c.read_packet.ensures.keeps.reads.seen);
+      tells = turns_on c.self.invariant.tells (turns_as c.read_packet.ensures.keeps.reads.seen);
       marked = c.read_packet.ensures.keeps.reads.kept.mark ∙ c.self.invariant.marked;
       taking = λ _. record {
         counted = was.counted;
         recounted = was.recounted;
         closed = was.closed;
         near = omega (arith, gate_at, c.requires.reach);
-        journal_settled = read_settled 0 (g.B.Bay.files c.self.inside.bay) (g.B.Bay.files c.read_packet.new.bay) (g.B.Bay.leaves c.self.inside.bay)
-            (g.B.Bay.leaves c.read_packet.new.bay) c.read_packet.ensures.keeps.reads.seen c.read_packet.ensures.keeps.reads.images was.journal_settled;
+        journal_settled = read_settled c.read_packet.ensures.keeps.reads.seen c.read_packet.ensures.keeps.reads.images was.journal_settled;
         logging = subst (λ n. IsLogging c.self.inside.tally c.self.inside.log n) long was.logging;
-        log_shut = read_shut 1 c.self.inside.log.gate (g.B.Bay.files c.self.inside.bay) (g.B.Bay.files c.read_packet.new.bay) (g.B.Bay.leaves c.self.inside.bay)
-            (g.B.Bay.leaves c.read_packet.new.bay) c.read_packet.ensures.keeps.reads.seen c.read_packet.ensures.keeps.reads.images was.log_shut;
+        log_shut = read_shut c.read_packet.ensures.keeps.reads.seen c.read_packet.ensures.keeps.reads.images was.log_shut;
       };
     }
 
@@ -119,5 +109,4 @@ broken_record_kept g c =
     refl refl refl ((keeps.file ∙ ap (λ (j : Log). j.file) c.at_gate-self-inside.ensures) ∙ sym c.self.invariant.file)
     ((keeps.most ∙ ap (λ (j : Log). j.most) c.at_gate-self-inside.ensures ∙ c.greatest_payload-most.ensures.value ∙ ap most_payload c.settings.ensures) ∙ sym c.self.invariant.most)
     (refilled c.self.inside.buffer.len c.self.inside.buffer.items c.read_packet.new.buffer len_is) keeps.roomy keeps.reads.kept.never_falls
-    (turns_as (g.B.Bay.files c.self.inside.bay) (g.B.Bay.files c.read_packet.new.bay) keeps.reads.seen) keeps.reads.kept.mark
-    c.self.invariant
+    (turns_as keeps.reads.seen) keeps.reads.kept.mark c.self.invariant

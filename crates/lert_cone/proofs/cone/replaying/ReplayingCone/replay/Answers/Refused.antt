@@ -21,38 +21,26 @@ record_refused g c =
           c.self.inside.journal.gate c.self.inside.log c.self.inside.last in
           λ seen told. subst (λ (fault : ReplayFault). WhyRefused cone (seen 0) c.args.gate fault) (sym c.from-fault-in-Err.ensures)
           (refused_record cone (seen 0) c.args.gate c.in-Err.fault (λ at same.
-          subst (λ (j : Log). ReplayLeavesAt c.self.inside.tally.listing.settings c.self.inside.tally.listing.cone c.self.inside.last.n0
-          c.self.inside.last.closed
-          (length c.self.inside.tally.listing.events) (seen 0) j.gate at) c.at_gate-self-inside.ensures (c.in-Err.ensures.malformed seen told at
-          (ap Err same))));
+          subst (λ (j : Log). ReplayLeavesAt c.self.inside.tally.listing.settings c.self.inside.tally.listing.cone c.self.inside.last.n0 c.self.inside.last.closed
+          (length c.self.inside.tally.listing.events) (seen 0) j.gate at) c.at_gate-self-inside.ensures (c.in-Err.ensures.malformed seen told at (ap Err same))));
       broke = λ i. seen_as c.read_packet.new.bay c.self.inside.made.value c.self.inside.tally c.self.inside.events
           (Some c.from-fault-in-Err.result) c.read_packet.new.journal.gate c.self.inside.log c.self.inside.last;
       replays = λ seen told h done way gate_same.
-          let past : IsPast h done c.self.inside.tally.listing.events c.args.gate = subst (λ g. IsPast h done c.self.inside.tally.listing.events g)
-          (sym gate_same) way.past in
+          let past : IsPast h done c.self.inside.tally.listing.events c.args.gate = subst (λ g. IsPast h done c.self.inside.tally.listing.events g) (sym gate_same) way.past in
           let on_way = way.on_way seen told in
           let read = g.met.B.Bay.as_read c.self.inside.bay seen told in
-          c.from-fault-in-Err.ensures ∙ only_failed c.in-Err.fault (λ at same.
-          never_on_way (g.B.Bay.leaves c.self.inside.bay) seen h c.self.inside.tally.listing c.self.inside.tally.rows
-          c.self.inside.tally.due.reports c.self.inside.log c.self.inside.last.n0 on_way read
-          done c.args.gate at past
-          (leaves_listing c.self.inside.tally.listing.settings c.self.inside.tally.listing.cone c.self.inside.last.n0 (length
-          c.self.inside.tally.listing.events) c.args.gate at
+          c.from-fault-in-Err.ensures ∙ only_failed c.in-Err.fault (λ at same. never_on_way (g.B.Bay.leaves c.self.inside.bay) seen h c.self.inside.tally.listing c.self.inside.tally.rows
+          c.self.inside.tally.due.reports c.self.inside.log c.self.inside.last.n0 on_way read done c.args.gate at past
+          (leaves_listing c.self.inside.tally.listing.settings c.self.inside.tally.listing.cone c.self.inside.last.n0 (length c.self.inside.tally.listing.events) c.args.gate at
           c.self.inside.tally.listing.closed c.self.inside.last.closed (seen 0) (c.self.invariant.taking way.taking).closed
-          (subst (λ (j : Log). ReplayLeavesAt c.self.inside.tally.listing.settings c.self.inside.tally.listing.cone c.self.inside.last.n0
-          c.self.inside.last.closed
-          (length c.self.inside.tally.listing.events) (seen 0) j.gate at) c.at_gate-self-inside.ensures (c.in-Err.ensures.malformed seen told at
-          (ap Err same)))));
-      stays_sound = λ seen told h done way gate_same.
-          read_stays (bays g) (lawful g) c.self.inside.bay c.read_packet.new.bay _ _ _ _ _ c.read_packet.ensures.keeps c.self.inside.tally
-          c.self.inside.log c.self.inside.last
-          seen told h done c.args.gate (way.on_way seen told) (subst (λ g. IsPast h done c.self.inside.tally.listing.events g)
-          (sym gate_same) way.past) (c.self.invariant.taking way.taking).recounted;
-      unflushed = λ seen told none. read_unwritten (bays g) (lawful g) c.self.inside.bay c.read_packet.new.bay _ _ _ _ _ c.read_packet.ensures.keeps;
-      malformed = λ at same. read_unwritten (bays g) (lawful g) c.self.inside.bay c.read_packet.new.bay _ _ _ _ _ c.read_packet.ensures.keeps;
+          (subst (λ (j : Log). ReplayLeavesAt c.self.inside.tally.listing.settings c.self.inside.tally.listing.cone c.self.inside.last.n0 c.self.inside.last.closed
+          (length c.self.inside.tally.listing.events) (seen 0) j.gate at) c.at_gate-self-inside.ensures (c.in-Err.ensures.malformed seen told at (ap Err same)))));
+      stays_sound = λ seen told h done way gate_same. read_stays (bays g) (lawful g) c.read_packet.ensures.keeps c.self.inside.tally c.self.inside.log c.self.inside.last
+          seen told h done c.args.gate way gate_same (c.self.invariant.taking way.taking).recounted;
+      unflushed = λ seen told none. read_unwritten (bays g) (lawful g) c.read_packet.ensures.keeps;
+      malformed = λ at same. read_unwritten (bays g) (lawful g) c.read_packet.ensures.keeps;
       log = let taking : c.self.inside.stopped ≡ None = subst (λ (v : Replaying g.row.B.Denot). v.stopped ≡ None) (sym c.self.view_is) c.requires.taking in
-          read_logged (bays g) (lawful g) c.self.inside.bay c.read_packet.new.bay _ _ _ _ _ c.read_packet.ensures.keeps c.self.inside.tally.listing.settings _ _
-          (c.self.invariant.taking taking).log_shut;
+          read_logged (bays g) (lawful g) c.read_packet.ensures.keeps c.self.inside.tally.listing.settings _ _ (c.self.invariant.taking taking).log_shut;
       framed = λ seen told some. tt;
       whole = λ seen told some at same.
           let answer : c.from-fault-in-Err.result ≡ Unsound 2 at = one_fault same in never_unsound c.in-Err.fault 2 at (sym c.from-fault-in-Err.ensures ∙ answer);
