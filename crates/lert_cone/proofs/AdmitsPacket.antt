@@ -7,7 +7,7 @@ use Rattle.lert_journal.specs.Payload.{payload_of}
 use Rattle.lert_spec.specs.{declared.numbers.Numbers.Numbers, Edges.capacity, Look.look, Timely.IsTimelySoFar}
 use Rattle.lert_reports.specs.declared.log_point.LogPoint.{LogPoint}
 use Rattle.lert_cone.specs.{declared.state.ConeState.ConeState, declared.state.ConeState.TheVariants.Running, InStep.IsLogging, Listing.Listing, Record.LogPlace, Sound.IsSound}
-use Rattle.lert_cone.specs.{Stands.{Standing, StandsFor, WasSound, IsCone, IsSameCone, is_broken, is_finished}, Takes.TakesPacket, Tally.Tallied, Wrote.Anything}
+use Rattle.lert_cone.specs.{Stands.{Standing, StandsFor, WasSound, IsCone, IsSameCone, is_broken, is_finished}, Takes.TakesPacket, Tally.Tallied}
 use Rattle.lert_bay.proofs.KeptLaws.{IsLawful, keeps_as}
 use Rattle.lert_cone.proofs.{SoundLaws.{turns_back, counted_more, end_more}, AppendLaws.{whole_of, some_more, keys_more}, StandLaws.{more_cone, stands_whole, reports_running, cone_at}}
 use Rattle.lert_cone.proofs.{TimeLaws.timely_so_far, Admits.Admits}

@@ -6,7 +6,7 @@ use Rattle.lert_io.proofs.Rising.{risen_since}
 use Rattle.lert_spec.specs.Edges.{capacity}
 use Rattle.lert_reports.specs.declared.log_point.LogPoint.{LogPoint}
 use Rattle.lert_cone.specs.{declared.state.ConeState.ConeState, declared.state.ConeState.TheVariants.Running, declared.tally.TakeFault.TakeFault, Listing.Listing, Record.LogPlace}
-use Rattle.lert_cone.specs.{Sound.{IsKept, IsSoundOver}, Stands.{IsSameCone, is_broken, is_finished, is_refusal, broken_by, cone_fault}, Takes.TakesPacket, Tally.Tallied, Wrote.Anything}
+use Rattle.lert_cone.specs.{Sound.{IsKept, IsSoundOver}, Stands.{IsSameCone, is_broken, is_finished, is_refusal, broken_by, cone_fault}, Takes.TakesPacket, Tally.Tallied}
 use Rattle.lert_bay.specs.Kept.{Bays}
 use Rattle.lert_bay.proofs.KeptLaws.{IsLawful, keeps_as}
 use Rattle.lert_cone.proofs.{SoundLaws.turns_back, StandLaws.{stands_broken, cone_at}}

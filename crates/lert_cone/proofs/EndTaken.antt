@@ -8,12 +8,12 @@ use Rattle.lert_levels.specs.rows.Rows.{directory_text}
 use Rattle.lert_reports.specs.{declared.log.LogKind.LogKind, Log.most_record, LogText.{LogRecord, log_payload_of}}
 use Rattle.lert_spec.specs.declared.numbers.Numbers.{Numbers}
 use Rattle.lert_cone.specs.{declared.tally.TakeFault.TakeFault, declared.tally.TakeFault.TheVariants.Failed, Appends.AppendsRecord, Counts.CountsEnd, Listing.Listing, Record.{LogPlace, payload_at}}
-use Rattle.lert_cone.specs.{Sound.IsSound, Takes.{Workplace, CanLog, CanTake, AreInStep, TakesEnd}, Tally.{Tallied, IsHeld}, Wrote.LeavesAlone}
+use Rattle.lert_cone.specs.{Sound.IsSound, Takes.{Workplace, work_at, CanLog, CanTake, AreInStep, TakesEnd}, Tally.{Tallied, IsHeld}, Wrote.LeavesAlone}
 use Rattle.lert_bay.proofs.KeptLaws.{IsLawful, keeps_as, keeps_on}
 use Rattle.lert_cone.proofs.{Calls.{now_since, alone_on, alone_others, alone_read, settled_alone, shut_alone}, EndStep.{IsEnding, partway_all, late_all, ending_of, sound_close, up_closed}}
 use Rattle.lert_cone.proofs.{KeyStep.{held_of, sound_now}, TakeLaws.handed_on}
 
-module _ {B : Type 0} (bays : Bays B) (lawful : IsLawful bays) (old : Workplace B) (can : CanTake bays [] old) (bay : B) (counts : Tallied) where
+module _ {B : Type 0} {bays : Bays B} (lawful : IsLawful bays) {old : Workplace B} (can : CanTake bays [] old) (bay : B) (counts : Tallied) where
   held : (seen : Files) → bays.files old.bay ≡ Some seen → (history : List Packet) → AreInStep bays old seen history → IsHeld old.counts seen
   held seen told history up = held_of (bays.leaves old.bay) seen history old.counts old.log (lawful.as_read old.bay seen told) up
 
@@ -38,16 +38,16 @@ module _ {B : Type 0} (bays : Bays B) (lawful : IsLawful bays) (old : Workplace 
     room = refl;
     keeps = record {
       shows = did.shows;
-      journal = alone_read bays lawful 0 old.bay bay _ did.reads;
+      journal = alone_read lawful 0 did.reads;
       most = refl;
       kept = did.reads.kept;
     };
   }
 
   -- the levels aren't scanned
-  pub end_refused : (result : Result (Unit {0}) TakeFault) (fault : TakeFault) → result ≡ Err fault → CountsEnd bays old.bay bay old.counts counts result →
-      (given : Result (Unit {0}) TakeFault) → IsErrAnd given (λ g. g ≡ fault) → TakesEnd bays old (record old { bay = bay; counts = counts }) given
-  end_refused result fault is did given given_is =
+  pub end_refused : {result given : Result (Unit {0}) TakeFault} {fault : TakeFault} → result ≡ Err fault → CountsEnd bays old.bay bay old.counts counts result →
+      IsErrAnd given (λ g. g ≡ fault) → TakesEnd bays old (record old { bay = bay; counts = counts }) given
+  end_refused {given = given} {fault = fault} is did given_is =
       subst (λ (r : Result (Unit {0}) TakeFault). TakesEnd bays old (record old { bay = bay; counts = counts }) r) (handed_on given fault given_is)
       (refused_by fault (subst (λ (r : Result (Unit {0}) TakeFault). CountsEnd bays old.bay bay old.counts counts r) is did))
 
@@ -68,7 +68,7 @@ module _ {B : Type 0} (bays : Bays B) (lawful : IsLawful bays) (old : Workplace 
         same = can.can_log.logging.same ∙ sym settings_are;
         passed = can.can_log.logging.passed ∙ ap (λ (l : Listing). length l.events) (sym is);
       };
-      log_shut = shut_alone bays lawful 1 old.log.gate old.bay bay (alone_read bays lawful 1 old.bay bay _ did.reads) can.can_log.log_shut;
+      log_shut = shut_alone lawful (alone_read lawful 1 did.reads) can.can_log.log_shut;
     }
 
     ending : (seen : Files) → bays.files old.bay ≡ Some seen → (history : List Packet) → old.counts.listing.events ≡ events_of history → (up : AreInStep bays old seen history) →
@@ -89,10 +89,10 @@ module _ {B : Type 0} (bays : Bays B) (lawful : IsLawful bays) (old : Workplace 
       few_here = omega (arith, few, ap (λ (s : Numbers). s.room) settings_are)
 
       beside : LeavesAlone bays 0 bay bay_after
-      beside = alone_others bays lawful 1 0 (λ same. absurd (omega (arith, same))) bay bay_after appends.seen appends.others appends.kept.time
+      beside = alone_others lawful 1 0 (λ same. absurd (omega (arith, same))) appends.seen appends.others appends.kept.time
 
       journal_then : LeavesAlone bays 0 old.bay bay_after
-      journal_then = alone_on bays lawful 0 old.bay bay bay_after (alone_read bays lawful 0 old.bay bay _ did.reads) beside
+      journal_then = alone_on lawful (alone_read lawful 0 did.reads) beside
 
       sound_end : IfTold (bays.files old.bay) (λ seen. (history : List Packet) → old.counts.listing.events ≡ events_of history → AreInStep bays old seen history →
           (image : Files) → bays.left_since bay_after (bays.moment old.bay) image → IsSound old.counts.listing.settings old.counts.listing.cone history image)
@@ -110,12 +110,12 @@ module _ {B : Type 0} (bays : Bays B) (lawful : IsLawful bays) (old : Workplace 
           ]
 
     -- the closing record isn't appended
-    pub close_failed : length counts.due.reports ≤ counts.listing.settings.room → {E : Type 0} (failed : E) (bay_after : B) (log_after : LogPlace) (room : ℕ) → room ≡ old.room →
+    pub close_failed : length counts.due.reports ≤ counts.listing.settings.room → {E : Type 0} {failed : E} {bay_after : B} {log_after : LogPlace} {room : ℕ}
+        {given : Result (Unit {0}) TakeFault} → room ≡ old.room →
         AppendsRecord bays LogKind.Closing (length counts.listing.events) (directory_text counts.rows) counts.due.reports bay bay_after old.log log_after (Err failed) →
-        (given : Result (Unit {0}) TakeFault) → IsErrAnd given (λ fault. fault ≡ Failed) →
-        TakesEnd bays old (record { bay = bay_after; counts = counts; log = log_after; room = room }) given
-    close_failed few failed bay_after log_after room room_is appends given given_is =
-        subst (λ (r : Result (Unit {0}) TakeFault). TakesEnd bays old (record { bay = bay_after; counts = counts; log = log_after; room = room }) r) (handed_on given Failed given_is) (record {
+        IsErrAnd given (λ fault. fault ≡ Failed) → TakesEnd bays old (work_at bay_after counts log_after room) given
+    close_failed few {failed = failed} {bay_after = bay_after} {log_after = log_after} {room = room} {given = given} room_is appends given_is =
+        subst (λ (r : Result (Unit {0}) TakeFault). TakesEnd bays old (work_at bay_after counts log_after room) r) (handed_on given Failed given_is) (record {
           listing = did.listing;
           rows = did.rows;
           closed = tt;
@@ -134,10 +134,10 @@ module _ {B : Type 0} (bays : Bays B) (lawful : IsLawful bays) (old : Workplace 
         })
 
     -- it is appended
-    pub end_taken : length counts.due.reports ≤ counts.listing.settings.room → {E : Type 0} (bay_after : B) (log_after : LogPlace) (room : ℕ) → room ≡ old.room →
+    pub end_taken : length counts.due.reports ≤ counts.listing.settings.room → {E : Type 0} {bay_after : B} {log_after : LogPlace} {room : ℕ} → room ≡ old.room →
         AppendsRecord {E = E} bays LogKind.Closing (length counts.listing.events) (directory_text counts.rows) counts.due.reports bay bay_after old.log log_after (Ok tt) →
-        TakesEnd bays old (record { bay = bay_after; counts = counts; log = log_after; room = room }) (Ok tt)
-    end_taken few bay_after log_after room room_is appends = record {
+        TakesEnd bays old (work_at bay_after counts log_after room) (Ok tt)
+    end_taken few {bay_after = bay_after} {log_after = log_after} room_is appends = record {
       listing = did.listing;
       rows = did.rows;
       closed = did.closed;
@@ -151,9 +151,9 @@ module _ {B : Type 0} (bays : Bays B) (lawful : IsLawful bays) (old : Workplace 
           (appends.appended seen told_then 8 (map log_payload_of up.logged) (all_there history up.logged seen ends) later left) in
           up_closed (bays.leaves bay) seen history old.counts counts old.log up.logged can.counted ends (few_here few (Ok tt) bay_after log_after appends) (bays.left_since bay_after
           (bays.moment bay)) payload refl
-          (appends.others seen told_then) (appends.before seen told_then) (bays.leaves bay_after) after log_after (now_since bays lawful bay bay_after appends.kept.time.later)
+          (appends.others seen told_then) (appends.before seen told_then) (bays.leaves bay_after) after log_after (now_since lawful appends.kept.time.later)
           (ap (λ (l : LogPlace). l.named) appends.moved) (ap (λ (l : LogPlace). l.places) appends.moved) stands
-          (settled_alone bays lawful 0 bay bay_after (beside few (Ok tt) bay_after log_after appends) seen told_then ends.journal_settled after told_after)
+          (settled_alone lawful (beside few (Ok tt) bay_after log_after appends) seen told_then ends.journal_settled after told_after)
           (appends.settled after told_after);
       each_moment = sound_end few (Ok tt) bay_after log_after appends;
       sound = λ seen told history up. did.sound seen told (held seen told history up);

@@ -246,7 +246,7 @@ module _ {B : Type 0} (bays : Bays B) (lawful : IsLawful bays) (s : Numbers) whe
               frames_same = stays 2 (λ same. absurd (omega (arith, same)))
 
               since : bays.left_since bay_after (bays.moment bay) now
-              since = now_since bays lawful bay bay_after appends.kept.time.later now (lawful.as_read bay_after now told_now)
+              since = now_since lawful appends.kept.time.later now (lawful.as_read bay_after now told_now)
 
               longer_now : length (seen 2) ≤ length (now 2)
               longer_now = omega (arith, leaves_mid.longer, ap (length {A = ℕ}) frames_same)

@@ -308,17 +308,17 @@ module _ {B : Type 0} (bays : Bays B) (lawful : IsLawful bays) (bay bay_after : 
     listing_is = listing_is;
     read = read_after;
     journal = λ image may. journal_here (bays.leaves bay) (bays.left_since bay_after (bays.moment bay)) seen history t log counted up (lawful.as_read bay seen told) journal_kept log_kept
-        frames_kept image (now_since bays lawful bay bay_after time.later image may);
-    journal_settled = settled_alone bays lawful 0 bay bay_after
-        (alone_rest bays lawful (InNamed t.listing.settings t.rows) 0 (λ same. absurd (omega (arith, same))) bay bay_after rest time)
+        frames_kept image (now_since lawful time.later image may);
+    journal_settled = settled_alone lawful
+        (alone_rest lawful 0 (λ same. absurd (omega (arith, same))) rest time)
         seen told up.journal_settled after told_after;
     log_there = λ image may. log_here (bays.leaves bay) (bays.left_since bay_after (bays.moment bay)) seen history t log counted up (lawful.as_read bay seen told) journal_kept log_kept
-        frames_kept image (now_since bays lawful bay bay_after time.later image may);
-    log_settled = settled_alone bays lawful 1 bay bay_after
-        (alone_rest bays lawful (InNamed t.listing.settings t.rows) 1 (λ same. absurd (omega (arith, same))) bay bay_after rest time)
+        frames_kept image (now_since lawful time.later image may);
+    log_settled = settled_alone lawful
+        (alone_rest lawful 1 (λ same. absurd (omega (arith, same))) rest time)
         seen told up.log_settled after told_after;
     frames_before = λ image may. frames_here (bays.leaves bay) (bays.left_since bay_after (bays.moment bay)) seen history t log counted up (lawful.as_read bay seen told) journal_kept log_kept
-        frames_kept image (now_since bays lawful bay bay_after time.later image may);
+        frames_kept image (now_since lawful time.later image may);
     frames = frames;
     reports_are = reports;
     begins = up.begins;

@@ -1,8 +1,8 @@
 -- A key through the calls that it makes: it isn't counted, no flush comes with it, or a flush and its record.
 use Rattle.std.proofs.Common.{◌≡◌, ◌≢◌, ℕ, ◌+◌, ◌-◌, ◌≤◌, List, [], ◌∷◌, ◌++◌, length, map, Result, Ok, Err, Some, refl, sym, ap, ◌∙◌, subst, inl, inr, arith, length-append}
 use Rattle.lert_bay.specs.{Kept.Bays, Files.{Files, IfTold}}
-use Rattle.lert_gatelog.specs.{Gated.IsGated, Kept.{InEach, IsWithOrWithout, OthersStay}}
-use Rattle.lert_levels.specs.{Flushed.InNamed, declared.rows.bin_at.BinAt.BinAt, rows.Rows.{AreRows, IsAt, directory_text}}
+use Rattle.lert_gatelog.specs.{Gated.IsGated, Kept.{InEach, IsWithOrWithout}}
+use Rattle.lert_levels.specs.{declared.rows.bin_at.BinAt.BinAt, rows.Rows.{AreRows, IsAt, directory_text}}
 use Rattle.lert_reports.specs.{declared.log.LogKind.LogKind, Log.most_record, LogText.log_payload_of}
 use Rattle.lert_spec.specs.{declared.numbers.Numbers.Numbers, Edges.{edge, capacity}}
 use Rattle.lert_base.specs.Packet.{Packet}
@@ -45,7 +45,7 @@ module _ {B : Type 0} {bays : Bays B} (lawful : IsLawful bays) (place : JournalP
         (record { rows = counts.rows; events = length counts.listing.events; gate = old.log.gate }) (Err fault) (λ records bytes is. tt);
     keeps = record {
       shows = did.shows;
-      journal = alone_rest bays lawful (InNamed old.counts.listing.settings old.counts.rows) 0 (λ same. absurd (omega (arith, same))) old.bay bay did.rest did.kept.time;
+      journal = alone_rest lawful 0 (λ same. absurd (omega (arith, same))) did.rest did.kept.time;
       most = refl;
       kept = did.kept;
     };
@@ -125,8 +125,8 @@ module _ {B : Type 0} {bays : Bays B} (lawful : IsLawful bays) (place : JournalP
     can_log_here : CanLog bays (work_at bay counts log_then old.room)
     can_log_here = record {
       logging = logging_kept;
-      log_shut = shut_alone bays lawful 1 old.log.gate old.bay bay
-          (alone_rest bays lawful (InNamed old.counts.listing.settings old.counts.rows) 1 (λ same. absurd (omega (arith, same))) old.bay bay did.rest did.kept.time) can.can_log.log_shut;
+      log_shut = shut_alone lawful
+          (alone_rest lawful 1 (λ same. absurd (omega (arith, same))) did.rest did.kept.time) can.can_log.log_shut;
     }
 
     pub can_log_then : CanLog bays (work_at bay counts log_mid old.room)
@@ -163,7 +163,7 @@ module _ {B : Type 0} {bays : Bays B} (lawful : IsLawful bays) (place : JournalP
               });
           keeps = record {
             shows = did.shows;
-            journal = alone_rest bays lawful (InNamed old.counts.listing.settings old.counts.rows) 0 (λ same. absurd (omega (arith, same))) old.bay bay did.rest did.kept.time;
+            journal = alone_rest lawful 0 (λ same. absurd (omega (arith, same))) did.rest did.kept.time;
             most = refl;
             kept = did.kept;
           };
@@ -191,9 +191,9 @@ module _ {B : Type 0} {bays : Bays B} (lawful : IsLawful bays) (place : JournalP
 
       journal_then : LeavesAlone bays 0 old.bay bay_after
       journal_then =
-          alone_on bays lawful 0 old.bay bay bay_after (alone_rest bays lawful (InNamed old.counts.listing.settings old.counts.rows) 0 (λ same. absurd (omega (arith, same))) old.bay bay did.rest
+          alone_on lawful (alone_rest lawful 0 (λ same. absurd (omega (arith, same))) did.rest
           did.kept.time)
-          (alone_others bays lawful 1 0 (λ same. absurd (omega (arith, same))) bay bay_after appends.seen appends.others appends.kept.time)
+          (alone_others lawful 1 0 (λ same. absurd (omega (arith, same))) appends.seen appends.others appends.kept.time)
 
       -- in each image of each moment
       sound_flush : IfTold (bays.files old.bay) (λ seen. (history : List Packet) → AreNext history place old (key ∷ []) →
@@ -283,9 +283,9 @@ module _ {B : Type 0} {bays : Bays B} (lawful : IsLawful bays) (place : JournalP
               up_flushed (bays.leaves bay) mid.0 history old.counts counts log_then up.logged key can.still can.counted did.counted taken_then
               (moves moves_now few (Ok tt) bay_after log_after appends) (few_here moves_now few (Ok tt) bay_after log_after appends)
               (bays.left_since bay_after (bays.moment bay)) pay refl (appends.others mid.0 mid.1) (appends.before mid.0 mid.1) (bays.leaves bay_after) after log_after
-              (now_since bays lawful bay bay_after appends.kept.time.later) (ap (λ (l : LogPlace). l.named) appends.moved)
+              (now_since lawful appends.kept.time.later) (ap (λ (l : LogPlace). l.named) appends.moved)
               (ap (λ (l : LogPlace). l.places) appends.moved) stands
-              (settled_alone bays lawful 0 bay bay_after (alone_others bays lawful 1 0 (λ same. absurd (omega (arith, same))) bay bay_after appends.seen appends.others appends.kept.time)
+              (settled_alone lawful (alone_others lawful 1 0 (λ same. absurd (omega (arith, same))) appends.seen appends.others appends.kept.time)
               mid.0 mid.1 taken_then.journal_settled after told_after)
               (appends.settled after told_after);
           each_moment = sound_flush moves_now few (Ok tt) bay_after log_after appends;

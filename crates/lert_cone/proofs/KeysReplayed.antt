@@ -8,7 +8,7 @@ use Rattle.lert_reports.specs.Log.{most_record}
 use Rattle.lert_spec.specs.{declared.numbers.Numbers.Numbers, Edges.capacity, Mix.cone_of}
 use Rattle.lert_cone.specs.{declared.journal_places.JournalPlace.JournalPlace, declared.tally.TakeFault.TakeFault, Due.Dues, KeepsLog.{KeepsLogOf, LogHead}, Framed.{HoldsSome, last_flush}}
 use Rattle.lert_cone.specs.{Listing.Listing, JournalPlaces.{ArePlacesIn, AreOfRecord, HasPassed, Places}, Record.LogPlace, Replay.IsOnWay}
-use Rattle.lert_cone.specs.{Takes.{Workplace, AreNext, CanLog, CanTake, CanReplay, TakesKeys, ReplaysKeys, replayed_head, taken_head}, Tally.{Tallied, IsRecounted}}
+use Rattle.lert_cone.specs.{Takes.{work_at, Workplace, AreNext, CanLog, CanTake, CanReplay, TakesKeys, ReplaysKeys, replayed_head, taken_head}, Tally.{Tallied, IsRecounted}}
 use Rattle.lert_bay.proofs.KeptLaws.{IsLawful, keeps_none}
 use Rattle.lert_cone.proofs.{Calls.alone_none, KeepsLogSteps.{log_as, log_none}, KeysTaken.map_ok, KeyStep.sound_behind, JournalPlaceLaws.record_part, RecountLaws.recounted_behind}
 use Rattle.lert_cone.proofs.{ReplayLaws.{on_way_places, sound_recounted}, ReplayStep.{way_counted, way_in_step, way_partway, way_taken, enough_counted, told_once}, SomeLaws.some_counted}
@@ -19,11 +19,17 @@ never_true true never = absurd (never refl)
 never_true false never = refl
 
 -- `counts` is what the cone counted once the first keys are counted again, and nothing else changed
-module _ {B : Type 0} (bays : Bays B) (lawful : IsLawful bays) (place : JournalPlace) (old : Workplace B) (n0 count : ℕ) (keys : List ℕ) (can : CanReplay bays n0 keys old) (counts : Tallied)
-    (count_is : count ≡ min (n0 - length old.counts.listing.events) (length keys))
-    (listing_is : counts.listing ≡ record old.counts.listing { events = old.counts.listing.events ++ take count keys })
-    (rows_are : counts.rows ≡ old.counts.rows) (due_is : counts.due ≡ old.counts.due) (recounted : IsRecounted counts n0)
-    (places : Places) (over : HasPassed (length counts.listing.events) place old.log.places places) where
+module _ {B : Type 0} {bays : Bays B} (lawful : IsLawful bays) (place : JournalPlace) {old : Workplace B} {n0 count : ℕ} {keys front back : List ℕ} (can : CanReplay bays n0 keys old)
+    (front_is : front ≡ take count keys) (back_is : back ≡ drop count keys) (count_is : count ≡ min (n0 - length old.counts.listing.events) (length keys)) {counts : Tallied}
+    (front_taken : counts.listing ≡ record old.counts.listing { events = old.counts.listing.events ++ front })
+    (rows_are : counts.rows ≡ old.counts.rows) (due_is : counts.due ≡ old.counts.due) (recounted : IsRecounted counts n0) {at : ℕ} {places : Places} {log_mid : LogPlace}
+    (at_is : at ≡ length counts.listing.events) (passed : HasPassed at place old.log.places places) (rest_is : log_mid ≡ record old.log { places = places }) where
+  listing_is : counts.listing ≡ record old.counts.listing { events = old.counts.listing.events ++ take count keys }
+  listing_is = front_taken ∙ ap (λ (ks : List ℕ). record old.counts.listing { events = old.counts.listing.events ++ ks }) front_is
+
+  over : HasPassed (length counts.listing.events) place old.log.places places
+  over = subst (λ n. HasPassed n place old.log.places places) at_is passed
+
   abbrev log_then : LogPlace
   log_then = record old.log { places = places }
 
@@ -36,7 +42,7 @@ module _ {B : Type 0} (bays : Bays B) (lawful : IsLawful bays) (place : JournalP
   early : count ≤ n0 - length old.counts.listing.events
   early = omega (arith, count_is)
 
-  can_log_then : CanLog bays (record old { counts = counts; log = record old.log { places = places } })
+  can_log_then : CanLog bays (work_at old.bay counts log_then old.room)
   can_log_then = record {
     logging = record {
       most = can.can_log.logging.most ∙ ap most_record (sym settings_are);
@@ -69,11 +75,12 @@ module _ {B : Type 0} (bays : Bays B) (lawful : IsLawful bays) (place : JournalP
       over.from
 
   -- all keys are counted again
-  pub all_again : length (drop count keys) ≡ 0 → ReplaysKeys bays n0 place keys old (record old { counts = counts; log = record old.log { places = places } }) (Ok tt)
-  all_again none =
+  pub all_again : length back ≡ 0 → ReplaysKeys bays n0 place keys old (work_at old.bay counts log_mid old.room) (Ok tt)
+  all_again empty =
+      let none : length (drop count keys) ≡ 0 = ap (length {A = ℕ}) (sym back_is) ∙ empty in
       let whole : take count keys ≡ keys = take_all count keys (omega (arith, none, length-drop count keys)) in
       let events_are : counts.listing.events ≡ old.counts.listing.events ++ take count keys = ap (λ (l : Listing). l.events) listing_is in
-      record {
+      subst (λ (l : LogPlace). ReplaysKeys bays n0 place keys old (work_at old.bay counts l old.room) (Ok tt)) (sym rest_is) (record {
         listing = listing_is ∙ ap (λ (ks : List ℕ). record old.counts.listing { events = ks })
             (sym events_are);
         taken = events_are ∙ ap (λ ks. old.counts.listing.events ++ ks) whole;
@@ -104,41 +111,46 @@ module _ {B : Type 0} (bays : Bays B) (lawful : IsLawful bays) (place : JournalP
             (log_none bays lawful old.counts.listing.settings {E = TakeFault} (replayed_head n0 old) old.bay can.can_log.log_shut);
         keeps = record {
           shows = λ seen told file at same. absurd (let never : ⊥ = cc in never);
-          journal = alone_none bays lawful 0 old.bay;
+          journal = alone_none lawful;
           most = refl;
           kept = keeps_none bays lawful old.bay _ (λ same. (let never : ⊥ = cc in never));
         };
-      }
+      })
 
   -- others stand behind those
-  module _ (some : 0 < length (drop count keys)) where
+  module _ (some_back : 0 < length back) where
+    some : 0 < length (drop count keys)
+    some = omega (arith, some_back, ap (length {A = ℕ}) back_is)
+
     enough : n0 ≤ length counts.listing.events
     enough = enough_counted old.counts counts n0 count keys count_is some listing_is
 
-    pub can_take_ahead : CanTake bays (drop count keys) (record old { counts = counts; log = record old.log { places = places } })
-    can_take_ahead = record {
-      still = never_true counts.listing.closed (λ closed. absurd (omega (
-        arith,
-        can.before_closing (sym (ap (λ (l : Listing). l.closed) listing_is)
-            ∙ closed),
-        enough,
-        counted,
-        some,
-        length-take count keys,
-        length-drop count keys,
-      )));
-      own = subst (λ (l : Listing). All (λ key. cone_of l.settings key ≡ l.cone) (drop count keys)) (sym listing_is)
-          (All-drop (λ key. cone_of old.counts.listing.settings key ≡ old.counts.listing.cone) count keys can.own);
-      fits = subst (λ (l : Listing). length l.events + length (drop count keys) ≤ capacity l.settings) (sym listing_is)
-          (omega (arith, can.fits, length-append old.counts.listing.events (take count keys), length-take count keys, length-drop count keys, some));
-      counted = recounted.behind enough;
-      can_log = can_log_then;
-    }
+    pub can_take_ahead : CanTake bays back (work_at old.bay counts log_mid old.room)
+    can_take_ahead = subst (λ (ks : List ℕ). CanTake bays ks (work_at old.bay counts log_mid old.room)) (sym back_is)
+        (subst (λ (l : LogPlace). CanTake bays (drop count keys) (work_at old.bay counts l old.room)) (sym rest_is) (record {
+          still = never_true counts.listing.closed (λ closed. absurd (omega (
+            arith,
+            can.before_closing (sym (ap (λ (l : Listing). l.closed) listing_is)
+                ∙ closed),
+            enough,
+            counted,
+            some,
+            length-take count keys,
+            length-drop count keys,
+          )));
+          own = subst (λ (l : Listing). All (λ key. cone_of l.settings key ≡ l.cone) (drop count keys)) (sym listing_is)
+              (All-drop (λ key. cone_of old.counts.listing.settings key ≡ old.counts.listing.cone) count keys can.own);
+          fits = subst (λ (l : Listing). length l.events + length (drop count keys) ≤ capacity l.settings) (sym listing_is)
+              (omega (arith, can.fits, length-append old.counts.listing.events (take count keys), length-take count keys, length-drop count keys, some));
+          counted = recounted.behind enough;
+          can_log = can_log_then;
+        }))
 
-    pub others_ahead : (new : Workplace B) (result : Result (Unit {0}) TakeFault) → TakesKeys bays place (drop count keys)
-        (record old { counts = counts; log = record old.log { places = places } }) new result →
+    pub others_ahead : {new : Workplace B} {result : Result (Unit {0}) TakeFault} → TakesKeys bays place back (work_at old.bay counts log_mid old.room) new result →
         ReplaysKeys bays n0 place keys old new result
-    others_ahead new result did =
+    others_ahead {new = new} {result = result} takes =
+        let did = subst (λ (ks : List ℕ). TakesKeys bays place ks (work_at old.bay counts log_then old.room) new result) back_is
+        (subst (λ (l : LogPlace). TakesKeys bays place back (work_at old.bay counts l old.room) new result) rest_is takes) in
         let up_to : max n0 (length old.counts.listing.events) ≡ length counts.listing.events = omega (arith, count_is, counted, enough, length-take count keys) in
         let then_most : (ks : List ℕ) → ks ≡ counts.listing.events ++ drop count keys → length ks ≡ max n0 (length ks) =
         λ ks is. (let long : length ks ≡ length counts.listing.events + length (drop count keys) = ap (length {A = ℕ}) is ∙ length-append counts.listing.events (drop count keys) in omega

@@ -36,10 +36,10 @@ partway_back s history events front back partway = record {
 front_passed : (s : Numbers) (n : ℕ) (front back : List ℕ) → last_flush s (n + length (front ++ back)) ≤ n → last_flush s (n + length front) ≤ n
 front_passed s n front back passed = omega (arith, passed, last_flush_grows s (n + length front) (n + length (front ++ back)) (omega (arith, length-append front back)))
 
-module _ {B : Type 0} (bays : Bays B) (lawful : IsLawful bays) (place : JournalPlace) where
+module _ {B : Type 0} {bays : Bays B} (lawful : IsLawful bays) (place : JournalPlace) where
   -- no key
-  pub takes_none : (at : Workplace B) (keys : List ℕ) → CanTake bays keys at → TakesKeys bays place [] at at (Ok tt)
-  takes_none at keys can = record {
+  pub takes_none : {at : Workplace B} {keys : List ℕ} → CanTake bays keys at → TakesKeys bays place [] at at (Ok tt)
+  takes_none {at = at} can = record {
     listing = refl;
     taken = sym (append-nil at.counts.listing.events);
     counted = can.counted;
@@ -55,7 +55,7 @@ module _ {B : Type 0} (bays : Bays B) (lawful : IsLawful bays) (place : JournalP
     log = log_none bays lawful at.counts.listing.settings (taken_head at) at.bay can.can_log.log_shut;
     keeps = record {
       shows = λ seen told file at same. absurd (let never : ⊥ = cc in never);
-      journal = alone_none bays lawful 0 at.bay;
+      journal = alone_none lawful;
       most = refl;
       kept = keeps_none bays lawful at.bay _ (λ same. (let never : ⊥ = cc in never));
     };
@@ -68,7 +68,7 @@ module _ {B : Type 0} (bays : Bays B) (lawful : IsLawful bays) (place : JournalP
       (length at.counts.listing.events + length front) (omega arith) (omega (arith, length-append front back)) next
 
   -- some, and then others
-  module _ (old mid new : Workplace B) (front back : List ℕ) (result : Result (Unit {0}) TakeFault) (first : TakesKeys bays place front old mid (Ok tt))
+  module _ {old mid new : Workplace B} {front back : List ℕ} {result : Result (Unit {0}) TakeFault} (first : TakesKeys bays place front old mid (Ok tt))
       (second : TakesKeys bays place back mid new result)
     where
       mid_is : mid.counts.listing ≡ record old.counts.listing { events = old.counts.listing.events ++ front }
@@ -126,15 +126,15 @@ module _ {B : Type 0} (bays : Bays B) (lawful : IsLawful bays) (place : JournalP
             (subst (λ (s : Numbers). KeepsLogOf bays s (taken_head mid) (taken_head new) mid.bay new.bay result) (ap (λ (l : Listing). l.settings) first.listing) second.log);
         keeps = record {
           shows = second.keeps.shows;
-          journal = alone_on bays lawful 0 old.bay mid.bay new.bay first.keeps.journal second.keeps.journal;
+          journal = alone_on lawful first.keeps.journal second.keeps.journal;
           most = second.keeps.most ∙ first.keeps.most;
           kept = keeps_on bays lawful old.bay mid.bay new.bay _ _ first.keeps.kept second.keeps.kept;
         };
       }
 
   -- where a key isn't taken no other is
-  takes_fewer : (old new : Workplace B) (front back : List ℕ) (fault : TakeFault) → TakesKeys bays place front old new (Err fault) → TakesKeys bays place (front ++ back) old new (Err fault)
-  takes_fewer old new front back fault did = record {
+  takes_fewer : {old new : Workplace B} {front : List ℕ} {fault : TakeFault} (back : List ℕ) → TakesKeys bays place front old new (Err fault) → TakesKeys bays place (front ++ back) old new (Err fault)
+  takes_fewer {old = old} {front = front} back did = record {
     listing = did.listing;
     taken = tt;
     counted = tt;
@@ -152,7 +152,7 @@ module _ {B : Type 0} (bays : Bays B) (lawful : IsLawful bays) (place : JournalP
 
   -- ---- a list of keys, up to a place
 
-  module _ (old mid : Workplace B) (keys : List ℕ) (i : ℕ) (first : TakesKeys bays place (take i keys) old mid (Ok tt)) where
+  module _ {old mid : Workplace B} (keys : List ℕ) (i : ℕ) (first : TakesKeys bays place (take i keys) old mid (Ok tt)) where
     pub next_can : CanTake bays keys old → i < length keys → CanTake bays (get_or keys i 0 ∷ []) mid
     next_can can within =
         let is = first.listing ∙ ap (λ (ks : List ℕ). record old.counts.listing { events = ks })
@@ -168,20 +168,19 @@ module _ {B : Type 0} (bays : Bays B) (lawful : IsLawful bays) (place : JournalP
           can_log = first.can_log;
         }
 
-    pub next_takes : (new : Workplace B) → i < length keys → TakesKeys bays place (get_or keys i 0 ∷ []) mid new (Ok tt) → TakesKeys bays place (take (i + 1) keys) old new (Ok tt)
-    next_takes new within second =
-        subst (λ (front : List ℕ). TakesKeys bays place front old new (Ok tt)) (sym (take_more keys i 0 within)) (takes_more old mid new (take i keys) (get_or keys i 0 ∷ []) (Ok tt) first second)
+    pub next_takes : {new : Workplace B} → i < length keys → TakesKeys bays place (get_or keys i 0 ∷ []) mid new (Ok tt) → TakesKeys bays place (take (i + 1) keys) old new (Ok tt)
+    next_takes {new = new} within second =
+        subst (λ (front : List ℕ). TakesKeys bays place front old new (Ok tt)) (sym (take_more keys i 0 within)) (takes_more first second)
 
-    pub next_refused : (new : Workplace B) → i < length keys → (result : Result (Unit {0}) TakeFault) (fault : TakeFault) → result ≡ Err fault →
-        TakesKeys bays place (get_or keys i 0 ∷ []) mid new result →
-        (given : Result (Unit {0}) TakeFault) → IsErrAnd given (λ g. g ≡ fault) → TakesKeys bays place keys old new given
-    next_refused new within result fault is second given given_is =
+    pub next_refused : {new : Workplace B} {result given : Result (Unit {0}) TakeFault} {fault : TakeFault} → i < length keys → result ≡ Err fault →
+        TakesKeys bays place (get_or keys i 0 ∷ []) mid new result → IsErrAnd given (λ g. g ≡ fault) → TakesKeys bays place keys old new given
+    next_refused {new = new} {given = given} {fault = fault} within is second given_is =
         let failed : TakesKeys bays place (get_or keys i 0 ∷ []) mid new (Err fault) = subst (λ (r : Result (Unit {0}) TakeFault). TakesKeys bays place (get_or keys i 0 ∷ []) mid new r) is second in
         let split : (take i keys ++ get_or keys i 0 ∷ []) ++ drop (i + 1) keys ≡ keys = ap (λ front. front ++ drop (i + 1) keys) (sym (take_more keys i 0 within))
         ∙ take-append-drop (i + 1) keys in
         subst (λ (r : Result (Unit {0}) TakeFault). TakesKeys bays place keys old new r) (handed_on given fault given_is)
         (subst (λ (all : List ℕ). TakesKeys bays place all old new (Err fault)) split
-        (takes_fewer old new (take i keys ++ get_or keys i 0 ∷ []) (drop (i + 1) keys) fault (takes_more old mid new (take i keys) (get_or keys i 0 ∷ []) (Err fault) first failed)))
+        (takes_fewer (drop (i + 1) keys) (takes_more first failed)))
 
     pub all_taken : length keys ≤ i → TakesKeys bays place keys old mid (Ok tt)
     all_taken over = subst (λ (all : List ℕ). TakesKeys bays place all old mid (Ok tt)) (take_all i keys over) first

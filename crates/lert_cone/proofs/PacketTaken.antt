@@ -1,6 +1,6 @@
 -- A packet through the calls that it makes: it isn't appended, or it is, and its keys are taken.
 use Rattle.std.specs.{Prelude.IsErr, Result.IsErrAnd}
-use Rattle.std.proofs.Common.{◌≡◌, ℕ, ◌+◌, ◌^◌, ◌<◌, ◌≤◌, List, [], ◌∷◌, ◌++◌, All, length, Result, Ok, Err, OnOk, OnErr, Some, refl, ap, ◌∙◌, subst, inl, inr, arith}
+use Rattle.std.proofs.Common.{◌≡◌, ℕ, ◌+◌, ◌^◌, ◌<◌, ◌≤◌, List, [], ◌∷◌, ◌++◌, All, length, Result, Ok, Err, OnOk, OnErr, Some, refl, ap, ◌∙◌, subst, inl, inr, arith, sym}
 use Rattle.lert_base.specs.Packet.{Packet, events_of}
 use Rattle.lert_bay.specs.{Files.{Files, IfTold, Turns}, Kept.{Bays, KeepsBay}}
 use Rattle.lert_gatelog.specs.{Gated.{IsClosed, Log, next_gate}, Kept.{InEach, KeepsOthers, KeepsBefore, IsWhollySettled, OthersStay}}
@@ -30,17 +30,15 @@ AppendsPacket bays packet bay bay_after old new result = record {
   kept : KeepsBay bays bay bay_after (IsErr result);
 }
 
-pub appends_ok : {B : Type 0} (bays : Bays B) (packet : Packet) (bay bay_after : B) (old new : Log) (result : Result (Unit {0}) Fault) → result ≡ Ok tt →
-    AppendsPacket bays packet bay bay_after old new result →
-    AppendsPacket bays packet bay bay_after old new (Ok tt)
-appends_ok bays packet bay bay_after old new result is appends = subst (λ (r : Result (Unit {0}) Fault). AppendsPacket bays packet bay bay_after old new r) is appends
+module _ {B : Type 0} {bays : Bays B} (lawful : IsLawful bays) {old : Workplace B} {packet : Packet} {journal : Log} (can : CanTakePacket bays packet old journal) {keys : List ℕ}
+    (keys_are : keys ≡ packet.keys) (keys_fit : All (λ key. key < 2 ^ 64) keys) (journal_after : Log) (bay : B) where
+  fit : All (λ key. key < 2 ^ 64) packet.keys
+  fit = subst (All (λ key. key < 2 ^ 64)) keys_are keys_fit
 
-module _ {B : Type 0} (bays : Bays B) (lawful : IsLawful bays) (old : Workplace B) (packet : Packet) (journal journal_after : Log) (can : CanTakePacket bays packet old journal) (fit : All
-    (λ key. key < 2 ^ 64) packet.keys) (bay : B) where
   -- whatever comes of the append
   module _ (result : Result (Unit {0}) Fault) (appends : AppendsPacket bays packet old.bay bay journal journal_after result) where
     now : (image : Files) → bays.leaves bay image → bays.left_since bay (bays.moment old.bay) image
-    now = now_since bays lawful old.bay bay appends.kept.time.later
+    now = now_since lawful appends.kept.time.later
 
     others_here : IfTold (bays.files old.bay) (λ seen. KeepsOthers (bays.leaves old.bay) (bays.left_since bay (bays.moment old.bay)) seen 0)
     others_here seen told = subst (λ (f : ℕ). KeepsOthers (bays.leaves old.bay) (bays.left_since bay (bays.moment old.bay)) seen f) can.file (appends.others seen told)
@@ -68,7 +66,7 @@ module _ {B : Type 0} (bays : Bays B) (lawful : IsLawful bays) (old : Workplace 
         (appends.each_moment seen told 32 history) (there seen told history whole)) image may
 
     log_alone : LeavesAlone bays 1 old.bay bay
-    log_alone = alone_others bays lawful journal.file 1 (λ same. absurd (omega (arith, same, can.file))) old.bay bay appends.seen appends.others appends.kept.time
+    log_alone = alone_others lawful journal.file 1 (λ same. absurd (omega (arith, same, can.file))) appends.seen appends.others appends.kept.time
 
   refused_by : (failed : Fault) (room : ℕ) → AppendsPacket bays packet old.bay bay journal journal_after (Err failed) →
       TakesPacket bays packet old (record old { bay = bay; room = room }) journal journal_after (Err Failed)
@@ -91,18 +89,20 @@ module _ {B : Type 0} (bays : Bays B) (lawful : IsLawful bays) (old : Workplace 
   }
 
   -- it isn't appended
-  pub packet_refused : (result : Result (Unit {0}) Fault) (failed : Fault) → result ≡ Err failed → AppendsPacket bays packet old.bay bay journal journal_after result →
-      (room : ℕ) →
-      (given : Result (Unit {0}) TakeFault) → IsErrAnd given (λ fault. fault ≡ Failed) → TakesPacket bays packet old (record old { bay = bay; room = room }) journal journal_after given
-  packet_refused result failed is appends room given given_is =
-      subst (λ (r : Result (Unit {0}) TakeFault). TakesPacket bays packet old (record old { bay = bay; room = room }) journal journal_after r)
-      (handed_on given Failed given_is)
+  pub packet_refused : {result : Result (Unit {0}) Fault} {given : Result (Unit {0}) TakeFault} {failed : Fault} {room : ℕ} → result ≡ Err failed →
+      AppendsPacket bays packet old.bay bay journal journal_after result → IsErrAnd given (λ fault. fault ≡ Failed) →
+      TakesPacket bays packet old (record old { bay = bay; room = room }) journal journal_after given
+  packet_refused {given = given} {failed = failed} {room = room} is appends given_is =
+      subst (λ (r : Result (Unit {0}) TakeFault). TakesPacket bays packet old (record old { bay = bay; room = room }) journal journal_after r) (handed_on given Failed given_is)
       (refused_by failed room (subst (λ (r : Result (Unit {0}) Fault). AppendsPacket bays packet old.bay bay journal journal_after r) is appends))
 
   -- it is appended
-  module _ (appends : AppendsPacket bays packet old.bay bay journal journal_after (Ok tt)) where
-    pub can_take_then : (room : ℕ) → room ≡ old.room → CanTake bays packet.keys (record old { bay = bay; room = room })
-    can_take_then room room_is = record {
+  module _ {appended : Result (Unit {0}) Fault} (ok : appended ≡ Ok tt) (said : AppendsPacket bays packet old.bay bay journal journal_after appended) where
+    appends : AppendsPacket bays packet old.bay bay journal journal_after (Ok tt)
+    appends = subst (λ (r : Result (Unit {0}) Fault). AppendsPacket bays packet old.bay bay journal journal_after r) ok said
+
+    pub can_take_then : {room : ℕ} → room ≡ old.room → CanTake bays keys (record old { bay = bay; room = room })
+    can_take_then {room = room} room_is = subst (λ (ks : List ℕ). CanTake bays ks (record old { bay = bay; room = room })) (sym keys_are) (record {
       still = can.still;
       own = can.journaled.of_cone;
       fits = can.fits;
@@ -116,9 +116,9 @@ module _ {B : Type 0} (bays : Bays B) (lawful : IsLawful bays) (old : Workplace 
           same = can.can_log.logging.same;
           passed = can.can_log.logging.passed;
         };
-        log_shut = shut_alone bays lawful 1 old.log.gate old.bay bay (log_alone (Ok tt) appends) can.can_log.log_shut;
+        log_shut = shut_alone lawful (log_alone (Ok tt) appends) can.can_log.log_shut;
       };
-    }
+    })
 
     shut_then : IsShutIfTold (bays.files bay) (bays.leaves bay) 0 journal_after.gate
     shut_then seen told =
@@ -140,7 +140,7 @@ module _ {B : Type 0} (bays : Bays B) (lawful : IsLawful bays) (old : Workplace 
         (now (Ok tt) appends)
         (ap (λ (j : Log). j.gate) appends.moved) appended_here
         (subst (λ (f : ℕ). IsWhollySettled (bays.leaves bay) mid f) can.file (appends.settled mid told_mid))
-        (settled_alone bays lawful 1 old.bay bay (log_alone (Ok tt) appends) seen told whole.in_step.log_settled mid told_mid)
+        (settled_alone lawful (log_alone (Ok tt) appends) seen told whole.in_step.log_settled mid told_mid)
 
     -- its keys are those of the record that begins at the gate
     next_then : (place : JournalPlace) → place.gate ≡ journal.gate → place.first ≡ length old.counts.listing.events + 1 → (seen : Files) (history : List Packet) →
@@ -149,38 +149,40 @@ module _ {B : Type 0} (bays : Bays B) (lawful : IsLawful bays) (old : Workplace 
     next_then place gate_is first_is seen history whole =
         last_holds history packet place (length old.counts.listing.events) (gate_is ∙ whole.gate_is) (ap (length {A = ℕ}) whole.keys) first_is
 
-    pub packet_taken : (place : JournalPlace) → place.gate ≡ journal.gate → place.first ≡ length old.counts.listing.events + 1 → (room : ℕ) (new : Workplace B) (result : Result (Unit {0}) TakeFault) →
-        TakesKeys bays place packet.keys (record old { bay = bay; room = room }) new result →
+    pub packet_taken : {place : JournalPlace} {room : ℕ} {new : Workplace B} {result : Result (Unit {0}) TakeFault} → place.gate ≡ journal.gate →
+        place.first ≡ length old.counts.listing.events + 1 → TakesKeys bays place keys (record old { bay = bay; room = room }) new result →
         TakesPacket bays packet old new journal journal_after result
-    packet_taken place gate_is first_is room new result did = record {
-      listing = did.listing;
-      taken = did.taken;
-      counted = did.counted;
-      can_log = did.can_log;
-      moved = ok_holds result appends.moved;
-      file = ap (λ (j : Log). j.file) appends.moved;
-      most = ap (λ (j : Log). j.most) appends.moved;
-      shut = ok_holds result (shut_alone bays lawful 0 journal_after.gate bay new.bay did.keeps.journal shut_then);
-      in_step = λ seen told history whole.
-          let mid = appends.seen.told seen told in
-          did.in_step mid.0 mid.1 (history ++ packet ∷ []) (next_then place gate_is first_is seen history whole) (up_then seen told history whole mid.0 mid.1);
-      each_moment = λ seen told history whole image may.
-          let mid = appends.seen.told seen told in
-          elim (did.keeps.journal.time.known (bays.moment old.bay) image appends.kept.time.later may) [
-            | inl past ↦ sound_append (Ok tt) appends seen told history whole image past
-            | inr here ↦ inr (
-              packet,
-              refl,
-              did.each_moment mid.0 mid.1 (history ++ packet ∷ []) (next_then place gate_is first_is seen history whole)
-                  (partway_packet old.counts.listing.settings history packet old.counts.listing.events whole.keys)
-                  (up_then seen told history whole mid.0 mid.1) image here,
-            )
-          ];
-      sound = λ seen told history whole.
-          let mid = appends.seen.told seen told in
-          did.sound mid.0 mid.1 (history ++ packet ∷ []) (next_then place gate_is first_is seen history whole) (up_then seen told history whole mid.0 mid.1);
-      shows = did.keeps.shows;
-      seen = turns_on appends.seen did.keeps.journal.seen;
-      now = λ image may. lawful.since_earlier new.bay (bays.moment old.bay) (bays.moment bay) image appends.kept.time.later (did.keeps.journal.now image may);
-      kept = keeps_on bays lawful old.bay bay new.bay _ _ appends.kept did.keeps.kept;
-    }
+    packet_taken {place = place} {room = room} {new = new} {result = result} gate_is first_is takes =
+        let did = subst (λ (ks : List ℕ). TakesKeys bays place ks (record old { bay = bay; room = room }) new result) keys_are takes in
+        record {
+          listing = did.listing;
+          taken = did.taken;
+          counted = did.counted;
+          can_log = did.can_log;
+          moved = ok_holds result appends.moved;
+          file = ap (λ (j : Log). j.file) appends.moved;
+          most = ap (λ (j : Log). j.most) appends.moved;
+          shut = ok_holds result (shut_alone lawful did.keeps.journal shut_then);
+          in_step = λ seen told history whole.
+              let mid = appends.seen.told seen told in
+              did.in_step mid.0 mid.1 (history ++ packet ∷ []) (next_then place gate_is first_is seen history whole) (up_then seen told history whole mid.0 mid.1);
+          each_moment = λ seen told history whole image may.
+              let mid = appends.seen.told seen told in
+              elim (did.keeps.journal.time.known (bays.moment old.bay) image appends.kept.time.later may) [
+                | inl past ↦ sound_append (Ok tt) appends seen told history whole image past
+                | inr here ↦ inr (
+                  packet,
+                  refl,
+                  did.each_moment mid.0 mid.1 (history ++ packet ∷ []) (next_then place gate_is first_is seen history whole)
+                      (partway_packet old.counts.listing.settings history packet old.counts.listing.events whole.keys)
+                      (up_then seen told history whole mid.0 mid.1) image here,
+                )
+              ];
+          sound = λ seen told history whole.
+              let mid = appends.seen.told seen told in
+              did.sound mid.0 mid.1 (history ++ packet ∷ []) (next_then place gate_is first_is seen history whole) (up_then seen told history whole mid.0 mid.1);
+          shows = did.keeps.shows;
+          seen = turns_on appends.seen did.keeps.journal.seen;
+          now = λ image may. lawful.since_earlier new.bay (bays.moment old.bay) (bays.moment bay) image appends.kept.time.later (did.keeps.journal.now image may);
+          kept = keeps_on bays lawful old.bay bay new.bay _ _ appends.kept did.keeps.kept;
+        }

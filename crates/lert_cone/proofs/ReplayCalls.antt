@@ -1,5 +1,5 @@
 -- A record of the journal through the calls that a cone makes for it as it is read again: it is read, and then its keys are taken.
-use Rattle.std.proofs.Common.{◌≡◌, ℕ, ◌+◌, ◌≤◌, List, ◌++◌, length, take, drop, max, Option, Some, None, Result, Ok, OnOk, sym, ap, ◌∙◌, subst, inl, inr, arith, length-append}
+use Rattle.std.proofs.Common.{◌≡◌, ℕ, ◌+◌, ◌≤◌, List, ◌++◌, length, take, drop, max, Option, Some, Result, Ok, OnOk, sym, ap, ◌∙◌, subst, inl, inr, arith, length-append}
 use Rattle.std.specs.List.{length_refill}
 use Rattle.lert_base.specs.Packet.{Packet, events_of}
 use Rattle.lert_bay.specs.{Files.{Files, IfTold}, Images.Lasts, Kept.{Bays, CallsBay, KeepsBay}}
@@ -56,7 +56,7 @@ module _ {B : Type 0} (bays : Bays B) (lawful : IsLawful bays) where
       ((image : Files) → bays.left_since after (bays.moment before) image → IsSound s cone history image) → StaysSound bays s cone history before after
   stays_by s cone history before after later each = record {
     each_moment = each;
-    as_read = λ seen told. each seen (now_since bays lawful before after later seen (lawful.as_read after seen told));
+    as_read = λ seen told. each seen (now_since lawful later seen (lawful.as_read after seen told));
   }
 
   -- calls behind others
@@ -86,8 +86,8 @@ module _ {B : Type 0} (bays : Bays B) (lawful : IsLawful bays) where
     -- and calls behind that leave a file alone
     pub alone_behind : (file : ℕ) (after : B) → LeavesAlone bays file bay_read after → LeavesAlone bays file bay after
     alone_behind file after left =
-        alone_on bays lawful file bay bay_read after
-        (alone_reading bays lawful file bay bay_read _ read.reads) left
+        alone_on lawful
+        (alone_reading lawful file read.reads) left
 
     -- a log whose gate is closed stays through the reading
     pub read_logged : {U F : Type 0} (s : Numbers) (head : LogHead) (answer : Result U F) → IsShutIfTold (bays.files bay) (bays.leaves bay) 1 head.gate →
@@ -100,7 +100,7 @@ module _ {B : Type 0} (bays : Bays B) (lawful : IsLawful bays) where
         ((P : LogHead → Type 0) → OnOk result (P new) → OnOk answer (P new)) → KeepsLogOf bays s old new bay_read after result → KeepsLogOf bays s old new bay after answer
     logged_behind s old new after result answer shut left goes did =
         log_as bays lawful s old new new bay after result answer goes
-        (log_on bays lawful s {U = Unit {0}} {F = Unit {0}} old old new bay bay_read after tt result (alone_reading bays lawful 0 bay bay_read _ read.reads).seen read.reads.kept.time.later left.time
+        (log_on bays lawful s {U = Unit {0}} {F = Unit {0}} old old new bay bay_read after tt result (alone_reading lawful 0 read.reads).seen read.reads.kept.time.later left.time
         (read_logged s old (Ok tt) shut) did)
 
     -- no flush comes with its keys

@@ -41,7 +41,7 @@ module _ {B : Type 0} (bays : Bays B) (lawful : IsLawful bays) (history : List P
     stays_read before between after First Failed kept stays reads =
         stays_on bays lawful s cone history before between after kept.time.later reads.kept.time stays
         (stays_by bays lawful s cone history between after reads.kept.time.later
-        (λ image since. stays.each_moment image (now_since bays lawful before between kept.time.later image (reads.moments image since))))
+        (λ image since. stays.each_moment image (now_since lawful kept.time.later image (reads.moments image since))))
 
   -- one packet more is replayed
   pub stays_replayed : (start old : Replaying B) (after : B) (First Second : Type 0) → IsSameReplay start old → CallsBay bays start.bay old.bay First →

@@ -2,7 +2,6 @@ use Rattle.std.proofs.{Common.{◌∙◌, ◌++◌, ◌∷◌, [], ap, arith, re
 use Rattle.std.specs.Prelude.{is_err}
 use Rattle.lert_cone.proofs.{Bays.{Bays, bays_of}, Refusals.{frames_stay, frames_stay_on}, SoundLaws.{turns_back, begun_new}}
 use Rattle.lert_bay.proofs.KeptLaws.{IsLawful, keeps_as, keeps_on}
-use Rattle.lert_gatelog.specs.Kept.{OthersStay}
 use Rattle.lert_cone.proofs.headers.write_headers.Given as given
 use Rattle.lert_cone.proofs.headers.write_headers.Goals as goal
 

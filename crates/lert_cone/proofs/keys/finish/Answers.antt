@@ -1,4 +1,3 @@
-use Rattle.std.proofs.Common.{length}
 use Rattle.lert_cone.proofs.{Bays.{Bays, bays_of}, EndTaken.{end_refused, can_log_end, close_failed, end_taken}}
 use Rattle.lert_bay.proofs.KeptLaws.{IsLawful}
 use Rattle.lert_cone.proofs.keys.finish.Given as given
@@ -17,28 +16,18 @@ pub finish-requires-clause-counted : goal.finish-requires-clause-counted
 finish-requires-clause-counted g c = c.requires.counted
 
 pub returns-in_err-finish : goal.returns-in_err-finish
-returns-in_err-finish g c = end_refused (bays g) (lawful g)
-    (record { bay = c.args.bay.now; counts = c.args.tally.now; log = c.args.log.now; room = length c.args.buffer.now })
-    c.requires c.finish.new.bay c.finish.new.self c.finish.result c.in_err-finish.field-0.0 c.in_err-finish.was c.finish.ensures
-    c.from_residual.result c.from_residual.ensures.1
+returns-in_err-finish g c = end_refused (lawful g) c.requires c.finish.new.bay c.finish.new.self c.in_err-finish.was c.finish.ensures c.from_residual.ensures.1
 
 pub write_record-requires-clause-counted : goal.write_record-requires-clause-counted
 write_record-requires-clause-counted g c = c.in_ok-finish.ensures.counted
 
 pub write_record-requires-clause-can_log : goal.write_record-requires-clause-can_log
-write_record-requires-clause-can_log g c = can_log_end (bays g) (lawful g)
-    (record { bay = c.args.bay.now; counts = c.args.tally.now; log = c.args.log.now; room = length c.args.buffer.now })
-    c.requires c.finish.new.bay c.finish.new.self c.in_ok-finish.ensures
+write_record-requires-clause-can_log g c = can_log_end (lawful g) c.requires c.finish.new.bay c.finish.new.self c.in_ok-finish.ensures
 
 pub returns-in_err-write_record : goal.returns-in_err-write_record
-returns-in_err-write_record g c = close_failed (bays g) (lawful g)
-    (record { bay = c.args.bay.now; counts = c.args.tally.now; log = c.args.log.now; room = length c.args.buffer.now })
-    c.requires c.finish.new.bay c.finish.new.self c.in_ok-finish.ensures c.write_record.ensures.few
-    c.in_err-write_record.field-0.0 c.write_record.new.bay c.write_record.new.log (length c.write_record.new.buffer) c.write_record.auto.buffer
-    (rw c.in_err-write_record.was at c.write_record.ensures.appends) c.from_residual-in_err-write_record.result c.from_residual-in_err-write_record.ensures.1
+returns-in_err-write_record g c = close_failed (lawful g) c.requires c.finish.new.bay c.finish.new.self c.in_ok-finish.ensures c.write_record.ensures.few c.write_record.auto.buffer
+    (rw c.in_err-write_record.was at c.write_record.ensures.appends) c.from_residual-in_err-write_record.ensures.1
 
 pub returns : goal.returns
-returns g c = end_taken (bays g) (lawful g)
-    (record { bay = c.args.bay.now; counts = c.args.tally.now; log = c.args.log.now; room = length c.args.buffer.now })
-    c.requires c.finish.new.bay c.finish.new.self c.in_ok-finish.ensures c.write_record.ensures.few
-    c.write_record.new.bay c.write_record.new.log (length c.write_record.new.buffer) c.write_record.auto.buffer (rw c.in_ok-write_record.was at c.write_record.ensures.appends)
+returns g c = end_taken (lawful g) c.requires c.finish.new.bay c.finish.new.self c.in_ok-finish.ensures c.write_record.ensures.few c.write_record.auto.buffer
+    (rw c.in_ok-write_record.was at c.write_record.ensures.appends)

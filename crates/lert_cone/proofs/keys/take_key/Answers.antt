@@ -1,8 +1,6 @@
-use Rattle.std.proofs.Common.{ℕ, [], ◌∷◌, length, ap, arith, length-append, subst, sym, ◌∙◌, ◌≤◌, Ok, Err}
-use Rattle.lert_levels.specs.rows.Rows.{directory_text}
-use Rattle.lert_reports.specs.declared.log.LogKind.{LogKind}
+use Rattle.std.proofs.Common.{ℕ, [], ◌∷◌, length, ap, arith, length-append, subst, sym, ◌∙◌, ◌≤◌}
 use Rattle.lert_spec.specs.{declared.numbers.Numbers.Numbers, Edges.capacity}
-use Rattle.lert_cone.specs.{Appends.AppendsRecord, Listing.Listing, JournalPlaces.HasPassed, Record.LogPlace, Takes.{CanLog, TakesKeys}}
+use Rattle.lert_cone.specs.{Listing.Listing}
 use Rattle.lert_cone.proofs.{KeyTaken.{key_refused, key_between, can_log_then, record_failed, key_flushed}, Bays.{Bays, bays_of}}
 use Rattle.lert_bay.proofs.KeptLaws.{IsLawful}
 use Rattle.lert_cone.proofs.keys.take_key.Given as given

@@ -254,7 +254,7 @@ returns-in-Ok-false g c =
       whole = λ seen told some at same. no_fault same;
       unsound = λ file at same. absurd (no_fault same);
       same_cone = record { settings = refl; cone = refl; made = refl; last = refl };
-      journal = alone_reading (bays g) (lawful g) 0 c.self.inside.bay c.read_packet.new.bay _ c.read_packet.ensures.keeps.reads;
+      journal = alone_reading (lawful g) 0 c.read_packet.ensures.keeps.reads;
       kept = calls_as (bays g) (lawful g) c.self.inside.bay c.read_packet.new.bay _ _ (λ same. absurd (no_fault same)) c.read_packet.ensures.keeps.reads.kept;
       handed = ended_read c.self.inside.tally.listing.settings (packet_of c.read_packet.new.entry) _ _
           (g.B.Bay.handed_out c.read_packet.new.bay) refl c.in-Ok-false.field-0 c.in-Ok-false.ensures.handed c.in-Ok-false.field-0-test;

@@ -7,7 +7,7 @@ use Rattle.lert_bay.proofs.KeptLaws.{IsLawful}
 use Rattle.lert_gatelog.specs.Gated.{Log}
 use Rattle.lert_journal.specs.Payload.{payload_of}
 use Rattle.lert_spec.specs.declared.numbers.Numbers.{Numbers}
-use Rattle.lert_cone.specs.{History.most_payload, InStep.IsLogging, Listing.Listing, Room.room_of, Replaying.Replaying, Wrote.Anything}
+use Rattle.lert_cone.specs.{History.most_payload, InStep.IsLogging, Listing.Listing, Room.room_of, Replaying.Replaying}
 use Rattle.lert_cone.proofs.cone.replaying.ReplayingCone.replay.Given as given
 use Rattle.lert_cone.proofs.cone.replaying.ReplayingCone.replay.Goals as goal
 

@@ -48,7 +48,7 @@ record_refused g c =
           let answer : c.from-fault-in-Err.result ≡ Unsound file at = one_fault same in
           absurd (never_unsound c.in-Err.fault file at (sym c.from-fault-in-Err.ensures ∙ answer));
       same_cone = record { settings = refl; cone = refl; made = refl; last = refl };
-      journal = alone_reading (bays g) (lawful g) 0 c.self.inside.bay c.read_packet.new.bay _ c.read_packet.ensures.keeps.reads;
+      journal = alone_reading (lawful g) 0 c.read_packet.ensures.keeps.reads;
       kept = calls_as (bays g) (lawful g) c.self.inside.bay c.read_packet.new.bay _ _ (λ same.
           let answer : c.from-fault-in-Err.result ≡ Failed = one_fault same in
           c.in-Err.is ∙ ap Err (failed_record c.in-Err.fault (sym c.from-fault-in-Err.ensures ∙ answer))) c.read_packet.ensures.keeps.reads.kept;
