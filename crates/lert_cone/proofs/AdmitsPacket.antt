@@ -34,8 +34,7 @@ module _ {B : Type 0} (bays : Bays B) (lawful : IsLawful bays) (packet : Packet)
       stands_then : (h : List Packet) → StandsFor bays.files bays.leaves bays.faults (cone_at bay made tally events state over journal.gate log last) h →
           StandsFor bays.files bays.leaves bays.faults (cone_at bay_after made after events_after state over journal_after.gate log_after last) (h ++ packet ∷ [])
       stands_then h stands =
-          stands_whole bays.files bays.leaves bays.faults (cone_at bay made tally events state over journal.gate log last)
-          (cone_at bay_after made after events_after state over journal_after.gate log_after last) h (h ++ packet ∷ []) same
+          stands_whole same
           (ap is_broken running) (stands.none_over (ap is_broken running)) (some_more h packet stands.some some) (omega (arith, counted_more h packet, stands.counted, events_are)) (omega
           (arith, events_are, within))
           (λ sound seen told.
@@ -60,8 +59,7 @@ module _ {B : Type 0} (bays : Bays B) (lawful : IsLawful bays) (packet : Packet)
           let sound_then : WasSound bays.files (cone_at bay_after made after events_after state over journal_after.gate log_after last) =
           subst (λ (l : Listing). IfTold (bays.files made) (λ first. (history : List Packet) × IsSound l.settings l.cone history first)) (sym is) sound in
           subst (λ (settings : Numbers). IsTimelySoFar settings.threshold settings.bins (events_of (h ++ packet ∷ [])) after.due.reports) (ap (λ (l : Listing). l.settings) is)
-          (timely_so_far bays.files bays.leaves bays.faults (cone_at bay_after made after events_after state over journal_after.gate log_after last)
-          (h ++ packet ∷ []) (ap is_broken running) (ap (λ (l : Listing). l.closed) is ∙ still) (stands_then h stands) sound_then then.0 then.1)
+          (timely_so_far (ap is_broken running) (ap (λ (l : Listing). l.closed) is ∙ still) (stands_then h stands) sound_then then.0 then.1)
 
       pub admitted : Admits bays packet (cone_at bay made tally events state over journal.gate log last)
           (cone_at bay_after made after events_after state over journal_after.gate log_after last) (Ok (record { from = events + 1; to = events_after; reports = reports }))
@@ -110,7 +108,5 @@ module _ {B : Type 0} (bays : Bays B) (lawful : IsLawful bays) (packet : Packet)
         IsCone bays.files bays.leaves bays.faults bays.mark (cone_at bay_after made after events_after state over journal_after.gate log_after last) after journal_after cone_room_after keys_room
     still_cone events_after cone_room cone_room_after keys_room did events_are some room_is lent_is cone =
         let is = did.listing ∙ ap (λ (keys : List ℕ). record tally.listing { events = keys }) did.taken in
-        more_cone bays.files bays.leaves bays.faults bays.mark bay made bay_after tally after events events_after cone_room
-        cone_room_after keys_room state over journal journal_after log log_after last packet running is did.counted
-        events_are did.moved room_is some within did.kept.never_falls did.seen did.kept.mark did.shut
+        more_cone packet running is did.counted events_are did.moved room_is some within did.kept.never_falls did.seen did.kept.mark did.shut
         (subst (λ (n : ℕ). IsLogging after log_after n) lent_is did.can_log.logging) did.can_log.log_shut cone

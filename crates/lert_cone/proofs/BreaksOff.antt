@@ -37,10 +37,7 @@ module _ {B : Type 0} (bays : Bays B) (lawful : IsLawful bays) (packet : Packet)
           acked = tt;
           taken = tt;
           in_time_so_far = tt;
-          stays = λ h stands.
-              stands_broken bays.files bays.leaves bays.faults (cone_at bay made tally events state over journal.gate log last)
-              (cone_at bay_after made after events state_after over_after journal_after.gate log_after last) h same
-              (ap is_broken state_is ∙ is_broken_by fault) refl
+          stays = λ h stands. stands_broken same (ap is_broken state_is ∙ is_broken_by fault) refl
               (λ by_bay. risen_since (bays.faults made) (bays.faults bay) (bays.faults bay_after) risen did.kept.never_falls
               (did.kept.failed (ap Err (by_bay_of fault (sym state_is ∙ by_bay))))) (λ file at by_read sound. turned_none did.seen (untold (bays.files bay)
               (λ seen told. did.sound seen told h (stands.whole (ap is_broken running) sound seen told) file at (ap Err (by_read_of fault file at (sym state_is ∙ by_read))))))

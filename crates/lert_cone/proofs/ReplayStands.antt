@@ -131,29 +131,28 @@ stopped_there stopped fault is none = absurd (some_or_none fault (sym is ∙ non
     some_or_none : {Fault : Type 0} (fault : Fault) → Some fault ≡ None → ⊥
     some_or_none fault same = cc
 
-module _ {B : Type 0} (files : B → Option Files) (leaves : B → Files → Type 0) (faults mark : B → ℕ) where
+module _ {B : Type 0} {files : B → Option Files} {leaves : B → Files → Type 0} {faults mark : B → ℕ} where
   -- one that refused a record
-  pub stopped_cone : (old new : Replaying B) (tally after : Tallied) (journal journal_after : Log) (room room_after keys_room keys_room_after : ℕ) (fault : ReplayFault)
+  pub stopped_cone : {old new : Replaying B} {tally after : Tallied} {journal journal_after : Log} {room room_after keys_room keys_room_after : ℕ} {fault : ReplayFault}
       → new.stopped ≡ Some fault → new.listing.settings ≡ old.listing.settings → new.events ≡ old.events → new.made ≡ old.made
       → journal_after.file ≡ journal.file → journal_after.most ≡ journal.most → room_after ≡ room → keys_room_after ≡ keys_room → faults old.bay ≤ faults new.bay
       → Turns Anything (files old.bay) (files new.bay) → mark new.bay ≡ mark old.bay
       → IsReplaying files leaves faults mark old tally journal room keys_room → IsReplaying files leaves faults mark new after journal_after room_after keys_room_after
-  stopped_cone old new tally after journal journal_after room room_after keys_room keys_room_after fault stopped same events_are made_is file_is most_is room_is keys_room_is falls turns marked
-      cone = record {
-        file = file_is ∙ cone.file;
-        most = most_is ∙ cone.most ∙ ap most_payload (sym same);
-        roomy = room_is ∙ cone.roomy ∙ ap room_of (sym same);
-        keys_roomy = keys_room_is ∙ cone.keys_roomy ∙ ap (λ (s : Numbers). 4 * s.packet) (sym same);
-        within = subst (λ (s : Numbers). new.events ≤ capacity s) (sym same) (omega (arith, events_are, cone.within));
-        valid = subst IsValid (sym same) cone.valid;
-        never_falls = omega (arith, ap faults made_is, cone.never_falls, falls);
-        marked = marked ∙ cone.marked ∙ ap mark (sym made_is);
-        tells = turns_on (subst (λ (m : B). Turns Anything (files m) (files old.bay)) (sym made_is) cone.tells) turns;
-        taking = stopped_there new.stopped fault stopped;
-      }
+  stopped_cone {old = old} {new = new} {fault = fault} stopped same events_are made_is file_is most_is room_is keys_room_is falls turns marked cone = record {
+    file = file_is ∙ cone.file;
+    most = most_is ∙ cone.most ∙ ap most_payload (sym same);
+    roomy = room_is ∙ cone.roomy ∙ ap room_of (sym same);
+    keys_roomy = keys_room_is ∙ cone.keys_roomy ∙ ap (λ (s : Numbers). 4 * s.packet) (sym same);
+    within = subst (λ (s : Numbers). new.events ≤ capacity s) (sym same) (omega (arith, events_are, cone.within));
+    valid = subst IsValid (sym same) cone.valid;
+    never_falls = omega (arith, ap faults made_is, cone.never_falls, falls);
+    marked = marked ∙ cone.marked ∙ ap mark (sym made_is);
+    tells = turns_on (subst (λ (m : B). Turns Anything (files m) (files old.bay)) (sym made_is) cone.tells) turns;
+    taking = stopped_there new.stopped fault stopped;
+  }
 
   -- a cone that took its last packet
-  pub ready_cone : (cone : Replaying B) (tally : Tallied) (journal journal_after : Log) (room keys_room end : ℕ) (state : ConeState)
+  pub ready_cone : {cone : Replaying B} {tally : Tallied} {journal journal_after : Log} {room keys_room end : ℕ} {state : ConeState}
       → cone.stopped ≡ None → state ≡ cond cone.last.closed Finished Running → cone.last.n0 ≤ length cone.listing.events → cone.gate ≡ end → journal_after ≡ record {
         file = 0;
         gate = end;
@@ -161,7 +160,7 @@ module _ {B : Type 0} (files : B → Option Files) (leaves : B → Files → Typ
       }
       → IsShutIfTold (files cone.bay) (leaves cone.bay) 0 end → tally.listing ≡ cone.listing → IsReplaying files leaves faults mark cone tally journal room keys_room
       → IsCone files leaves faults mark (record (readied cone) { state = state; gate = journal_after.gate }) tally journal_after room keys_room
-  ready_cone cone tally journal journal_after room keys_room end state none state_is enough gate_is journal_is shut listing_is replaying =
+  ready_cone {cone = cone} {state = state} none state_is enough gate_is journal_is shut listing_is replaying =
       let was = replaying.taking none in
       let whole : is_broken state ≡ false = ap is_broken state_is ∙ ends_whole cone.last.closed in
       record {
@@ -185,6 +184,7 @@ module _ {B : Type 0} (files : B → Option Files) (leaves : B → Files → Typ
         log_shut = λ _. was.log_shut;
       }
 
+module _ {B : Type 0} {files : B → Option Files} {leaves : B → Files → Type 0} {faults : B → ℕ} where
   pub ready_stands : (bay made : B) (tally : Tallied) (events gate gate_after : ℕ) (log : LogPlace) (last : LogPoint) (stopped : Option ReplayFault) (state : ConeState)
       (history : List Packet)
       → state ≡ cond last.closed Finished Running → gate_after ≡ gate → IsRecounted tally last.n0 → last.n0 ≤ length tally.listing.events → IsValid tally.listing.settings →

@@ -152,24 +152,25 @@ module _ {B : Type 0} (files : B → Option Files) (leaves : B → Files → Typ
     };
   }
 
-  -- what was so of the files when the cone was made
-  was_before : (old new : Standing B) → IsSameCone old new → WasSound files new → WasSound files old
-  was_before old new same was first told =
-      let then = was first (ap files same.made ∙ told) in
-      (then.0, subst (λ n. IsSound old.listing.settings n then.0 first) same.cone (subst (λ (s : Numbers). IsSound s new.listing.cone then.0 first) same.settings then.1))
+-- what was so of the files when the cone was made
+was_before : {B : Type 0} (files : B → Option Files) {old new : Standing B} → IsSameCone old new → WasSound files new → WasSound files old
+was_before files {old = old} {new = new} same was first told =
+    let then = was first (ap files same.made ∙ told) in
+    (then.0, subst (λ n. IsSound old.listing.settings n then.0 first) same.cone (subst (λ (s : Numbers). IsSound s new.listing.cone then.0 first) same.settings then.1))
 
+module _ {B : Type 0} {files : B → Option Files} {leaves : B → Files → Type 0} {faults : B → ℕ} where
   -- one in another state that isn't broken, or with a packet more
-  pub stands_whole : (old new : Standing B) (history more : List Packet) → IsSameCone old new → is_broken new.state ≡ false → new.over ≡ None
+  pub stands_whole : {old new : Standing B} {history more : List Packet} → IsSameCone old new → is_broken new.state ≡ false → new.over ≡ None
       → All (λ packet. 0 < length packet.keys) more → length (events_of more) ≡ new.events → new.events ≤ capacity old.listing.settings
       → (WasSound files old → IfTold (files new.bay) (λ seen. IsWhole (leaves new.bay) seen new.listing new.rows new.reports new.gate new.log more)) →
       StandsFor files leaves faults old history
       → StandsFor files leaves faults new more
-  stands_whole old new history more same still none_over some counted within whole stands = record {
+  stands_whole {new = new} same still none_over some counted within whole stands = record {
     some = some;
     counted = counted;
     within = subst (λ (s : Numbers). new.events ≤ capacity s) (sym same.settings) within;
     valid = subst IsValid (sym same.settings) stands.valid;
-    whole = λ _ sound. whole (was_before old new same sound);
+    whole = λ _ sound. whole (was_before files same sound);
     broken = λ never. absurd (false≢true (sym still ∙ never));
     none_over = λ _. none_over;
     by_bay = λ never. absurd (false≢true (sym still ∙ ap is_broken never));
@@ -177,27 +178,26 @@ module _ {B : Type 0} (files : B → Option Files) (leaves : B → Files → Typ
   }
 
   -- one that broke off in the middle
-  pub stands_broken : (old new : Standing B) (history : List Packet) → IsSameCone old new → is_broken new.state ≡ true → new.events ≡ old.events
+  pub stands_broken : {old new : Standing B} {history : List Packet} → IsSameCone old new → is_broken new.state ≡ true → new.events ≡ old.events
       → (new.state ≡ BrokenByBay → HasRisen (faults new.made) (faults new.bay)) → ((file at : ℕ) → new.state ≡ BrokenByRead file at → WasSound files old → files new.bay ≡ None)
       → (WasSound files old → IfTold (files new.bay) (λ seen. IsKept (leaves new.bay) seen (IsSoundOver new.listing.settings new.listing.cone history new.over))) →
       StandsFor files leaves faults old history
       → StandsFor files leaves faults new history
-  stands_broken old new history same broken events_are by_bay by_read kept stands = record {
+  stands_broken {new = new} same broken events_are by_bay by_read kept stands = record {
     some = stands.some;
     counted = stands.counted ∙ sym events_are;
     within = subst (λ (s : Numbers). new.events ≤ capacity s) (sym same.settings) (omega (arith, events_are, stands.within));
     valid = subst IsValid (sym same.settings) stands.valid;
     whole = λ never. absurd (false≢true (sym never ∙ broken));
-    broken = λ _ sound. kept (was_before old new same sound);
+    broken = λ _ sound. kept (was_before files same sound);
     none_over = λ never. absurd (false≢true (sym never ∙ broken));
     by_bay = by_bay;
-    by_read = λ file at is sound. by_read file at is (was_before old new same sound);
+    by_read = λ file at is sound. by_read file at is (was_before files same sound);
   }
 
   -- a packet more, and its keys
-  pub more_cone : (mark : B → ℕ) (bay made last : B) (tally after : Tallied) (events events_after room room_after keys_room : ℕ) (state : ConeState) (over : Option Packet)
-      (journal journal_after : Log)
-      (log log_after : LogPlace) (point : LogPoint) (packet : Packet)
+  pub more_cone : {mark : B → ℕ} {bay made last : B} {tally after : Tallied} {events events_after room room_after keys_room : ℕ} {state : ConeState} {over : Option Packet}
+      {journal journal_after : Log} {log log_after : LogPlace} {point : LogPoint} (packet : Packet)
       → state ≡ Running → after.listing ≡ record tally.listing { events = tally.listing.events ++ packet.keys } → IsCounted after → events_after ≡ events + length packet.keys
       → journal_after ≡ record journal { gate = next_gate journal.gate (payload_of packet) } → room_after ≡ room → 0 < length packet.keys →
       events + length packet.keys ≤ capacity tally.listing.settings
@@ -206,37 +206,35 @@ module _ {B : Type 0} (files : B → Option Files) (leaves : B → Files → Typ
       IsShutIfTold (files last) (leaves last) 1 log_after.gate
       → IsCone files leaves faults mark (cone_at bay made tally events state over journal.gate log point) tally journal room keys_room
       → IsCone files leaves faults mark (cone_at last made after events_after state over journal_after.gate log_after point) after journal_after room_after keys_room
-  more_cone mark bay made last tally after events events_after room room_after keys_room state over journal journal_after log log_after point packet running is counted events_is journal_is room_is
-      some fits falls turns marked shut logging log_shut cone = record {
-        file = ap (λ (j : Log). j.file) journal_is ∙ cone.file;
-        most = ap (λ (j : Log). j.most) journal_is ∙ cone.most ∙ ap (λ (l : Listing). most_payload l.settings) (sym is);
-        roomy = room_is ∙ (cone.roomy ∙ ap (λ (l : Listing). room_of l.settings) (sym is));
-        keys_roomy = cone.keys_roomy ∙ ap (λ (l : Listing). 4 * l.settings.packet) (sym is);
-        within = subst (λ (l : Listing). events_after ≤ capacity l.settings) (sym is) (omega (arith, events_is, fits));
-        valid = subst (λ (l : Listing). IsValid l.settings) (sym is) cone.valid;
-        never_falls = omega (arith, cone.never_falls, falls);
-        marked = marked ∙ cone.marked;
-        tells = turns_on cone.tells turns;
-        by_bay = λ never. absurd (false≢true (sym (ap is_broken running) ∙ ap is_broken never));
-        none_over = cone.none_over;
-        counted = λ still. omega (arith, ap (λ (l : Listing). length l.events) is, length-append tally.listing.events packet.keys, cone.counted still, events_is);
-        tallied = λ _. counted;
-        closed = λ still. ap (λ (l : Listing). l.closed) is ∙ cone.closed still;
-        near = λ still. omega (arith, cone.near still, ap (λ (j : Log). j.gate) journal_is, length_payload packet, events_is, some);
-        shut = λ _. shut;
-        logging = λ _. logging;
-        log_shut = λ _. log_shut;
-      }
+  more_cone {tally = tally} {events_after = events_after} packet running is counted events_is journal_is room_is some fits falls turns marked shut logging log_shut cone = record {
+    file = ap (λ (j : Log). j.file) journal_is ∙ cone.file;
+    most = ap (λ (j : Log). j.most) journal_is ∙ cone.most ∙ ap (λ (l : Listing). most_payload l.settings) (sym is);
+    roomy = room_is ∙ (cone.roomy ∙ ap (λ (l : Listing). room_of l.settings) (sym is));
+    keys_roomy = cone.keys_roomy ∙ ap (λ (l : Listing). 4 * l.settings.packet) (sym is);
+    within = subst (λ (l : Listing). events_after ≤ capacity l.settings) (sym is) (omega (arith, events_is, fits));
+    valid = subst (λ (l : Listing). IsValid l.settings) (sym is) cone.valid;
+    never_falls = omega (arith, cone.never_falls, falls);
+    marked = marked ∙ cone.marked;
+    tells = turns_on cone.tells turns;
+    by_bay = λ never. absurd (false≢true (sym (ap is_broken running) ∙ ap is_broken never));
+    none_over = cone.none_over;
+    counted = λ still. omega (arith, ap (λ (l : Listing). length l.events) is, length-append tally.listing.events packet.keys, cone.counted still, events_is);
+    tallied = λ _. counted;
+    closed = λ still. ap (λ (l : Listing). l.closed) is ∙ cone.closed still;
+    near = λ still. omega (arith, cone.near still, ap (λ (j : Log). j.gate) journal_is, length_payload packet, events_is, some);
+    shut = λ _. shut;
+    logging = λ _. logging;
+    log_shut = λ _. log_shut;
+  }
 
   -- the end
-  pub ended_cone : (mark : B → ℕ) (bay made last : B) (tally after : Tallied) (events room room_after keys_room : ℕ) (state ended : ConeState) (over : Option Packet)
-      (journal : Log) (log log_after : LogPlace)
-      (point : LogPoint)
+  pub ended_cone : {mark : B → ℕ} {bay made last : B} {tally after : Tallied} {events room room_after keys_room : ℕ} {state ended : ConeState} {over : Option Packet} {journal : Log}
+      {log log_after : LogPlace} {point : LogPoint}
       → state ≡ Running → ended ≡ Finished → after.listing ≡ record tally.listing { closed = true } → IsCounted after → room_after ≡ room → faults bay ≤ faults last
       → Turns Anything (files bay) (files last) → mark last ≡ mark bay
       → IsCone files leaves faults mark (cone_at bay made tally events state over journal.gate log point) tally journal room keys_room
       → IsCone files leaves faults mark (cone_at last made after events ended over journal.gate log_after point) after journal room_after keys_room
-  ended_cone mark bay made last tally after events room room_after keys_room state ended over journal log log_after point running finished is counted room_is falls turns marked cone = record {
+  ended_cone {events = events} running finished is counted room_is falls turns marked cone = record {
     file = cone.file;
     most = cone.most ∙ ap (λ (l : Listing). most_payload l.settings) (sym is);
     roomy = room_is ∙ cone.roomy ∙ ap (λ (l : Listing). room_of l.settings) (sym is);
@@ -258,7 +256,7 @@ module _ {B : Type 0} (files : B → Option Files) (leaves : B → Files → Typ
   }
 
   -- one that broke off
-  pub broken_cone : (mark : B → ℕ) (old new : Standing B) (tally after : Tallied) (journal journal_after : Log) (room room_after keys_room keys_room_after : ℕ)
+  pub broken_cone : {mark : B → ℕ} {old new : Standing B} {tally after : Tallied} {journal journal_after : Log} {room room_after keys_room keys_room_after : ℕ}
       → is_broken new.state ≡ true →
       new.listing.settings ≡ old.listing.settings → new.events ≡ old.events → new.made ≡ old.made
       → journal_after.file ≡ journal.file → journal_after.most ≡ journal.most → room_after ≡ room → keys_room_after ≡ keys_room → faults old.bay ≤ faults new.bay
@@ -266,8 +264,7 @@ module _ {B : Type 0} (files : B → Option Files) (leaves : B → Files → Typ
       (new.state ≡ BrokenByBay →
       HasRisen (faults new.made) (faults new.bay))
       → IsCone files leaves faults mark old tally journal room keys_room → IsCone files leaves faults mark new after journal_after room_after keys_room_after
-  broken_cone mark old new tally after journal journal_after room room_after keys_room keys_room_after broken same events_are made_is file_is most_is room_is keys_room_is falls turns
-      marked by_bay cone =
+  broken_cone {mark = mark} {old = old} {new = new} broken same events_are made_is file_is most_is room_is keys_room_is falls turns marked by_bay cone =
       record {
         file = file_is ∙ cone.file;
         most = most_is ∙ cone.most ∙ ap most_payload (sym same);

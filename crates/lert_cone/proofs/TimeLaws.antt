@@ -8,11 +8,11 @@ use Rattle.lert_cone.specs.Stands.{Standing, StandsFor, WasSound, is_broken}
 use Rattle.lert_cone.proofs.StandLaws.{reports_running, reports_finished}
 
 -- those of a cone whose reports aren't those at the end yet
-pub timely_so_far : {B : Type 0} (files : B → Option Files) (leaves : B → Files → Type 0) (faults : B → ℕ) (cone : Standing B) (history : List Packet) →
+pub timely_so_far : {B : Type 0} {files : B → Option Files} {leaves : B → Files → Type 0} {faults : B → ℕ} {cone : Standing B} {history : List Packet} →
     is_broken cone.state ≡ false →
     cone.listing.closed ≡ false → StandsFor files leaves faults cone history → WasSound files cone →
     IfTold (files cone.bay) (λ _. IsTimelySoFar cone.listing.settings.threshold cone.listing.settings.bins (events_of history) cone.reports)
-timely_so_far files leaves faults cone history unbroken still stands sound seen told =
+timely_so_far {cone = cone} {history = history} unbroken still stands sound seen told =
     let whole = stands.whole unbroken sound seen told in
     let fits : length (events_of history) ≤ capacity cone.listing.settings = omega (arith, stands.counted, stands.within) in
     subst (λ (reports : List Report). IsTimelySoFar cone.listing.settings.threshold cone.listing.settings.bins (events_of history) reports) (sym (whole.in_step.reports_are
@@ -20,10 +20,10 @@ timely_so_far files leaves faults cone history unbroken still stands sound seen 
     (IsTimelySoFar-look cone.listing.settings (events_of history) stands.valid fits)
 
 -- those at the end
-pub timely : {B : Type 0} (files : B → Option Files) (leaves : B → Files → Type 0) (faults : B → ℕ) (cone : Standing B) (history : List Packet) → is_broken cone.state ≡ false →
+pub timely : {B : Type 0} {files : B → Option Files} {leaves : B → Files → Type 0} {faults : B → ℕ} {cone : Standing B} {history : List Packet} → is_broken cone.state ≡ false →
     cone.listing.closed ≡ true → StandsFor files leaves faults cone history → WasSound files cone →
     IfTold (files cone.bay) (λ _. IsTimely cone.listing.settings.threshold cone.listing.settings.bins (events_of history) cone.reports)
-timely files leaves faults cone history unbroken ended stands sound seen told =
+timely {cone = cone} {history = history} unbroken ended stands sound seen told =
     let whole = stands.whole unbroken sound seen told in
     let fits : length (events_of history) ≤ capacity cone.listing.settings = omega (arith, stands.counted, stands.within) in
     subst (λ (reports : List Report). IsTimely cone.listing.settings.threshold cone.listing.settings.bins (events_of history) reports) (sym (whole.in_step.reports_are

@@ -32,14 +32,14 @@ log_reads bays file most before after Failed file_is one handed = only_reads_of 
 
 -- ---- several calls
 
-module _ {B : Type 0} (bays : Bays B) (lawful : IsLawful bays) where
-  pub quiet_sync : {T E : Type 0} (result : Result T E) (file : ℕ) (before after : B) (Failed : Type 0) → bays.files after ≡ bays.files before →
+module _ {B : Type 0} {bays : Bays B} (lawful : IsLawful bays) where
+  pub quiet_sync : {T E : Type 0} {before after : B} (result : Result T E) (file : ℕ) (Failed : Type 0) → bays.files after ≡ bays.files before →
       IfTold (bays.files before) (λ seen. OnOk result (Settles file (seen file) (bays.leaves before) (bays.leaves after))) →
       OnErr result (KeepsImages (bays.leaves before) (bays.leaves after)) →
       Elapses (bays.moment before) (bays.moment after) (bays.left_since before) (bays.left_since after) (bays.leaves after) →
       bays.faults before ≤ bays.faults after → (Failed → HasRisen (bays.faults before) (bays.faults after)) → bays.mark after ≡ bays.mark before →
       WritesNothing bays before after Failed
-  quiet_sync result file before after Failed same settles stays elapsed never_falls failed mark = record {
+  quiet_sync {before = before} {after = after} result file Failed same settles stays elapsed never_falls failed mark = record {
     kept = calls_call bays lawful before after Failed elapsed never_falls failed mark;
     seen = same;
     images = λ seen told image may. fewer_images result file (seen file) (bays.leaves before) (bays.leaves after) (settles seen told) stays image may;
@@ -50,20 +50,20 @@ module _ {B : Type 0} (bays : Bays B) (lawful : IsLawful bays) where
   }
 
   -- calls that read alone
-  pub quiet_reading : (before after : B) (Failed : Type 0) → ReadsBay bays before after Failed → WritesNothing bays before after Failed
-  quiet_reading before after Failed one = record {
+  pub quiet_reading : {before after : B} {Failed : Type 0} → ReadsBay bays before after Failed → WritesNothing bays before after Failed
+  quiet_reading one = record {
     kept = one.kept;
     seen = one.seen;
     images = λ seen told image may. (one.images image).0 may;
     moments = λ seen told image since. one.moments image since;
   }
 
-  pub quiet_reads : (before after : B) (Failed : Type 0) → OnlyReads bays before after Failed → WritesNothing bays before after Failed
-  quiet_reads before after Failed one = quiet_reading before after Failed (reads bays before after Failed one)
+  pub quiet_reads : {before after : B} {Failed : Type 0} → OnlyReads bays before after Failed → WritesNothing bays before after Failed
+  quiet_reads {before = before} {after = after} {Failed = Failed} one = quiet_reading (reads bays before after Failed one)
 
   -- the same calls, seen as failed in other words
-  pub quiet_as : (before after : B) (First Failed : Type 0) → (Failed → First) → WritesNothing bays before after First → WritesNothing bays before after Failed
-  quiet_as before after First Failed turned one = record {
+  pub quiet_as : {before after : B} {First Failed : Type 0} → (Failed → First) → WritesNothing bays before after First → WritesNothing bays before after Failed
+  quiet_as {before = before} {after = after} {First = First} {Failed = Failed} turned one = record {
     kept = calls_as bays lawful before after First Failed turned one.kept;
     seen = one.seen;
     images = one.images;
@@ -71,9 +71,9 @@ module _ {B : Type 0} (bays : Bays B) (lawful : IsLawful bays) where
   }
 
   -- calls behind others, of which the last one failed, if any did
-  pub quiet_on : (before between after : B) (First Failed : Type 0) → WritesNothing bays before between First → WritesNothing bays between after Failed →
+  pub quiet_on : {before between after : B} {First Failed : Type 0} → WritesNothing bays before between First → WritesNothing bays between after Failed →
       WritesNothing bays before after Failed
-  quiet_on before between after First Failed one two = record {
+  quiet_on {before = before} {between = between} {after = after} {First = First} {Failed = Failed} one two = record {
     kept = calls_on bays lawful before between after First Failed one.kept two.kept;
     seen = two.seen ∙ one.seen;
     images = λ seen told image may. one.images seen told image (two.images seen (one.seen ∙ told) image may);

@@ -19,11 +19,11 @@ module _ {B E : Type 0} (bays : Bays B) (lawful : IsLawful bays) (bay_in : E →
   pub bay_before : (fault_in : E → ReopenFault) → WritesNothing bays before bay First → (result : Result (Standing B) E) →
       SaysOfBay bays bay_in fault_in bay result → SaysOfBay bays bay_in fault_in before result
   bay_before fault_in quiet (Ok now) says = record {
-    reads = journal_on (bays.files before) (bays.files bay) (bays.files now.bay) (journal_same (bays.files before) (bays.files bay) quiet.seen) says.reads;
+    reads = journal_on (journal_same (bays.files before) (bays.files bay) quiet.seen) says.reads;
     kept = calls_on bays lawful before bay now.bay First ⊥ quiet.kept says.kept;
   }
   bay_before fault_in quiet (Err refused) says = record {
-    reads = journal_on (bays.files before) (bays.files bay) (bays.files (bay_in refused)) (journal_same (bays.files before) (bays.files bay) quiet.seen) says.reads;
+    reads = journal_on (journal_same (bays.files before) (bays.files bay) quiet.seen) says.reads;
     kept = calls_on bays lawful before bay (bay_in refused) First (fault_in refused ≡ Failed) quiet.kept says.kept;
   }
 
@@ -31,8 +31,8 @@ module _ {B E : Type 0} (bays : Bays B) (lawful : IsLawful bays) (bay_in : E →
   pub quiet_before : WritesNothing bays before bay First → (result : Result (Standing B) E) →
       MatchResult result (λ now. WritesNothing bays bay now.bay ⊥) (λ refused. WritesNothing bays bay (bay_in refused) ⊥) →
       MatchResult result (λ now. WritesNothing bays before now.bay ⊥) (λ refused. WritesNothing bays before (bay_in refused) ⊥)
-  quiet_before quiet (Ok now) behind = quiet_on bays lawful before bay now.bay First ⊥ quiet behind
-  quiet_before quiet (Err refused) behind = quiet_on bays lawful before bay (bay_in refused) First ⊥ quiet behind
+  quiet_before quiet (Ok now) behind = quiet_on lawful quiet behind
+  quiet_before quiet (Err refused) behind = quiet_on lawful quiet behind
 
 module _ {B E : Type 0} (start : Replaying B) where
   -- what a cone is that was made and replayed its journal

@@ -20,8 +20,8 @@ journal_none files = record { told = λ old told. (old, told, refl); untold = λ
 pub journal_same : (before after : Option Files) → after ≡ before → IsJournalSame before after
 journal_same before after same = record { told = λ old told. (old, same ∙ told, refl); untold = λ none. same ∙ none }
 
-pub journal_on : (first middle last : Option Files) → IsJournalSame first middle → IsJournalSame middle last → IsJournalSame first last
-journal_on first middle last one two = record {
+pub journal_on : {first middle last : Option Files} → IsJournalSame first middle → IsJournalSame middle last → IsJournalSame first last
+journal_on one two = record {
   told = λ old told.
       let came = one.told old told in
       let went = two.told came.0 came.1 in
@@ -43,15 +43,10 @@ framed_none files s n0 rows events few seen there told told_there some =
 pub same_none : {B : Type 0} (start : Replaying B) → IsSameReplay start start
 same_none start = record { settings = refl; cone = refl; made = refl; last = refl }
 
-module _ {B : Type 0} (files : B → Option Files) (start old new : Replaying B) where
-  pub same_on : IsSameReplay start old → IsSameReplay old new → IsSameReplay start new
-  same_on one two = record {
-    settings = two.settings ∙ one.settings;
-    cone = two.cone ∙ one.cone;
-    made = two.made ∙ one.made;
-    last = two.last ∙ one.last;
-  }
+pub same_on : {B : Type 0} (start old new : Replaying B) → IsSameReplay start old → IsSameReplay old new → IsSameReplay start new
+same_on start old new one two = record { settings = two.settings ∙ one.settings; cone = two.cone ∙ one.cone; made = two.made ∙ one.made; last = two.last ∙ one.last }
 
+module _ {B : Type 0} (files : B → Option Files) (start old new : Replaying B) where
   module _ (seen : Files) (told : files start.bay ≡ Some seen) (same : IsSameReplay start old) (journal : IsJournalSame (files start.bay) (files old.bay)) (first gate : ℕ) where
     abbrev Read : ℕ → List ℕ → Type 0
     Read end events = HasReplayed start.listing.settings start.listing.cone start.last.n0 start.last.closed (seen JOURNAL) start.listing.events first end events
@@ -158,9 +153,9 @@ sound_on start old told h same sound seen is =
     (subst (λ (cone : ℕ). IsSound old.listing.settings cone h seen) same.cone (sound seen is))
 
 -- calls that leave the files as they were
-pub quiet_of : {B : Type 0} (bays : Bays B) (before after : B) (Failed : Type 0) → CallsBay bays before after Failed → IsUnwritten bays before after →
+pub quiet_of : {B : Type 0} {bays : Bays B} {before after : B} {Failed : Type 0} → CallsBay bays before after Failed → IsUnwritten bays before after →
     WritesNothing bays before after Failed
-quiet_of bays before after Failed kept unwritten = record {
+quiet_of kept unwritten = record {
   kept = kept;
   seen = unwritten.seen;
   images = λ seen told image may. (unwritten.images image).0 may;

@@ -27,7 +27,7 @@ module _ {B : Type 0} (bays : Bays B) (s : Numbers) (cone : ℕ) (before : B) wh
 
   -- no call
   pub unharmed_none : IsLawful bays → IsUnharmed bays s cone before before
-  unharmed_none lawful = unharmed_quiet before (quiet_reading bays lawful before before ⊥ (reading_none bays lawful before ⊥ (λ never. never)))
+  unharmed_none lawful = unharmed_quiet before (quiet_reading lawful (reading_none bays lawful before ⊥ (λ never. never)))
 
   -- over files that are in their format before the records of the journal
   module _ (valid : IsValid s) (below : cone < 2 ^ 32)

@@ -39,7 +39,7 @@ returns-in_err-sync_files g c =
       stand = λ seen told. tt;
       durable = λ seen told. tt;
       same = (refl, refl);
-      quiet = quiet_as (bays g) (lawful g) c.args.bay.now c.sync_files.new.bay _ _ (λ is. refl) synced.quiet;
+      quiet = quiet_as (lawful g) (λ is. refl) synced.quiet;
       handed = omega (arith, ap (λ (out : ℕ → ℕ). out JOURNAL) synced.handed);
     })
 
@@ -58,8 +58,7 @@ returns-in_err-read_journal_header g c =
       stand = λ seen told. tt;
       durable = λ seen told. tt;
       same = (refl, refl);
-      quiet = quiet_on (bays g) (lawful g) c.args.bay.now c.sync_files.new.bay c.read_journal_header.new.bay _ _ synced.quiet
-          (quiet_reading (bays g) (lawful g) c.sync_files.new.bay c.read_journal_header.new.bay _
+      quiet = quiet_on (lawful g) synced.quiet (quiet_reading (lawful g)
           (reading_as (bays g) (lawful g) c.sync_files.new.bay c.read_journal_header.new.bay _ _ (λ is. same_fault _ _ is) header.only_reads));
       handed = omega (arith, ap (λ (out : ℕ → ℕ). out JOURNAL) synced.handed, header.handed.at_most);
     })
@@ -83,10 +82,7 @@ returns-in_err-end g c =
       stand = λ seen told. tt;
       durable = λ seen told. tt;
       same = (refl, log.same);
-      quiet = quiet_on (bays g) (lawful g) c.args.bay.now c.read_journal_header.new.bay c.read_whole_log.new.bay _ _
-          (quiet_on (bays g) (lawful g) c.args.bay.now c.sync_files.new.bay c.read_journal_header.new.bay _ _ synced.quiet
-          (quiet_reading (bays g) (lawful g) c.sync_files.new.bay c.read_journal_header.new.bay _ header.only_reads))
-          (quiet_reads (bays g) (lawful g) c.read_journal_header.new.bay c.read_whole_log.new.bay _
+      quiet = quiet_on (lawful g) (quiet_on (lawful g) synced.quiet (quiet_reading (lawful g) header.only_reads)) (quiet_reads (lawful g)
           (reads_as (bays g) (lawful g) c.read_journal_header.new.bay c.read_whole_log.new.bay _ _ (λ is. same_fault _ _ is) log.only_reads));
       handed = omega (arith, ap (λ (out : ℕ → ℕ). out JOURNAL) synced.handed, header.handed.at_most, log.only_reads.kept.journal);
     })
@@ -117,12 +113,8 @@ returns-in_err-check g c =
       stand = λ seen told. tt;
       durable = λ seen told. tt;
       same = (ap (λ (disk : OnDisk). disk.settings) check.same ∙ restored.settings, log.same);
-      quiet = quiet_on (bays g) (lawful g) c.args.bay.now c.read_whole_log.new.bay c.check.new.bay _ _
-          (quiet_on (bays g) (lawful g) c.args.bay.now c.read_journal_header.new.bay c.read_whole_log.new.bay _ _
-          (quiet_on (bays g) (lawful g) c.args.bay.now c.sync_files.new.bay c.read_journal_header.new.bay _ _ synced.quiet
-          (quiet_reading (bays g) (lawful g) c.sync_files.new.bay c.read_journal_header.new.bay _ header.only_reads))
-          (quiet_reads (bays g) (lawful g) c.read_journal_header.new.bay c.read_whole_log.new.bay _ log.only_reads))
-          (quiet_reads (bays g) (lawful g) c.read_whole_log.new.bay c.check.new.bay _
+      quiet = quiet_on (lawful g) (quiet_on (lawful g) (quiet_on (lawful g) synced.quiet (quiet_reading (lawful g) header.only_reads)) (quiet_reads (lawful g) log.only_reads))
+          (quiet_reads (lawful g)
           (reads_as (bays g) (lawful g) c.read_whole_log.new.bay c.check.new.bay _ _ (λ is. ap Err (check_failed _ (sym p.2 ∙ err_is _ _ is))) check.only_reads));
       handed = omega (arith, ap (λ (out : ℕ → ℕ). out JOURNAL) synced.handed, header.handed.at_most, log.only_reads.kept.journal, check.only_reads.kept.journal);
     })
@@ -160,12 +152,7 @@ returns g c =
       durable = λ seen told image may.
           c.in_ok-sync_files.ensures.durable seen told image ((header.only_reads.images image).0 ((log.only_reads.images image).0 ((check.only_reads.images image).0 may)));
       same = (ap (λ (disk : OnDisk). disk.settings) check.same ∙ restored.settings, log.same);
-      quiet = quiet_on (bays g) (lawful g) c.args.bay.now c.read_whole_log.new.bay c.check.new.bay _ _
-          (quiet_on (bays g) (lawful g) c.args.bay.now c.read_journal_header.new.bay c.read_whole_log.new.bay _ _
-          (quiet_on (bays g) (lawful g) c.args.bay.now c.sync_files.new.bay c.read_journal_header.new.bay _ _ synced.quiet
-          (quiet_reading (bays g) (lawful g) c.sync_files.new.bay c.read_journal_header.new.bay _ header.only_reads))
-          (quiet_reads (bays g) (lawful g) c.read_journal_header.new.bay c.read_whole_log.new.bay _ log.only_reads))
-          (quiet_reads (bays g) (lawful g) c.read_whole_log.new.bay c.check.new.bay _
-          (reads_as (bays g) (lawful g) c.read_whole_log.new.bay c.check.new.bay _ _ (λ is. absurd (not_err _ _ is)) check.only_reads));
+      quiet = quiet_on (lawful g) (quiet_on (lawful g) (quiet_on (lawful g) synced.quiet (quiet_reading (lawful g) header.only_reads)) (quiet_reads (lawful g) log.only_reads))
+          (quiet_reads (lawful g) (reads_as (bays g) (lawful g) c.read_whole_log.new.bay c.check.new.bay _ _ (λ is. absurd (not_err _ _ is)) check.only_reads));
       handed = omega (arith, ap (λ (out : ℕ → ℕ). out JOURNAL) synced.handed, header.handed.at_most, log.only_reads.kept.journal, check.only_reads.kept.journal);
     }

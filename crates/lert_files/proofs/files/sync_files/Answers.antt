@@ -18,29 +18,23 @@ returns-clause-durable g c seen told =
     (c.in_ok-sync.ensures.durable seen told) (c.in_ok-sync-2.ensures.durable seen then) (c.sync-3.ensures.durable seen (c.sync-2.ensures.seen ∙ then))
 
 pub returns-in_err-sync-clause-quiet : goal.returns-in_err-sync-clause-quiet
-returns-in_err-sync-clause-quiet g c = quiet_sync (bays g) (lawful g) c.sync.result JOURNAL c.args.bay.now c.sync.new.self _ c.sync.ensures.seen c.sync.ensures.durable
+returns-in_err-sync-clause-quiet g c = quiet_sync (lawful g) c.sync.result JOURNAL _ c.sync.ensures.seen c.sync.ensures.durable
     c.sync.ensures.failed c.sync.ensures.time c.sync.ensures.cause.never_falls
     (λ is. c.in_err-sync.ensures.cause.failed refl) c.sync.ensures.mark
 
 pub returns-in_err-sync-2-clause-quiet : goal.returns-in_err-sync-2-clause-quiet
-returns-in_err-sync-2-clause-quiet g c = quiet_on (bays g) (lawful g) c.args.bay.now c.sync.new.self c.sync-2.new.self ⊥ _
-    (quiet_sync (bays g) (lawful g) c.sync.result JOURNAL c.args.bay.now c.sync.new.self ⊥ c.sync.ensures.seen c.sync.ensures.durable c.sync.ensures.failed c.sync.ensures.time
-    c.sync.ensures.cause.never_falls
-    (λ is. absurd is) c.sync.ensures.mark)
-    (quiet_sync (bays g) (lawful g) c.sync-2.result LOG c.sync.new.self c.sync-2.new.self _ c.sync-2.ensures.seen c.sync-2.ensures.durable c.sync-2.ensures.failed
+returns-in_err-sync-2-clause-quiet g c = quiet_on (lawful g)
+    (quiet_sync (lawful g) c.sync.result JOURNAL ⊥ c.sync.ensures.seen c.sync.ensures.durable c.sync.ensures.failed c.sync.ensures.time c.sync.ensures.cause.never_falls
+    (λ is. absurd is) c.sync.ensures.mark) (quiet_sync (lawful g) c.sync-2.result LOG _ c.sync-2.ensures.seen c.sync-2.ensures.durable c.sync-2.ensures.failed
     c.sync-2.ensures.time c.sync-2.ensures.cause.never_falls
     (λ is. c.in_err-sync-2.ensures.cause.failed refl) c.sync-2.ensures.mark)
 
 pub returns-clause-quiet : goal.returns-clause-quiet
-returns-clause-quiet g c = quiet_on (bays g) (lawful g) c.args.bay.now c.sync-2.new.self c.sync-3.new.self ⊥ _
-    (quiet_on (bays g) (lawful g) c.args.bay.now c.sync.new.self c.sync-2.new.self ⊥ ⊥
-    (quiet_sync (bays g) (lawful g) c.sync.result JOURNAL c.args.bay.now c.sync.new.self ⊥ c.sync.ensures.seen c.sync.ensures.durable c.sync.ensures.failed c.sync.ensures.time
-    c.sync.ensures.cause.never_falls
-    (λ is. absurd is) c.sync.ensures.mark)
-    (quiet_sync (bays g) (lawful g) c.sync-2.result LOG c.sync.new.self c.sync-2.new.self ⊥ c.sync-2.ensures.seen c.sync-2.ensures.durable c.sync-2.ensures.failed
+returns-clause-quiet g c = quiet_on (lawful g) (quiet_on (lawful g)
+    (quiet_sync (lawful g) c.sync.result JOURNAL ⊥ c.sync.ensures.seen c.sync.ensures.durable c.sync.ensures.failed c.sync.ensures.time c.sync.ensures.cause.never_falls
+    (λ is. absurd is) c.sync.ensures.mark) (quiet_sync (lawful g) c.sync-2.result LOG ⊥ c.sync-2.ensures.seen c.sync-2.ensures.durable c.sync-2.ensures.failed
     c.sync-2.ensures.time c.sync-2.ensures.cause.never_falls
-    (λ is. absurd is) c.sync-2.ensures.mark))
-    (quiet_sync (bays g) (lawful g) c.sync-3.result FRAMES c.sync-2.new.self c.sync-3.new.self _ c.sync-3.ensures.seen c.sync-3.ensures.durable c.sync-3.ensures.failed
+    (λ is. absurd is) c.sync-2.ensures.mark)) (quiet_sync (lawful g) c.sync-3.result FRAMES _ c.sync-3.ensures.seen c.sync-3.ensures.durable c.sync-3.ensures.failed
     c.sync-3.ensures.time c.sync-3.ensures.cause.never_falls
     (λ is. c.sync-3.ensures.cause.failed is) c.sync-3.ensures.mark)
 

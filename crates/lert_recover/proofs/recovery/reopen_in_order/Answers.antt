@@ -127,8 +127,7 @@ returns-in-Err g c =
       kept = calls_as (bays g) (lawful g) c.args.bay c.read_files.new.bay _ _ (λ is. ap Err is) read.quiet.kept;
       stays_sound = λ seen told h sound now is. subst (IsSound c.args.room.settings c.args.cone h) (same_Some seen now (sym (read.quiet.seen ∙ told) ∙ is)) sound;
       each_moment = λ seen told h each. stays_quiet (bays g) (lawful g) h c.args.room.settings c.args.cone c.args.bay c.read_files.new.bay _ read.quiet seen told each;
-      unharmed = unharmed_quiet (bays g) c.args.room.settings c.args.cone c.args.bay c.read_files.new.bay
-          (quiet_as (bays g) (lawful g) c.args.bay c.read_files.new.bay _ ⊥ (λ never. absurd never) read.quiet);
+      unharmed = unharmed_quiet (bays g) c.args.room.settings c.args.cone c.args.bay c.read_files.new.bay (quiet_as (lawful g) (λ never. absurd never) read.quiet);
       bounded = λ seen told h sound. omega (arith, c.read_files.ensures.handed);
     }
 
@@ -151,7 +150,7 @@ returns-in-Ok g c =
     let result = c.replay_journal.result in
     let replayed = c.replay_journal.ensures in
     let quiet : WritesNothing (bays g) c.args.bay c.read_files.new.bay ⊥ =
-    quiet_as (bays g) (lawful g) c.args.bay c.read_files.new.bay _ ⊥ (λ never. absurd never) read.quiet in
+    quiet_as (lawful g) (λ never. absurd never) read.quiet in
     let before : WritesNothing (bays g) c.args.bay start.bay ⊥ = subst (λ (bay : g.row.B.Denot). WritesNothing (bays g) c.args.bay bay ⊥) (sym bay_is) quiet in
     let bay_in = λ (refused : ReopenRefused g.row.B.Denot). refused.bay in
     let says = bay_before (bays g) (lawful g) bay_in c.args.bay start.bay ⊥ (λ (refused : ReopenRefused g.row.B.Denot). refused.fault) before result

@@ -1,4 +1,4 @@
-use Rattle.std.proofs.Common.{◌≡◌, ◌≤◌, ℕ, List, length, ap, sym, ◌∙◌, subst, arith, inl, inr}
+use Rattle.std.proofs.Common.{◌≤◌, ℕ, List, length, ap, sym, ◌∙◌, subst, arith, inl, inr}
 use Rattle.std.specs.Prelude.{if◌then◌else◌}
 use Rattle.lert_bay.specs.{declared.bay.TheConstants.JOURNAL, Kept.{CallsBay, ReadsBay}}
 use Rattle.lert_cone.proofs.{Bays.{Bays, bays_of}, SoundLaws.turns_back}
@@ -148,7 +148,7 @@ returns-in-Err g c =
       counted = tt;
       state = tt;
       same_cone = tt;
-      reads = journal_on (files start.bay) (files end.bay) (files last) all.journal (journal_same (files end.bay) (files last) behind.seen);
+      reads = journal_on all.journal (journal_same (files end.bay) (files last) behind.seen);
       kept = record {
         time = both.time;
         never_falls = both.never_falls;
@@ -162,8 +162,7 @@ returns-in-Err g c =
       stays_sound = λ seen told h begun now is. all.stays_sound seen told h begun now (sym behind.seen ∙ is);
       each_moment = λ seen told h begun each. stays_read (bays g) (lawful g) h start.listing.settings start.listing.cone start.bay end.bay last _ ⊥ all.kept
           (all.each_moment seen told h begun each) behind;
-      unflushed = λ seen told nothing. quiet_on (bays g) (lawful g) start.bay end.bay last ⊥ ⊥ (all.unflushed seen told nothing)
-          (quiet_reading (bays g) (lawful g) end.bay last ⊥ behind);
+      unflushed = λ seen told nothing. quiet_on (lawful g) (all.unflushed seen told nothing) (quiet_reading (lawful g) behind);
       log = logged_from (bays g) (lawful g) start end last _ all.log behind.seen;
       rest = λ seen told h begun.
           let handed = g.B.Bay.handed_out in

@@ -36,7 +36,7 @@ packets-init g c =
           (omega (arith, begun.1, few.0)) seen there told told_there some;
       journal = journal_none (g.B.Bay.files start.bay);
       kept = calls_none (bays g) (lawful g) start.bay ⊥ (λ never. never);
-      unwritten = λ seen told nothing. quiet_reading (bays g) (lawful g) start.bay start.bay ⊥ (reading_none (bays g) (lawful g) start.bay ⊥ (λ never. never));
+      unwritten = λ seen told nothing. quiet_reading (lawful g) (reading_none (bays g) (lawful g) start.bay ⊥ (λ never. never));
       logged = log_none (bays g) (lawful g) start.listing.settings (head_of start) start.bay c.requires.log_shut;
       handed = omega arith;
     }
@@ -67,7 +67,7 @@ packets-preserved g c =
     let grown = has_grown files start old new c.packets.gate c.in-Ok-Some.next now.same now.counted now.near took next.1 in
     record {
       taking = grown.taking ∙ now.taking;
-      same = same_on files start old new now.same c.replay.ensures.same_cone;
+      same = same_on start old new now.same c.replay.ensures.same_cone;
       closed = grown.closed ∙ now.closed;
       gate_is = grown.gate_is;
       counted = grown.counted;
@@ -88,12 +88,11 @@ packets-preserved g c =
       framed = λ seen told some.
           let there = now.journal.told seen told in
           c.in-Ok-Some.ensures.framed there.0 there.1 (now.framed seen told some there.0 there.1);
-      journal = journal_on (files start.bay) (files old.bay) (files new.bay) now.journal c.replay.ensures.journal.seen;
+      journal = journal_on now.journal c.replay.ensures.journal.seen;
       kept = calls_on (bays g) (lawful g) start.bay old.bay new.bay ⊥ ⊥ now.kept step;
       unwritten = λ seen told nothing.
           let there = now.journal.told seen told in
-          quiet_on (bays g) (lawful g) start.bay old.bay new.bay ⊥ ⊥ (now.unwritten seen told nothing)
-          (quiet_of (bays g) old.bay new.bay ⊥ step
+          quiet_on (lawful g) (now.unwritten seen told nothing) (quiet_of step
           (c.replay.ensures.unflushed there.0 there.1 (still_on files start old new seen told now.same now.journal c.args.first c.packets.gate (now.read seen told) nothing)));
       logged = logged_on (bays g) (lawful g) start old new _ (Ok tt) ⊥ ⊥ now.same now.journal now.kept step (λ P holds. holds) now.logged c.in-Ok-Some.ensures.log;
       handed = omega (arith, now.handed, cost, next.0);
@@ -134,9 +133,9 @@ returns-in-Ok-None g c =
       shut = ended.shut;
       counted = ap (λ (k : Replaying g.row.B.Denot). k.events) ended.is ∙ (now.counted ∙ sym (ap (length {A = ℕ}) events_are));
       closed = ap (λ (k : Replaying g.row.B.Denot). k.listing.closed) ended.is ∙ now.closed;
-      same_cone = same_on files start old new now.same c.replay.ensures.same_cone;
+      same_cone = same_on start old new now.same c.replay.ensures.same_cone;
       near = tt;
-      journal = journal_on (files start.bay) (files old.bay) (files new.bay) now.journal c.replay.ensures.journal.seen;
+      journal = journal_on now.journal c.replay.ensures.journal.seen;
       stays_sound = λ seen told h begun.
           let done = now.sound seen told h begun in
           let there = now.journal.told seen told in
@@ -148,8 +147,7 @@ returns-in-Ok-None g c =
           (c.replay.ensures.stays_sound there.0 there.1 h done.0 done.1 (sym now.gate_is));
       unflushed = λ seen told nothing.
           let there = now.journal.told seen told in
-          quiet_on (bays g) (lawful g) start.bay old.bay new.bay ⊥ ⊥ (now.unwritten seen told nothing)
-          (quiet_of (bays g) old.bay new.bay ⊥ step
+          quiet_on (lawful g) (now.unwritten seen told nothing) (quiet_of step
           (c.replay.ensures.unflushed there.0 there.1 (still_on files start old new seen told now.same now.journal c.args.first c.packets.gate (now.read seen told) nothing)));
       log = logged_on (bays g) (lawful g) start old new _ (Ok c.packets.gate) ⊥ ⊥ now.same now.journal now.kept step (λ P holds. holds) now.logged c.in-Ok-None.ensures.log;
       kept = calls_on (bays g) (lawful g) start.bay old.bay new.bay ⊥ ⊥ now.kept step;
@@ -192,9 +190,9 @@ returns-in-Err g c =
       shut = tt;
       counted = tt;
       closed = tt;
-      same_cone = same_on files start old new now.same c.replay.ensures.same_cone;
+      same_cone = same_on start old new now.same c.replay.ensures.same_cone;
       near = (omega (arith, now.near, count), omega (arith, now.within, count));
-      journal = journal_on (files start.bay) (files old.bay) (files new.bay) now.journal c.replay.ensures.journal.seen;
+      journal = journal_on now.journal c.replay.ensures.journal.seen;
       stays_sound = λ seen told h begun.
           let done = now.sound seen told h begun in
           let there = now.journal.told seen told in
@@ -206,8 +204,7 @@ returns-in-Err g c =
           (c.replay.ensures.stays_sound there.0 there.1 h done.0 done.1 (sym now.gate_is));
       unflushed = λ seen told nothing.
           let there = now.journal.told seen told in
-          quiet_on (bays g) (lawful g) start.bay old.bay new.bay ⊥ ⊥ (now.unwritten seen told nothing)
-          (quiet_of (bays g) old.bay new.bay ⊥ step
+          quiet_on (lawful g) (now.unwritten seen told nothing) (quiet_of step
           (c.replay.ensures.unflushed there.0 there.1 (still_on files start old new seen told now.same now.journal c.args.first c.packets.gate (now.read seen told) nothing)));
       log = logged_on (bays g) (lawful g) start old new _ (Err _) ⊥ ⊥ now.same now.journal now.kept step (λ P holds. tt) now.logged c.in-Err.ensures.log;
       kept = calls_on (bays g) (lawful g) start.bay old.bay new.bay ⊥ _ now.kept

@@ -50,8 +50,7 @@ take_packet-requires g c =
 pub invariant_of-self : goal.invariant_of-self
 invariant_of-self g c =
     let len_is : c.self.inside.buffer.len ≡ length c.self.inside.buffer.items = omega (arith, c.self.inside.buffer.ok) in
-    broken_cone g.B.Bay.files g.B.Bay.leaves g.B.Faulty.faults g.B.Faulty.mark _ _ c.self.inside.tally c.take_packet.new.tally c.self.inside.journal c.take_packet.new.journal _ _ _ _
-    (ap is_broken c.broken_by-self-inside.ensures ∙ is_broken_by c.in-Err.fault)
+    broken_cone (ap is_broken c.broken_by-self-inside.ensures ∙ is_broken_by c.in-Err.fault)
     (ap (λ (l : Listing). l.settings) c.take_packet.ensures.listing) refl refl c.take_packet.ensures.file c.take_packet.ensures.most
     (sym (length_refill c.self.inside.buffer.len c.self.inside.buffer.items c.take_packet.new.buffer len_is) ∙ len_is) refl c.take_packet.ensures.kept.never_falls
     c.take_packet.ensures.seen c.take_packet.ensures.kept.mark

@@ -73,8 +73,7 @@ returns-in_err-test_state g c =
 pub invariant_of-self : goal.invariant_of-self
 invariant_of-self g c =
     let len_is : c.self.inside.buffer.len ≡ length c.self.inside.buffer.items = omega (arith, c.self.inside.buffer.ok) in
-    broken_cone g.B.Bay.files g.B.Bay.leaves g.B.Faulty.faults g.B.Faulty.mark _ _ c.self.inside.tally c.finish.new.tally c.self.inside.journal c.self.inside.journal _ _ _ _
-    (ap is_broken c.broken_by-self-inside.ensures ∙ is_broken_by c.in-Err.fault) (ap (λ (l : Listing). l.settings) c.finish.ensures.listing) refl refl refl refl
+    broken_cone (ap is_broken c.broken_by-self-inside.ensures ∙ is_broken_by c.in-Err.fault) (ap (λ (l : Listing). l.settings) c.finish.ensures.listing) refl refl refl refl
     (sym (length_refill c.self.inside.buffer.len c.self.inside.buffer.items c.finish.new.buffer len_is) ∙ len_is) refl c.finish.ensures.keeps.kept.never_falls
     (any_turn c.finish.ensures.keeps.journal.seen) c.finish.ensures.keeps.kept.mark
     (λ same. risen_since (g.B.Faulty.faults c.self.inside.made.value) (g.B.Faulty.faults c.self.inside.bay) (g.B.Faulty.faults c.finish.new.bay) c.self.invariant.never_falls
@@ -91,13 +90,12 @@ returns-in-Err g c =
       reports = tt;
       finished = tt;
       in_time = tt;
-      stays = λ h stands.
-          stands_broken g.B.Bay.files g.B.Bay.leaves g.B.Faulty.faults _ _ h (record {
-            settings = ap (λ (l : Listing). l.settings) c.finish.ensures.listing;
-            cone = ap (λ (l : Listing). l.cone) c.finish.ensures.listing;
-            made = refl;
-            last = refl;
-          }) (ap is_broken c.broken_by-self-inside.ensures ∙ is_broken_by c.in-Err.fault) refl
+      stays = λ h stands. stands_broken (record {
+        settings = ap (λ (l : Listing). l.settings) c.finish.ensures.listing;
+        cone = ap (λ (l : Listing). l.cone) c.finish.ensures.listing;
+        made = refl;
+        last = refl;
+      }) (ap is_broken c.broken_by-self-inside.ensures ∙ is_broken_by c.in-Err.fault) refl
           (λ same. risen_since (g.B.Faulty.faults c.self.inside.made.value) (g.B.Faulty.faults c.self.inside.bay) (g.B.Faulty.faults c.finish.new.bay) c.self.invariant.never_falls
           c.finish.ensures.keeps.kept.never_falls
           (c.finish.ensures.keeps.kept.failed (c.in-Err.is ∙ ap Err (by_bay_of c.in-Err.fault (sym c.broken_by-self-inside.ensures ∙ same)))))
@@ -148,9 +146,7 @@ pub invariant_of-self-2 : goal.invariant_of-self-2
 invariant_of-self-2 g c =
     let len_is : c.self.inside.buffer.len ≡ length c.self.inside.buffer.items = omega (arith, c.self.inside.buffer.ok) in
     let running : c.self.inside.state ≡ Running = subst (λ (v : Standing g.row.B.Denot). v.state ≡ Running) (sym c.self.view_is) c.in_ok-test_state.ensures.ok in
-    ended_cone g.B.Bay.files g.B.Bay.leaves g.B.Faulty.faults g.B.Faulty.mark c.self.inside.bay c.self.inside.made.value c.finish.new.bay c.self.inside.tally c.finish.new.tally
-    c.self.inside.events _ _ _
-    c.self.inside.state Finished (over_of c.self.inside.over) c.self.inside.journal c.self.inside.log c.finish.new.log c.self.inside.last
+    ended_cone
     running refl (c.finish.ensures.listing ∙ ap (λ closed. record c.self.inside.tally.listing { closed = closed }) c.in_default.ensures.closed) c.in_default.ensures.counted (sym
     (length_refill c.self.inside.buffer.len c.self.inside.buffer.items c.finish.new.buffer len_is) ∙ len_is) c.finish.ensures.keeps.kept.never_falls
     (any_turn c.finish.ensures.keeps.journal.seen) c.finish.ensures.keeps.kept.mark c.self.invariant
@@ -169,7 +165,7 @@ stands_then : (g : given.Over) (c : After-len g) (h : List Packet) → StandsFor
 stands_then g c h stands =
     let running = was_running g c in
     let is = ended g c in
-    stands_whole g.B.Bay.files g.B.Bay.leaves g.B.Faulty.faults _ _ h h (record {
+    stands_whole (record {
       settings = ap (λ (l : Listing). l.settings) is;
       cone = ap (λ (l : Listing). l.cone) is;
       made = refl;
@@ -204,7 +200,7 @@ returns g c =
       in_time = λ h stands sound seen told.
           let after = turned.told seen told in
           subst (λ (settings : Numbers). IsTimely settings.threshold settings.bins (events_of h) c.finish.new.tally.due.reports) (ap (λ (l : Listing). l.settings) is)
-          (timely g.B.Bay.files g.B.Bay.leaves g.B.Faulty.faults _ h refl (ap (λ (l : Listing). l.closed) is) (stands_then g c h stands)
+          (timely refl (ap (λ (l : Listing). l.closed) is) (stands_then g c h stands)
           (subst (λ (l : Listing). IfTold (g.B.Bay.files c.self.inside.made.value) (λ first. (history : List Packet) × IsSound l.settings l.cone history first)) (sym is) sound)
           after.0 after.1);
       stays = tt;

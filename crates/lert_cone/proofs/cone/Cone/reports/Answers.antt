@@ -19,11 +19,10 @@ returns-clause-finished g c = rw (← c.self.view_is) (λ finished h stands soun
 pub returns-clause-in_time : goal.returns-clause-in_time
 returns-clause-in_time g c = rw (← c.self.view_is) (λ finished h stands sound seen told.
     subst (λ (reports : List Report). IsTimely c.self.inside.tally.listing.settings.threshold c.self.inside.tally.listing.settings.bins (events_of h) reports) (sym (ap (λ
-    (v : Stored). v.reports) c.store.ensures))
-    (timely g.B.Bay.files g.B.Bay.leaves g.B.Faulty.faults _ h (ap is_broken finished) (c.self.invariant.closed (ap is_broken finished) ∙ ap is_finished finished) stands sound seen told))
+    (v : Stored). v.reports) c.store.ensures)) (timely (ap is_broken finished) (c.self.invariant.closed (ap is_broken finished) ∙ ap is_finished finished) stands sound seen told))
 
 pub returns-clause-in_time_so_far : goal.returns-clause-in_time_so_far
 returns-clause-in_time_so_far g c = rw (← c.self.view_is) (λ running h stands sound seen told.
     subst (λ (reports : List Report). IsTimelySoFar c.self.inside.tally.listing.settings.threshold c.self.inside.tally.listing.settings.bins (events_of h) reports) (sym (ap (λ
     (v : Stored). v.reports) c.store.ensures))
-    (timely_so_far g.B.Bay.files g.B.Bay.leaves g.B.Faulty.faults _ h (ap is_broken running) (c.self.invariant.closed (ap is_broken running) ∙ ap is_finished running) stands sound seen told))
+    (timely_so_far (ap is_broken running) (c.self.invariant.closed (ap is_broken running) ∙ ap is_finished running) stands sound seen told))

@@ -12,8 +12,7 @@ invariant_of-result g c =
     (sym c.self.view_is) c.requires.passed in
     let gate_is : c.self.inside.journal.gate ≡ c.args.end = subst (λ (v : Replaying g.row.B.Denot). v.gate ≡ c.args.end) (sym c.self.view_is) c.requires.gate in
     let shut = subst (λ (v : Replaying g.row.B.Denot). IsShutIfTold (g.B.Bay.files v.bay) (g.B.Bay.leaves v.bay) 0 c.args.end) (sym c.self.view_is) c.requires.shut in
-    ready_cone g.B.Bay.files g.B.Bay.leaves g.B.Faulty.faults g.B.Faulty.mark cone c.self.inside.tally c.self.inside.journal c.at_gate.result _ _ c.args.end c.state_behind-state.result
-    none c.state_behind-state.ensures passed gate_is
+    ready_cone none c.state_behind-state.ensures passed gate_is
     (c.at_gate.ensures ∙ ap (λ most. record { file = 0; gate = c.args.end; most = most }) (c.greatest_payload-most.ensures.value
     ∙ ap most_payload c.settings.ensures)) shut refl c.self.invariant
 
@@ -24,7 +23,7 @@ returns-clause-stands_for g c = rw (← c.self.view_is) (λ history some counted
     (sym c.self.view_is) c.requires.passed in
     let gate_is : c.self.inside.journal.gate ≡ c.args.end = subst (λ (v : Replaying g.row.B.Denot). v.gate ≡ c.args.end) (sym c.self.view_is) c.requires.gate in
     let was = c.self.invariant.taking none in
-    ready_stands g.B.Bay.files g.B.Bay.leaves g.B.Faulty.faults g.B.Faulty.mark c.self.inside.bay c.self.inside.made.value c.self.inside.tally c.self.inside.events c.self.inside.journal.gate
+    ready_stands c.self.inside.bay c.self.inside.made.value c.self.inside.tally c.self.inside.events c.self.inside.journal.gate
     c.at_gate.result.gate c.self.inside.log c.self.inside.last c.self.inside.stopped c.state_behind-state.result history
     c.state_behind-state.ensures (ap (λ (j : Log). j.gate) c.at_gate.ensures ∙ sym gate_is) was.recounted passed c.self.invariant.valid c.self.invariant.within
     some counted (g.met.B.Bay.as_read c.self.inside.bay) replays)

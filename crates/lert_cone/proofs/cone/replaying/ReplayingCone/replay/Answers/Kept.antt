@@ -2,7 +2,7 @@
 use Rattle.std.proofs.Common.{◌≡◌, ◌∙◌, ◌*◌, ◌++◌, length, take, drop, None, refl, sym, ap, subst, arith}
 use Rattle.lert_base.specs.Entries.{packet_of}
 use Rattle.lert_cone.proofs.{Bays.{Bays, bays_of}, ReplayCalls.{length_more, lent_again, listing_more, moved_on, refilled, refilled_twice}}
-use Rattle.lert_cone.proofs.{ReplayStands.{near_then, read_settled, read_shut, seen_as, settled_then, stopped_cone}, FaultLaws.{turns_as, turns_on}}
+use Rattle.lert_cone.proofs.{ReplayStands.{near_then, read_settled, read_shut, settled_then, stopped_cone}, FaultLaws.{turns_as, turns_on}}
 use Rattle.lert_bay.proofs.KeptLaws.{IsLawful}
 use Rattle.lert_gatelog.specs.Gated.{Log}
 use Rattle.lert_journal.specs.Payload.{payload_of}
@@ -20,10 +20,7 @@ lawful g = record { as_read = g.met.B.Bay.as_read; since_now = g.met.B.Bay.since
 pub broken_keys_kept : goal.invariant_of-self
 broken_keys_kept g c =
     let len_is : c.self.inside.buffer.len ≡ length c.self.inside.buffer.items = omega (arith, c.self.inside.buffer.ok) in
-    stopped_cone g.B.Bay.files g.B.Bay.leaves g.B.Faulty.faults g.B.Faulty.mark (seen_as c.self.inside.bay c.self.inside.made.value c.self.inside.tally c.self.inside.events
-    c.self.inside.stopped c.self.inside.journal.gate c.self.inside.log c.self.inside.last) _ c.self.inside.tally c.replay_keys.new.tally c.self.inside.journal c.read_packet.new.journal _ _ _ _
-    c.from-fault.result refl
-    (ap (λ (l : Listing). l.settings) c.replay_keys.ensures.listing) refl refl
+    stopped_cone refl (ap (λ (l : Listing). l.settings) c.replay_keys.ensures.listing) refl refl
     ((c.read_packet.ensures.keeps.file ∙ ap (λ (j : Log). j.file) c.at_gate-self-inside.ensures) ∙ sym c.self.invariant.file)
     ((c.read_packet.ensures.keeps.most ∙ ap (λ (j : Log). j.most) c.at_gate-self-inside.ensures ∙ c.greatest_payload-most.ensures.value ∙ ap most_payload c.settings.ensures)
     ∙ sym c.self.invariant.most) (refilled_twice c.self.inside.buffer.len c.self.inside.buffer.items c.read_packet.new.buffer c.replay_keys.new.buffer len_is) c.read_packet.ensures.keeps.roomy
@@ -103,10 +100,7 @@ pub broken_record_kept : goal.invariant_of-self-in-Err
 broken_record_kept g c =
     let len_is : c.self.inside.buffer.len ≡ length c.self.inside.buffer.items = omega (arith, c.self.inside.buffer.ok) in
     let keeps = c.read_packet.ensures.keeps in
-    stopped_cone g.B.Bay.files g.B.Bay.leaves g.B.Faulty.faults g.B.Faulty.mark (seen_as c.self.inside.bay c.self.inside.made.value c.self.inside.tally c.self.inside.events
-    c.self.inside.stopped c.self.inside.journal.gate c.self.inside.log c.self.inside.last) _ c.self.inside.tally c.self.inside.tally c.self.inside.journal c.read_packet.new.journal _ _ _ _
-    c.from-fault-in-Err.result refl
-    refl refl refl ((keeps.file ∙ ap (λ (j : Log). j.file) c.at_gate-self-inside.ensures) ∙ sym c.self.invariant.file)
+    stopped_cone refl refl refl refl ((keeps.file ∙ ap (λ (j : Log). j.file) c.at_gate-self-inside.ensures) ∙ sym c.self.invariant.file)
     ((keeps.most ∙ ap (λ (j : Log). j.most) c.at_gate-self-inside.ensures ∙ c.greatest_payload-most.ensures.value ∙ ap most_payload c.settings.ensures) ∙ sym c.self.invariant.most)
     (refilled c.self.inside.buffer.len c.self.inside.buffer.items c.read_packet.new.buffer len_is) keeps.roomy keeps.reads.kept.never_falls
     (turns_as keeps.reads.seen) keeps.reads.kept.mark c.self.invariant
