@@ -56,7 +56,7 @@ Admits bays packet old new result = record {
   kept : KeepsBay bays old.bay new.bay (IsErrOf result BayFailed);
 }
 
-module _ {B : Type 0} (bays : Bays B) (lawful : IsLawful bays) (packet : Packet) where
+module _ {B : Type 0} {bays : Bays B} (lawful : IsLawful bays) (packet : Packet) where
   refused_by : {T : Type 0} (old : Standing B) (fault : ConeFault) → is_refusal fault ≡ true →
       ((◌≡◌ {A = Result T ConeFault} (Err fault) (Err Closed)) ↔ (old.state ≡ Finished)) →
       ((◌≡◌ {A = Result T ConeFault} (Err fault) (Err Broken)) ↔ (is_broken old.state ≡ true)) →
@@ -90,11 +90,11 @@ module _ {B : Type 0} (bays : Bays B) (lawful : IsLawful bays) (packet : Packet)
   }
 
   -- before the first step
-  pub not_admitted : {T : Type 0} (old : Standing B) (len : ℕ) → len ≡ length packet.keys → (tested : Result T ConeFault) (fault : ConeFault) → tested ≡ Err fault →
-      ((tested ≡ Err Closed) ↔ (old.state ≡ Finished)) → ((tested ≡ Err Broken) ↔ (is_broken old.state ≡ true)) →
+  pub not_admitted : {T : Type 0} {len : ℕ} {tested : Result T ConeFault} {given : Result Acked ConeFault} {fault : ConeFault} (old : Standing B) → len ≡ length packet.keys →
+      tested ≡ Err fault → ((tested ≡ Err Closed) ↔ (old.state ≡ Finished)) → ((tested ≡ Err Broken) ↔ (is_broken old.state ≡ true)) →
       ((n more : ℕ) → (tested ≡ Err (CapacityFull n more)) ↔ ((old.state ≡ Running) × (n ≡ old.events) × (more ≡ len) × (capacity old.listing.settings < n + more))) →
-      IfErr tested (λ f. is_refusal f ≡ true) → (given : Result Acked ConeFault) → IsErrAnd given (λ g. g ≡ fault) → Admits bays packet old old given
-  not_admitted {T} old len len_is tested fault is closed broken full refusal given given_is =
+      IfErr tested (λ f. is_refusal f ≡ true) → IsErrAnd given (λ g. g ≡ fault) → Admits bays packet old old given
+  not_admitted {T = T} {len = len} {given = given} {fault = fault} old len_is is closed broken full refusal given_is =
       subst (λ (r : Result Acked ConeFault). Admits bays packet old old r) (handed_on given fault given_is)
       (refused_by {T = T} old fault (subst (λ (r : Result T ConeFault). IfErr r (λ f. is_refusal f ≡ true)) is refusal)
       (subst (λ (r : Result T ConeFault). (r ≡ Err Closed) ↔ (old.state ≡ Finished)) is closed)

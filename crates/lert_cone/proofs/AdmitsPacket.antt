@@ -7,23 +7,18 @@ use Rattle.lert_journal.specs.Payload.{payload_of}
 use Rattle.lert_spec.specs.{declared.numbers.Numbers.Numbers, Edges.capacity, Look.look, Timely.IsTimelySoFar}
 use Rattle.lert_reports.specs.declared.log_point.LogPoint.{LogPoint}
 use Rattle.lert_cone.specs.{declared.state.ConeState.ConeState, declared.state.ConeState.TheVariants.Running, InStep.IsLogging, Listing.Listing, Record.LogPlace, Sound.IsSound}
-use Rattle.lert_cone.specs.{Stands.{Standing, StandsFor, WasSound, IsCone, IsSameCone, is_broken, is_finished}, Takes.TakesPacket, Tally.Tallied}
+use Rattle.lert_cone.specs.{Stands.{Standing, StandsFor, WasSound, IsCone, IsSameCone, is_broken, is_finished}, Takes.{TakesPacket, work_at}, Tally.Tallied}
 use Rattle.lert_bay.proofs.KeptLaws.{IsLawful, keeps_as}
 use Rattle.lert_cone.proofs.{SoundLaws.{turns_back, counted_more, end_more}, AppendLaws.{whole_of, some_more, keys_more}, StandLaws.{more_cone, stands_whole, reports_running, cone_at}}
 use Rattle.lert_cone.proofs.{TimeLaws.timely_so_far, Admits.Admits}
 
-module _ {B : Type 0} (bays : Bays B) (lawful : IsLawful bays) (packet : Packet) where
-  module _ (bay made bay_after : B) (tally after : Tallied) (events room room_after : ℕ) (state : ConeState) (over : Option Packet) (journal journal_after : Log) (log log_after : LogPlace)
-      (last : LogPoint)
-      (running : state ≡ Running) (within : events + length packet.keys ≤ capacity tally.listing.settings) where
+module _ {B : Type 0} {bays : Bays B} (lawful : IsLawful bays) (packet : Packet) where
+  module _ {bay bay_after : B} {tally after : Tallied} {room room_after : ℕ} {state : ConeState} {journal journal_after : Log} {log log_after : LogPlace} (made : B) (events : ℕ)
+      (over : Option Packet) (last : LogPoint) (running : state ≡ Running) (within : events + length packet.keys ≤ capacity tally.listing.settings) where
     -- with all its keys
-    module _ (events_after reports : ℕ) (events_are : events_after ≡ events + length packet.keys) (some : 0 < length packet.keys) (still : tally.listing.closed ≡ false)
-        (reports_are : reports ≡ length after.due.reports) (did : TakesPacket bays packet (record { bay = bay; counts = tally; log = log; room = room }) (record {
-          bay = bay_after;
-          counts = after;
-          log = log_after;
-          room = room_after;
-        }) journal journal_after (Ok tt)) where
+    module _ {events_after reports : ℕ} (events_are : events_after ≡ events + length packet.keys) (some : 0 < length packet.keys) (still : tally.listing.closed ≡ false)
+        (reports_are : reports ≡ length after.due.reports) (did : TakesPacket bays packet (work_at bay tally log room)
+        (work_at bay_after after log_after room_after) journal journal_after (Ok tt)) where
       is : after.listing ≡ record tally.listing { events = tally.listing.events ++ packet.keys }
       is = did.listing ∙ ap (λ (keys : List ℕ). record tally.listing { events = keys }) did.taken
 
@@ -61,52 +56,50 @@ module _ {B : Type 0} (bays : Bays B) (lawful : IsLawful bays) (packet : Packet)
           subst (λ (settings : Numbers). IsTimelySoFar settings.threshold settings.bins (events_of (h ++ packet ∷ [])) after.due.reports) (ap (λ (l : Listing). l.settings) is)
           (timely_so_far (ap is_broken running) (ap (λ (l : Listing). l.closed) is ∙ still) (stands_then h stands) sound_then then.0 then.1)
 
-      pub admitted : Admits bays packet (cone_at bay made tally events state over journal.gate log last)
-          (cone_at bay_after made after events_after state over journal_after.gate log_after last) (Ok (record { from = events + 1; to = events_after; reports = reports }))
-      admitted = record {
-        stands_for = stands_then;
-        answers = λ h stands. record {
-          from_is = ap (λ n. n + 1) (sym stands.counted);
-          to_is = omega (arith, stands.counted, events_are);
-          reports_are = λ sound seen told.
-              let then = did.seen.told seen told in
-              let whole = stands.whole (ap is_broken running) sound seen told in
-              let up = did.in_step seen told h whole then.0 then.1 in
-              reports_are
-              ∙ ap length (up.reports_are ∙ reports_running after.listing (events_of (h ++ packet ∷ [])) (ap (λ (l : Listing). l.closed) is ∙ still) (ap (λ (l : Listing). l.events) is
-              ∙ keys_more h packet tally.listing.events whole.keys))
-              ∙ ap (λ (l : Listing). length (look l.settings (events_of (h ++ packet ∷ [])))) is;
-        };
-        acked = λ i. record { from = events + 1; to = events_are i; reports = reports_are i };
-        taken = new_is;
-        in_time_so_far = timely_then;
-        stays = tt;
-        unchanged = tt;
-        broke = tt;
-        same_cone = same;
-        closed = ((λ given. absurd (let never : ⊥ = cc in never)), (λ ended. absurd (false≢true (sym (ap is_finished running) ∙ ap is_finished ended))));
-        broken = ((λ given. absurd (let never : ⊥ = cc in never)), (λ broken. absurd (false≢true (sym (ap is_broken running) ∙ broken))));
-        full = λ n len. ((λ given. absurd (let never : ⊥ = cc in never)), (λ why. absurd (omega (arith, why.1, why.2, why.3, within))));
-        bay_failed = λ given. absurd (let never : ⊥ = cc in never);
-        unsound = λ file at given. absurd (let never : ⊥ = cc in never);
-        shows = λ file at given. absurd (let never : ⊥ = cc in never);
-        each_moment = λ unbroken sound seen told h stands image may. did.each_moment seen told h (stands.whole unbroken sound seen told) image may;
-        seen = did.seen;
-        kept = keeps_as bays lawful bay bay_after _ _ (λ given. absurd (let never : ⊥ = cc in never)) did.kept;
-      }
+      pub admitted : {seen : Standing B} → cone_at bay made tally events state over journal.gate log last ≡ seen →
+          Admits bays packet seen (cone_at bay_after made after events_after state over journal_after.gate log_after last)
+          (Ok (record { from = events + 1; to = events_after; reports = reports }))
+      admitted view_is = subst (λ (v : Standing B). Admits bays packet v (cone_at bay_after made after events_after state over journal_after.gate log_after last)
+          (Ok (record { from = events + 1; to = events_after; reports = reports }))) view_is (record {
+            stands_for = stands_then;
+            answers = λ h stands. record {
+              from_is = ap (λ n. n + 1) (sym stands.counted);
+              to_is = omega (arith, stands.counted, events_are);
+              reports_are = λ sound seen told.
+                  let then = did.seen.told seen told in
+                  let whole = stands.whole (ap is_broken running) sound seen told in
+                  let up = did.in_step seen told h whole then.0 then.1 in
+                  reports_are
+                  ∙ ap length (up.reports_are ∙ reports_running after.listing (events_of (h ++ packet ∷ [])) (ap (λ (l : Listing). l.closed) is ∙ still) (ap (λ (l : Listing). l.events) is
+                  ∙ keys_more h packet tally.listing.events whole.keys))
+                  ∙ ap (λ (l : Listing). length (look l.settings (events_of (h ++ packet ∷ [])))) is;
+            };
+            acked = λ i. record { from = events + 1; to = events_are i; reports = reports_are i };
+            taken = new_is;
+            in_time_so_far = timely_then;
+            stays = tt;
+            unchanged = tt;
+            broke = tt;
+            same_cone = same;
+            closed = ((λ given. absurd (let never : ⊥ = cc in never)), (λ ended. absurd (false≢true (sym (ap is_finished running) ∙ ap is_finished ended))));
+            broken = ((λ given. absurd (let never : ⊥ = cc in never)), (λ broken. absurd (false≢true (sym (ap is_broken running) ∙ broken))));
+            full = λ n len. ((λ given. absurd (let never : ⊥ = cc in never)), (λ why. absurd (omega (arith, why.1, why.2, why.3, within))));
+            bay_failed = λ given. absurd (let never : ⊥ = cc in never);
+            unsound = λ file at given. absurd (let never : ⊥ = cc in never);
+            shows = λ file at given. absurd (let never : ⊥ = cc in never);
+            each_moment = λ unbroken sound seen told h stands image may. did.each_moment seen told h (stands.whole unbroken sound seen told) image may;
+            seen = did.seen;
+            kept = keeps_as bays lawful bay bay_after _ _ (λ given. absurd (let never : ⊥ = cc in never)) did.kept;
+          })
 
     -- and it is a cone again, whose buffer has the room that was lent
-    pub still_cone : (events_after cone_room cone_room_after keys_room : ℕ) →
-        TakesPacket bays packet (record { bay = bay; counts = tally; log = log; room = room }) (record {
-          bay = bay_after;
-          counts = after;
-          log = log_after;
-          room = room_after;
-        }) journal journal_after (Ok tt) → events_after ≡ events + length packet.keys → 0 < length packet.keys →
+    pub still_cone : {events_after cone_room cone_room_after keys_room : ℕ} →
+        TakesPacket bays packet (work_at bay tally log room)
+        (work_at bay_after after log_after room_after) journal journal_after (Ok tt) → events_after ≡ events + length packet.keys → 0 < length packet.keys →
         cone_room_after ≡ cone_room → room_after ≡ cone_room_after →
         IsCone bays.files bays.leaves bays.faults bays.mark (cone_at bay made tally events state over journal.gate log last) tally journal cone_room keys_room →
         IsCone bays.files bays.leaves bays.faults bays.mark (cone_at bay_after made after events_after state over journal_after.gate log_after last) after journal_after cone_room_after keys_room
-    still_cone events_after cone_room cone_room_after keys_room did events_are some room_is lent_is cone =
+    still_cone did events_are some room_is lent_is cone =
         let is = did.listing ∙ ap (λ (keys : List ℕ). record tally.listing { events = keys }) did.taken in
         more_cone packet running is did.counted events_are did.moved room_is some within did.kept.never_falls did.seen did.kept.mark did.shut
         (subst (λ (n : ℕ). IsLogging after log_after n) lent_is did.can_log.logging) did.can_log.log_shut cone

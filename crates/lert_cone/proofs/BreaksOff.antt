@@ -1,37 +1,33 @@
 -- What a cone answers to a packet in the middle of which it breaks off.
-use Rattle.std.proofs.{Common.{◌≡◌, ℕ, ◌+◌, ◌≤◌, length, Option, Some, Err, refl, sym, ap, ◌∙◌, subst, arith}, lemmas.Bool.false≢true}
-use Rattle.lert_base.specs.{Packet.Packet, declared.cone_fault.ConeFault.TheVariants.{Closed, Broken, CapacityFull, BayFailed, Unsound}}
+use Rattle.std.proofs.{Common.{Result, ◌≡◌, ℕ, ◌+◌, ◌≤◌, length, Option, Some, Err, refl, sym, ap, ◌∙◌, subst, arith}, lemmas.Bool.false≢true}
+use Rattle.lert_base.specs.{Packet.Packet, declared.cone_fault.ConeFault.ConeFault, declared.cone_fault.ConeFault.TheVariants.{Closed, Broken, CapacityFull, BayFailed, Unsound}}
 use Rattle.lert_gatelog.specs.Gated.{Log}
 use Rattle.lert_io.proofs.Rising.{risen_since}
 use Rattle.lert_spec.specs.Edges.{capacity}
 use Rattle.lert_reports.specs.declared.log_point.LogPoint.{LogPoint}
 use Rattle.lert_cone.specs.{declared.state.ConeState.ConeState, declared.state.ConeState.TheVariants.Running, declared.tally.TakeFault.TakeFault, Listing.Listing, Record.LogPlace}
-use Rattle.lert_cone.specs.{Sound.{IsKept, IsSoundOver}, Stands.{IsSameCone, is_broken, is_finished, is_refusal, broken_by, cone_fault}, Takes.TakesPacket, Tally.Tallied}
+use Rattle.lert_cone.specs.declared.acked.Acked.{Acked}
+use Rattle.lert_cone.specs.{Sound.{IsKept, IsSoundOver}, Stands.{Standing, IsSameCone, is_broken, is_finished, is_refusal, broken_by, cone_fault}, Takes.{TakesPacket, work_at}, Tally.Tallied}
 use Rattle.lert_bay.specs.Kept.{Bays}
 use Rattle.lert_bay.proofs.KeptLaws.{IsLawful, keeps_as}
 use Rattle.lert_cone.proofs.{SoundLaws.turns_back, StandLaws.{stands_broken, cone_at}}
 use Rattle.lert_cone.proofs.{FaultLaws.{kept_since, turned_none, untold, is_broken_by, by_bay_of, by_read_of, failed_of, unsound_of, no_refusal}, Admits.Admits}
 
-module _ {B : Type 0} (bays : Bays B) (lawful : IsLawful bays) (packet : Packet) where
-  module _ (bay made bay_after : B) (tally after : Tallied) (events room room_after : ℕ) (state : ConeState) (over : Option Packet) (journal journal_after : Log) (log log_after : LogPlace)
-      (last : LogPoint)
-      (running : state ≡ Running) (within : events + length packet.keys ≤ capacity tally.listing.settings) where
+module _ {B : Type 0} {bays : Bays B} (lawful : IsLawful bays) (packet : Packet) where
+  module _ {bay bay_after : B} {tally after : Tallied} {room room_after : ℕ} {state : ConeState} {journal journal_after : Log} {log log_after : LogPlace} (made : B) (events : ℕ)
+      (over : Option Packet) (last : LogPoint) (running : state ≡ Running) (within : events + length packet.keys ≤ capacity tally.listing.settings) where
     -- in the middle
-    pub broken_off : (state_after : ConeState) (over_after : Option Packet) (fault : TakeFault) → state_after ≡ broken_by fault → over_after ≡ Some packet →
-        bays.faults made ≤ bays.faults bay →
-        TakesPacket bays packet (record { bay = bay; counts = tally; log = log; room = room }) (record {
-          bay = bay_after;
-          counts = after;
-          log = log_after;
-          room = room_after;
-        }) journal journal_after (Err fault) →
-        Admits bays packet (cone_at bay made tally events state over journal.gate log last)
-        (cone_at bay_after made after events state_after over_after journal_after.gate log_after last) (Err (cone_fault fault))
-    broken_off state_after over_after fault state_is over_is risen did =
+    pub broken_off : {state_after : ConeState} {over_after : Option Packet} {fault : TakeFault} {seen : Standing B} {given : Result Acked ConeFault} → state_after ≡ broken_by fault →
+        over_after ≡ Some packet → bays.faults made ≤ bays.faults bay → cone_at bay made tally events state over journal.gate log last ≡ seen → given ≡ Err (cone_fault fault) →
+        TakesPacket bays packet (work_at bay tally log room) (work_at bay_after after log_after room_after) journal journal_after (Err fault) →
+        Admits bays packet seen (cone_at bay_after made after events state_after over_after journal_after.gate log_after last) given
+    broken_off {state_after = state_after} {over_after = over_after} {fault = fault} {given = given} state_is over_is risen view_is given_is did =
         let same : IsSameCone (cone_at bay made tally events state over journal.gate log last)
         (cone_at bay_after made after events state_after over_after journal_after.gate log_after last) =
         record { settings = ap (λ (l : Listing). l.settings) did.listing; cone = ap (λ (l : Listing). l.cone) did.listing; made = refl; last = refl } in
-        record {
+        subst (λ (v : Standing B). Admits bays packet v (cone_at bay_after made after events state_after over_after journal_after.gate log_after last) given) view_is
+        (subst (λ (r : Result Acked ConeFault). Admits bays packet (cone_at bay made tally events state over journal.gate log last)
+        (cone_at bay_after made after events state_after over_after journal_after.gate log_after last) r) (sym given_is) (record {
           stands_for = tt;
           answers = tt;
           acked = tt;
@@ -73,4 +69,4 @@ module _ {B : Type 0} (bays : Bays B) (lawful : IsLawful bays) (packet : Packet)
           each_moment = λ still sound seen told h stands image may. did.each_moment seen told h (stands.whole still sound seen told) image may;
           seen = did.seen;
           kept = keeps_as bays lawful bay bay_after _ _ (λ given. (let inner : cone_fault fault ≡ BayFailed = cc in ap Err (failed_of fault inner))) did.kept;
-        }
+        }))

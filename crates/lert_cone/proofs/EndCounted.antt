@@ -10,9 +10,9 @@ use Rattle.lert_bay.proofs.KeptLaws.{IsLawful, reads_as}
 use Rattle.lert_cone.proofs.KeyCounted.{failed_flush}
 use Rattle.lert_cone.proofs.TakeLaws.{rows_end, fits_end, from_end, young_end, frames_end, counted_end, held_end, never_full_end, sound_fault, shows_frame, shows_full, handed_on}
 
-module _ {B : Type 0} (bays : Bays B) (lawful : IsLawful bays) (t : Tallied) (ls : Numbers) (levels_are : ls ≡ t.listing.settings) (valid : IsValid t.listing.settings)
+module _ {B : Type 0} {bays : Bays B} (lawful : IsLawful bays) {t : Tallied} {ls : Numbers} (levels_are : ls ≡ t.listing.settings) (valid : IsValid t.listing.settings)
     (named : t.listing.cone < 2 ^ t.listing.settings.cone_bits) (counted : IsCounted t)
-    (m : ℕ) (m_is : m ≡ length t.listing.events) (start due : Dues) (start_is : start ≡ started t.due m) (bay bay_after : B) (levels_after : OnDisk) where
+    {m : ℕ} (m_is : m ≡ length t.listing.events) {start : Dues} (start_is : start ≡ started t.due m) (due : Dues) (bay bay_after : B) (levels_after : OnDisk) where
   with_rows : (result : Result (Unit {0}) FlushFault) → Scans bays start bay bay_after t.young (record { settings = ls; rows = t.rows }) levels_after due result →
       (closed : Bool) (given : Result
       (Unit {0}) TakeFault) →
@@ -53,12 +53,10 @@ module _ {B : Type 0} (bays : Bays B) (lawful : IsLawful bays) (t : Tallied) (ls
   }
 
   -- the totals don't come
-  pub not_ended : (result : Result (Unit {0}) FlushFault) (fault : FlushFault) → result ≡ Err fault → Scans bays start bay bay_after t.young (record {
-    settings = ls;
-    rows = t.rows;
-  }) levels_after due result →
-      (given : Result (Unit {0}) TakeFault) → IsErrAnd given (λ g. g ≡ take_fault fault) → CountsEnd bays bay bay_after t (record t { rows = levels_after.rows; due = due }) given
-  not_ended result fault is scans given given_is =
+  pub not_ended : {result : Result (Unit {0}) FlushFault} {given : Result (Unit {0}) TakeFault} {fault : FlushFault} → result ≡ Err fault →
+      Scans bays start bay bay_after t.young (record { settings = ls; rows = t.rows }) levels_after due result → IsErrAnd given (λ g. g ≡ take_fault fault) → CountsEnd bays bay bay_after t
+      (record t { rows = levels_after.rows; due = due }) given
+  not_ended {given = given} {fault = fault} is scans given_is =
       subst (λ (r : Result (Unit {0}) TakeFault). CountsEnd bays bay bay_after t (record t { rows = levels_after.rows; due = due }) r) (handed_on given
       (take_fault fault) given_is)
       (let failed = subst (λ (r : Result (Unit {0}) FlushFault). Scans bays start bay bay_after t.young (record { settings = ls; rows = t.rows }) levels_after due r) is scans in

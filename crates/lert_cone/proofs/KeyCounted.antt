@@ -16,19 +16,19 @@ pub failed_flush : (fault : FlushFault) → take_fault fault ≡ Failed → faul
 failed_flush FlushFailed same = refl
 failed_flush (Malformed at) same = absurd (let never : ⊥ = cc in never)
 
-module _ {B : Type 0} (bays : Bays B) (lawful : IsLawful bays) (t : Tallied) (ls : Numbers) (key tail m : ℕ) (young : Young) (taking : IsTaking t ls key tail m young)
-    (start due : Dues) (start_is : start ≡ started t.due m) (bay bay_after : B) (young_after : Young) (levels_after : OnDisk) where
+module _ {B : Type 0} {bays : Bays B} (lawful : IsLawful bays) {t : Tallied} {ls : Numbers} {key tail m : ℕ} {young : Young} (taking : IsTaking t ls key tail m young)
+    {start : Dues} (start_is : start ≡ started t.due m) (due : Dues) (bay bay_after : B) (young_after : Young) (levels_after : OnDisk) where
   abbrev all : List ℕ
   all = t.listing.events ++ key ∷ []
 
   long : length (t.listing.events ++ key ∷ []) ≡ m
-  long = all_long t ls key tail m young taking
+  long = all_long taking
 
   now_young : AreYoung ls (t.listing.events ++ key ∷ []) young.from young.bins
-  now_young = young_now t ls key tail m young taking
+  now_young = young_now taking
 
   now_frames : (seen : Files) → IsHeld t seen → HoldsBins ls (t.listing.events ++ key ∷ []) t.rows (seen 2)
-  now_frames = frames_now t ls key tail m young taking
+  now_frames = frames_now taking
 
   -- an edge that stays, said of the levels and of the key's position
   levels_stay : edge t.listing.settings 0 (length t.listing.events + 1) ≡ edge t.listing.settings 0 (length t.listing.events) → edge ls 0 m ≡ edge ls 0 (m - 1)
@@ -43,10 +43,8 @@ module _ {B : Type 0} (bays : Bays B) (lawful : IsLawful bays) (t : Tallied) (ls
     never_malformed_some : (seen : Files) → bays.files bay ≡ Some seen → HoldsSome t.listing.settings (length t.listing.events) t.rows (seen 2) → (at : ℕ) →
         result ≢ Err (Malformed at)
     never_malformed_some seen told some =
-        gives.sound (others t ls key tail m young taking (seen 2) some)
-        (others_long t ls key tail m young taking (seen 2) some)
-        (others_young t ls key tail m young taking (seen 2) some) seen told
-        (others_frames t ls key tail m young taking (seen 2) some)
+        gives.sound (others taking (seen 2) some) (others_long taking (seen 2) some) (others_young taking (seen 2) some) seen told
+        (others_frames taking (seen 2) some)
 
     rest_here : KeepsRest bays (InNamed t.listing.settings t.rows) bay bay_after
     rest_here = subst (λ (s : Numbers). KeepsRest bays (InNamed s t.rows) bay bay_after) taking.levels_are gives.rest
@@ -79,17 +77,10 @@ module _ {B : Type 0} (bays : Bays B) (lawful : IsLawful bays) (t : Tallied) (ls
     kept = keeps_as bays lawful bay bay_after _ _ (λ same. ap Err (failed_flush fault (let inner : take_fault fault ≡ Failed = cc in inner))) gives.kept;
   }
 
-  pub not_counted : (result : Result (Unit {0}) FlushFault) (fault : FlushFault) → result ≡ Err fault → GivesTotals bays start m tail bay bay_after young young_after (record {
-    settings = ls;
-    rows = t.rows;
-  }) levels_after due result →
-      (given : Result (Unit {0}) TakeFault) → IsErrAnd given (λ g. g ≡ take_fault fault) → CountsKey bays key bay bay_after t (record {
-        listing = t.listing;
-        young = young_after;
-        rows = levels_after.rows;
-        due = due;
-      }) given
-  not_counted result fault is gives given given_is =
+  pub not_counted : {result : Result (Unit {0}) FlushFault} {given : Result (Unit {0}) TakeFault} {fault : FlushFault} → result ≡ Err fault →
+      GivesTotals bays start m tail bay bay_after young young_after (record { settings = ls; rows = t.rows }) levels_after due result → IsErrAnd given (λ g. g ≡ take_fault fault) →
+      CountsKey bays key bay bay_after t (record { listing = t.listing; young = young_after; rows = levels_after.rows; due = due }) given
+  not_counted {given = given} {fault = fault} is gives given_is =
       subst (λ (r : Result (Unit {0}) TakeFault). CountsKey bays key bay bay_after t (record { listing = t.listing; young = young_after; rows = levels_after.rows; due = due }) r) (handed_on given
       (take_fault fault) given_is)
       (refused_by fault (subst (λ (r : Result (Unit {0}) FlushFault). GivesTotals bays start m tail bay bay_after young young_after (record { settings = ls; rows = t.rows }) levels_after due r) is
@@ -109,7 +100,7 @@ module _ {B : Type 0} (bays : Bays B) (lawful : IsLawful bays) (t : Tallied) (ls
       unflushed = unflushed_here (Ok tt) gives;
       held = λ seen told held. tt;
       sound = λ seen told held file at same.
-          never_full t ls key tail m young taking below own start due start_is still seen held
+          never_full taking below own start due start_is still seen held
           (gives.totals (t.listing.events ++ key ∷ []) long now_young seen told (now_frames seen held)) full;
       shows = λ seen told file at same.
           shows_full t.listing.settings levels_after.rows due.reports (seen 2)
@@ -122,14 +113,14 @@ module _ {B : Type 0} (bays : Bays B) (lawful : IsLawful bays) (t : Tallied) (ls
     }
 
     -- the key is counted
-    pub key_counted : (events : List ℕ) → events ≡ t.listing.events ++ key ∷ [] → due.is_full ≡ false →
+    pub key_counted : {events : List ℕ} → events ≡ t.listing.events ++ key ∷ [] → due.is_full ≡ false →
         CountsKey bays key bay bay_after t (record {
           listing = record t.listing { events = events };
           young = young_after;
           rows = levels_after.rows;
           due = due;
         }) (Ok tt)
-    key_counted events events_are room =
+    key_counted {events = events} events_are room =
         let after : Tallied = record {
           listing = record t.listing { events = events };
           young = young_after;
@@ -151,26 +142,22 @@ module _ {B : Type 0} (bays : Bays B) (lawful : IsLawful bays) (t : Tallied) (ls
         record {
           listing = refl;
           taken = events_are;
-          counted = counted_next t ls key tail m young taking below own start due start_is young_after levels_after.rows after
-              after_is
+          counted = counted_next taking below own start due start_is young_after levels_after.rows after after_is
               gives.from gives.to (gives.bins (t.listing.events ++ key ∷ []) long now_young) gives.rows (gives.are (subst (λ (v : Numbers). AreRows v t.rows)
               (sym taking.levels_are) taking.counted.are)) gives.took;
           grows = omega (arith, gives.took.1.grows, ap (λ (d : Dues). length d.before) start_is, ap (length {A = Report}) gives.took.1.before_is);
           still = λ stays. gives.still (levels_stay stays);
           unflushed = unflushed_here (Ok tt) gives;
           held = λ seen told held after_files told_after.
-              held_next t ls key tail m young taking below own start due start_is still seen held
+              held_next taking below own start due start_is still seen held
               (gives.totals (t.listing.events ++ key ∷ []) long now_young seen told (now_frames seen held)) young_after levels_after.rows after after_files after_is room
               (gives.holds (t.listing.events ++ key ∷ []) long now_young seen told (now_frames seen held) after_files told_after);
           sound = λ seen told held file at same. (let never : ⊥ = cc in never);
           shows = λ seen told file at same. absurd (let never : ⊥ = cc in never);
           framed = λ seen told some after_files told_after.
               subst (λ (keys : List ℕ). HoldsSome t.listing.settings (length keys) levels_after.rows (after_files 2)) (sym events_are)
-              (others_next t ls key tail m young taking (seen 2) some levels_after.rows (after_files 2) gives.rows
-              (gives.holds (others t ls key tail m young taking (seen 2) some)
-              (others_long t ls key tail m young taking (seen 2) some)
-              (others_young t ls key tail m young taking (seen 2) some) seen told
-              (others_frames t ls key tail m young taking (seen 2) some) after_files told_after));
+              (others_next taking (seen 2) some levels_after.rows (after_files 2) gives.rows (gives.holds (others taking (seen 2) some)
+              (others_long taking (seen 2) some) (others_young taking (seen 2) some) seen told (others_frames taking (seen 2) some) after_files told_after));
           whole = λ seen told some at same. (let never : ⊥ = cc in never);
           images = λ seen told held each after_files told_after.
               let each_now : InEach (bays.leaves bay) 2 (HoldsBins ls (t.listing.events ++ key ∷ []) t.rows) =

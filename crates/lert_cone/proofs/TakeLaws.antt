@@ -45,10 +45,10 @@ pub record IsTaking (t : Tallied) (ls : Numbers) (key tail m : ℕ) (young : You
   pub added : young ≡ with_event t.young tail m
 
 -- where the cone was asked for as it is seen
-pub to_take : (t seen : Tallied) (ls : Numbers) (key tail len : ℕ) (young : Young) → t ≡ seen → IsCounted seen → length seen.listing.events < capacity seen.listing.settings →
+pub to_take : {t seen : Tallied} {ls : Numbers} {key tail len : ℕ} {young : Young} → t ≡ seen → IsCounted seen → length seen.listing.events < capacity seen.listing.settings →
     ls ≡ t.listing.settings → IsValid t.listing.settings → t.listing.cone < 2 ^ t.listing.settings.cone_bits → t.young.settings ≡ t.listing.settings →
     tail ≡ tail_of t.listing.settings key → len ≡ length t.listing.events → young ≡ with_event t.young tail (len + 1) → IsTaking t ls key tail (len + 1) young
-to_take t seen ls key tail len young same counted fits levels_are valid named young_settings tail_is len_is added = record {
+to_take same counted fits levels_are valid named young_settings tail_is len_is added = record {
   levels_are = levels_are;
   valid = valid;
   named = named;
@@ -61,7 +61,7 @@ to_take t seen ls key tail len young same counted fits levels_are valid named yo
 }
 
 -- the next key
-module _ (t : Tallied) (ls : Numbers) (key tail m : ℕ) (young : Young) (taking : IsTaking t ls key tail m young) where
+module _ {t : Tallied} {ls : Numbers} {key tail m : ℕ} {young : Young} (taking : IsTaking t ls key tail m young) where
   abbrev all : List ℕ
   all = t.listing.events ++ key ∷ []
 

@@ -1,15 +1,12 @@
 use Rattle.std.proofs.Common.{◌≡◌, false, Option, ap, refl, sym, ◌∙◌, subst}
-use Rattle.lert_cone.proofs.{Bays.{Bays, bays_of}, EndCounted.{not_ended, no_room_left, all_counted}}
+use Rattle.lert_cone.proofs.{Bays.bays_of, EndCounted.{not_ended, no_room_left, all_counted}}
 use Rattle.lert_bay.proofs.KeptLaws.{IsLawful}
 use Rattle.lert_levels.specs.OnDisk.{OnDisk}
 use Rattle.lert_cone.specs.{Due.{Dues, started}, Tally.{Tallied, IsCounted, due_in}}
 use Rattle.lert_cone.proofs.tally.Tally.finish.Given as given
 use Rattle.lert_cone.proofs.tally.Tally.finish.Goals as goal
 
-abbrev bays : (g : given.Over) → Bays g.row.B.Denot
-bays g = bays_of g.B.Faulty g.B.Bay
-
-lawful : (g : given.Over) → IsLawful (bays g)
+lawful : (g : given.Over) → IsLawful (bays_of g.B.Faulty g.B.Bay)
 lawful g = record { as_read = g.met.B.Bay.as_read; since_now = g.met.B.Bay.since_now; only_now = g.met.B.Bay.only_now; since_earlier = g.met.B.Bay.since_earlier }
 
 pub returns-in_err-result : goal.returns-in_err-result
@@ -17,10 +14,8 @@ returns-in_err-result g c =
     let counted = subst (λ (v : Tallied). IsCounted v) (sym c.self.view_is) c.requires.counted in
     let start_is : c.begin.new.self ≡ started (due_in c.self.inside.due) c.self.inside.len =
     c.begin.ensures.begun ∙ ap (λ (d : Option Dues). started (due_in d) c.self.inside.len) (sym c.in-Some.is ∙ c.take.ensures.value) in
-    rw (← c.self.view_is) (not_ended (bays g) (lawful g) _
-    c.self.inside.levels.settings c.self.invariant.levels_settings c.self.invariant.valid c.self.invariant.named counted c.self.inside.len c.self.invariant.len_is
-    c.begin.new.self c.scan_into-due.result.0 start_is c.args.bay.now c.scan_into-due.new.bay c.scan_into-due.new.levels
-    c.scan_into-due.result.1 c.in_err-result.field-0.0 c.in_err-result.was c.scan_into-due.ensures c.from_residual.result c.from_residual.ensures.1)
+    rw (← c.self.view_is) (not_ended (lawful g) c.self.invariant.levels_settings c.self.invariant.valid c.self.invariant.named counted c.self.invariant.len_is start_is
+    c.scan_into-due.result.0 c.args.bay.now c.scan_into-due.new.bay c.scan_into-due.new.levels c.in_err-result.was c.scan_into-due.ensures c.from_residual.ensures.1)
 
 pub returns-then-is_full : goal.returns-then-is_full
 returns-then-is_full g c =
@@ -29,10 +24,9 @@ returns-then-is_full g c =
     c.begin.ensures.begun ∙ ap (λ (d : Option Dues). started (due_in d) c.self.inside.len) (sym c.in-Some.is ∙ c.take.ensures.value) in
     let still : c.self.inside.closed ≡ false = subst (λ (v : Tallied). v.listing.closed ≡ false) (sym c.self.view_is) c.requires.still in
     let scans = rw c.in_ok-result.was at c.scan_into-due.ensures in
-    rw (← c.self.view_is) (no_room_left (bays g) (lawful g) _
-    c.self.inside.levels.settings c.self.invariant.levels_settings c.self.invariant.valid c.self.invariant.named counted c.self.inside.len c.self.invariant.len_is
-    c.begin.new.self c.scan_into-due.result.0 start_is c.args.bay.now c.scan_into-due.new.bay c.scan_into-due.new.levels
-    still scans (sym c.is_full-is_full.ensures.value ∙ c.if-is_full.true) (c.is_full-is_full.ensures.full c.if-is_full.true))
+    rw (← c.self.view_is) (no_room_left (lawful g) c.self.invariant.levels_settings c.self.invariant.valid c.self.invariant.named counted c.self.invariant.len_is start_is
+    c.scan_into-due.result.0 c.args.bay.now c.scan_into-due.new.bay c.scan_into-due.new.levels still scans (sym c.is_full-is_full.ensures.value ∙ c.if-is_full.true)
+    (c.is_full-is_full.ensures.full c.if-is_full.true))
 
 pub returns : goal.returns
 returns g c =
@@ -41,10 +35,8 @@ returns g c =
     c.begin.ensures.begun ∙ ap (λ (d : Option Dues). started (due_in d) c.self.inside.len) (sym c.in-Some.is ∙ c.take.ensures.value) in
     let still : c.self.inside.closed ≡ false = subst (λ (v : Tallied). v.listing.closed ≡ false) (sym c.self.view_is) c.requires.still in
     let scans = rw c.in_ok-result.was at c.scan_into-due.ensures in
-    rw (← c.self.view_is) (all_counted (bays g) (lawful g) _
-    c.self.inside.levels.settings c.self.invariant.levels_settings c.self.invariant.valid c.self.invariant.named counted c.self.inside.len c.self.invariant.len_is
-    c.begin.new.self c.scan_into-due.result.0 start_is c.args.bay.now c.scan_into-due.new.bay c.scan_into-due.new.levels
-    still scans (sym c.is_full-is_full.ensures.value ∙ c.if-is_full.false))
+    rw (← c.self.view_is) (all_counted (lawful g) c.self.invariant.levels_settings c.self.invariant.valid c.self.invariant.named counted c.self.invariant.len_is start_is
+    c.scan_into-due.result.0 c.args.bay.now c.scan_into-due.new.bay c.scan_into-due.new.levels still scans (sym c.is_full-is_full.ensures.value ∙ c.if-is_full.false))
 
 pub scan_into-due-requires-clause-start : goal.scan_into-due-requires-clause-start
 scan_into-due-requires-clause-start g c = c.begin.ensures.took

@@ -2,16 +2,13 @@ use Rattle.std.proofs.Common.{◌≡◌, ◌+◌, ◌-◌, ◌^◌, ◌<◌, ◌
 use Rattle.lert_spec.specs.{declared.numbers.Numbers.Numbers, Edges.capacity, Limits.IsValid, Mix.cone_of}
 use Rattle.lert_cone.specs.Tally.{Tallied, IsCounted, due_in}
 use Rattle.lert_cone.proofs.{KeyCounted.{not_counted, no_room, key_counted}, NextFlush.{flush_next, next_flushes, next_stays}, TakeLaws.{rows_before, to_take}, TallyLaws.next_position}
-use Rattle.lert_cone.proofs.Bays.{Bays, bays_of}
+use Rattle.lert_cone.proofs.Bays.{bays_of}
 use Rattle.lert_levels.specs.rows.Young.{IsNextPosition, Young}
 use Rattle.lert_bay.proofs.KeptLaws.{IsLawful}
 use Rattle.lert_cone.proofs.tally.Tally.take.Given as given
 use Rattle.lert_cone.proofs.tally.Tally.take.Goals as goal
 
-abbrev bays : (g : given.Over) → Bays g.row.B.Denot
-bays g = bays_of g.B.Faulty g.B.Bay
-
-lawful : (g : given.Over) → IsLawful (bays g)
+lawful : (g : given.Over) → IsLawful (bays_of g.B.Faulty g.B.Bay)
 lawful g = record { as_read = g.met.B.Bay.as_read; since_now = g.met.B.Bay.since_now; only_now = g.met.B.Bay.only_now; since_earlier = g.met.B.Bay.since_earlier }
 
 pub overflow_add-m : goal.overflow_add-m
@@ -111,9 +108,9 @@ add-requires-clause-position g c =
 
 pub give_totals-requires-clause-rows : goal.give_totals-requires-clause-rows
 give_totals-requires-clause-rows g c =
-    let key = to_take _ c.args.self.now c.self.inside.levels.settings c.args.key c.tail_of-tail.result c.self.inside.len c.add.new.self c.self.view_is c.requires.counted c.requires.fits
-    c.self.invariant.levels_settings c.self.invariant.valid c.self.invariant.named c.self.invariant.young_settings c.tail_of-tail.ensures.value c.self.invariant.len_is c.add.ensures in
-    rows_before _ c.self.inside.levels.settings c.args.key c.tail_of-tail.result (c.self.inside.len + 1) c.add.new.self key
+    let key = to_take c.self.view_is c.requires.counted c.requires.fits c.self.invariant.levels_settings c.self.invariant.valid c.self.invariant.named c.self.invariant.young_settings
+    c.tail_of-tail.ensures.value c.self.invariant.len_is c.add.ensures in
+    rows_before key
 
 pub give_totals-requires-clause-moves : goal.give_totals-requires-clause-moves
 give_totals-requires-clause-moves g c = next_flushes c.self.inside.settings c.self.inside.levels.settings c.self.invariant.levels_settings c.self.invariant.valid c.self.inside.len
@@ -125,36 +122,33 @@ give_totals-requires-clause-stays g c = next_stays c.self.inside.settings c.self
 
 pub returns-in_err-give_totals : goal.returns-in_err-give_totals
 returns-in_err-give_totals g c =
-    let key = to_take _ c.args.self.now c.self.inside.levels.settings c.args.key c.tail_of-tail.result c.self.inside.len c.add.new.self c.self.view_is c.requires.counted c.requires.fits
-    c.self.invariant.levels_settings c.self.invariant.valid c.self.invariant.named c.self.invariant.young_settings c.tail_of-tail.ensures.value c.self.invariant.len_is c.add.ensures in
-    rw (← c.self.view_is) (not_counted (bays g) (lawful g) _ c.self.inside.levels.settings c.args.key c.tail_of-tail.result (c.self.inside.len + 1) c.add.new.self key
-    (due_in c.begin.new.due) (due_in c.give_totals.new.due) c.begin.ensures.begun c.args.bay.now c.give_totals.new.bay c.give_totals.new.zero c.give_totals.new.levels
-    c.give_totals.result c.in_err-give_totals.field-0.0 c.in_err-give_totals.was c.give_totals.ensures.gives c.from_residual.result c.from_residual.ensures.1)
+    let key = to_take c.self.view_is c.requires.counted c.requires.fits c.self.invariant.levels_settings c.self.invariant.valid c.self.invariant.named c.self.invariant.young_settings
+    c.tail_of-tail.ensures.value c.self.invariant.len_is c.add.ensures in
+    rw (← c.self.view_is) (not_counted (lawful g) key c.begin.ensures.begun (due_in c.give_totals.new.due) c.args.bay.now c.give_totals.new.bay c.give_totals.new.zero
+    c.give_totals.new.levels c.in_err-give_totals.was c.give_totals.ensures.gives c.from_residual.ensures.1)
 
 pub returns-then-is_full : goal.returns-then-is_full
 returns-then-is_full g c =
-    let key = to_take _ c.args.self.now c.self.inside.levels.settings c.args.key c.tail_of-tail.result c.self.inside.len c.add.new.self c.self.view_is c.requires.counted c.requires.fits
-    c.self.invariant.levels_settings c.self.invariant.valid c.self.invariant.named c.self.invariant.young_settings c.tail_of-tail.ensures.value c.self.invariant.len_is c.add.ensures in
+    let key = to_take c.self.view_is c.requires.counted c.requires.fits c.self.invariant.levels_settings c.self.invariant.valid c.self.invariant.named c.self.invariant.young_settings
+    c.tail_of-tail.ensures.value c.self.invariant.len_is c.add.ensures in
     let own : cone_of c.self.inside.settings c.args.key ≡ c.self.inside.cone =
     subst (λ (v : Tallied). cone_of v.listing.settings c.args.key ≡ v.listing.cone) (sym c.self.view_is) c.requires.own in
     let still : c.self.inside.closed ≡ false = subst (λ (v : Tallied). v.listing.closed ≡ false) (sym c.self.view_is) c.requires.still in
     let gives = rw c.in_ok-give_totals.was at c.give_totals.ensures.gives in
-    rw (← c.self.view_is) (no_room (bays g) (lawful g) _ c.self.inside.levels.settings c.args.key c.tail_of-tail.result (c.self.inside.len + 1) c.add.new.self key
-    (due_in c.begin.new.due) (due_in c.give_totals.new.due) c.begin.ensures.begun c.args.bay.now c.give_totals.new.bay c.give_totals.new.zero c.give_totals.new.levels
-    c.ranges.key.fits own still gives (sym c.is_full.ensures.value ∙ c.if-is_full.true) (c.is_full.ensures.full c.if-is_full.true))
+    rw (← c.self.view_is) (no_room (lawful g) key c.begin.ensures.begun (due_in c.give_totals.new.due) c.args.bay.now c.give_totals.new.bay c.give_totals.new.zero
+    c.give_totals.new.levels c.ranges.key.fits own still gives (sym c.is_full.ensures.value ∙ c.if-is_full.true) (c.is_full.ensures.full c.if-is_full.true))
 
 pub returns : goal.returns
 returns g c =
-    let key = to_take _ c.args.self.now c.self.inside.levels.settings c.args.key c.tail_of-tail.result c.self.inside.len c.add.new.self c.self.view_is c.requires.counted c.requires.fits
-    c.self.invariant.levels_settings c.self.invariant.valid c.self.invariant.named c.self.invariant.young_settings c.tail_of-tail.ensures.value c.self.invariant.len_is c.add.ensures in
+    let key = to_take c.self.view_is c.requires.counted c.requires.fits c.self.invariant.levels_settings c.self.invariant.valid c.self.invariant.named c.self.invariant.young_settings
+    c.tail_of-tail.ensures.value c.self.invariant.len_is c.add.ensures in
     let own : cone_of c.self.inside.settings c.args.key ≡ c.self.inside.cone =
     subst (λ (v : Tallied). cone_of v.listing.settings c.args.key ≡ v.listing.cone) (sym c.self.view_is) c.requires.own in
     let still : c.self.inside.closed ≡ false = subst (λ (v : Tallied). v.listing.closed ≡ false) (sym c.self.view_is) c.requires.still in
     let gives = rw c.in_ok-give_totals.was at c.give_totals.ensures.gives in
-    rw (← c.self.view_is) (key_counted (bays g) (lawful g) _ c.self.inside.levels.settings c.args.key c.tail_of-tail.result (c.self.inside.len + 1) c.add.new.self key
-    (due_in c.begin.new.due) (due_in c.give_totals.new.due) c.begin.ensures.begun c.args.bay.now c.give_totals.new.bay c.give_totals.new.zero c.give_totals.new.levels
-    c.ranges.key.fits own still gives (c.self.inside.unread ++ c.push.new.self)
-    (ap (λ keys. c.self.inside.unread ++ keys) c.push.ensures ∙ sym (append_assoc c.self.inside.unread c.self.inside.taken (c.args.key ∷ [])))
+    rw (← c.self.view_is) (key_counted (lawful g) key c.begin.ensures.begun (due_in c.give_totals.new.due) c.args.bay.now c.give_totals.new.bay c.give_totals.new.zero
+    c.give_totals.new.levels c.ranges.key.fits own still gives (ap (λ keys. c.self.inside.unread ++ keys) c.push.ensures ∙ sym
+    (append_assoc c.self.inside.unread c.self.inside.taken (c.args.key ∷ [])))
     (sym c.is_full.ensures.value ∙ c.if-is_full.false))
 
 pub give_totals-requires-clause-start : goal.give_totals-requires-clause-start
