@@ -175,39 +175,39 @@ module _ (s : Numbers) (cone : ℕ) (valid : IsValid s) (named : cone < 2 ^ s.co
     abbrev pub Told : Result K E → Type 0
     Told result = MatchResult result (λ now. IsReopened s cone seen (closed_in now) (events_in now) (gate_in now)) (λ refused. IsReopenRefused s cone seen (fault_in refused))
 
-    pub journal_told : (result : Result K E) → Told result → IfOk result (λ now. IsReadOn s cone seen (events_in now) (gate_in now))
-    journal_told (Ok now) told = reopened_journal (closed_in now) (events_in now) (gate_in now) told
-    journal_told (Err refused) told = tt
+    -- what follows from it, either way
+    abbrev pub Says : Result K E → Type 0
+    Says result = record {
+      journal : IfOk result (λ now. IsReadOn s cone seen (events_in now) (gate_in now));
+      journal_whole : (history : List Packet) → IsJournal s cone history (seen JOURNAL) → (records : List LogRecord) (log_end : ℕ) → HasLog s cone (seen LOG) records log_end →
+          IsPlaceIn history (last_place records) → IfOk result (λ now. events_in now ≡ events_of history);
+      closed : IfOk result (λ now. (records : List LogRecord) × (log_end : ℕ) × HasLog s cone (seen LOG) records log_end × (closed_in now ≡ is_closed records));
+      malformed : IfErr result (λ refused. (file at : ℕ) → fault_in refused ≡ Malformed file at → FirstLeaves s cone seen file at ⊎ IsUnsoundAt s cone seen file at);
+      other : IfErr result (λ refused. (kept : Kept) → fault_in refused ≡ OtherSettings kept → HasOther s cone (seen JOURNAL) kept);
+      refuses : (file at : ℕ) → FirstLeaves s cone seen file at → IsErrAnd result (λ refused. Refuses (fault_in refused) file at);
+      differs : (kept : Kept) → HasOther s cone (seen JOURNAL) kept → IsErrAnd result (λ refused. IsOutside (fault_in refused) ⊎ (fault_in refused ≡ OtherSettings kept));
+    }
 
-    pub whole_told : (result : Result K E) → Told result → (history : List Packet) → IsJournal s cone history (seen JOURNAL) → (records : List LogRecord) (log_end : ℕ) →
-        HasLog s cone (seen LOG) records log_end → IsPlaceIn history (last_place records) → IfOk result (λ now. events_in now ≡ events_of history)
-    whole_told (Ok now) told history journal records log_end log place =
-        reopened_whole (closed_in now) (events_in now) (gate_in now) told history records log_end journal log place
-    whole_told (Err refused) told history journal records log_end log place = tt
-
-    -- the cone is closed exactly where the log is
-    pub closed_told : (result : Result K E) → Told result →
-        IfOk result (λ now. (records : List LogRecord) × (log_end : ℕ) × HasLog s cone (seen LOG) records log_end × (closed_in now ≡ is_closed records))
-    closed_told (Ok now) told = (told.records, told.log_end, told.opened.log, told.closed_is)
-    closed_told (Err refused) told = tt
-
-    pub malformed_told : (result : Result K E) → Told result → IfErr result (λ refused. (file at : ℕ) → fault_in refused ≡ Malformed file at →
-        FirstLeaves s cone seen file at ⊎ IsUnsoundAt s cone seen file at)
-    malformed_told (Ok now) told = tt
-    malformed_told (Err refused) told = λ file at is. by_place (fault_in refused) file at is told
-
-    pub other_told : (result : Result K E) → Told result → IfErr result (λ refused. (kept : Kept) → fault_in refused ≡ OtherSettings kept → HasOther s cone (seen JOURNAL) kept)
-    other_told (Ok now) told = tt
-    other_told (Err refused) told = λ kept is. by_header (fault_in refused) kept is told
-
-    pub refuses_told : (result : Result K E) → Told result → (file at : ℕ) → FirstLeaves s cone seen file at → IsErrAnd result (λ refused. Refuses (fault_in refused) file at)
-    refuses_told (Ok now) told file at leaves = reopened_or_left (closed_in now) (events_in now) (gate_in now) told file at leaves
-    refuses_told (Err refused) told file at leaves = left_there (fault_in refused) file at told leaves
-
-    pub differs_told : (result : Result K E) → Told result → (kept : Kept) → HasOther s cone (seen JOURNAL) kept →
-        IsErrAnd result (λ refused. IsOutside (fault_in refused) ⊎ (fault_in refused ≡ OtherSettings kept))
-    differs_told (Ok now) told kept has = no_other s cone valid below seen told.opened.headed kept has
-    differs_told (Err refused) told kept has = other_there (fault_in refused) kept told has
+    pub says : (result : Result K E) → Told result → Says result
+    says (Ok now) told = record {
+      journal = reopened_journal (closed_in now) (events_in now) (gate_in now) told;
+      journal_whole = λ history journal records log_end log place.
+          reopened_whole (closed_in now) (events_in now) (gate_in now) told history records log_end journal log place;
+      closed = (told.records, told.log_end, told.opened.log, told.closed_is);
+      malformed = tt;
+      other = tt;
+      refuses = λ file at leaves. reopened_or_left (closed_in now) (events_in now) (gate_in now) told file at leaves;
+      differs = λ kept has. no_other s cone valid below seen told.opened.headed kept has;
+    }
+    says (Err refused) told = record {
+      journal = tt;
+      journal_whole = λ history journal records log_end log place. tt;
+      closed = tt;
+      malformed = λ file at is. by_place (fault_in refused) file at is told;
+      other = λ kept is. by_header (fault_in refused) kept is told;
+      refuses = λ file at leaves. left_there (fault_in refused) file at told leaves;
+      differs = λ kept has. other_there (fault_in refused) kept told has;
+    }
 
     -- of files that are sound for a list
     module _ (told_in : Option Files) (told_is : told_in ≡ Some seen) (counts : K → ℕ) (stands_in : K → List Packet → Type 0) (finishes : K → Bool → Type 0)
