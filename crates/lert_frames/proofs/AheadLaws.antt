@@ -2,6 +2,7 @@
 use Rattle.std.proofs.Common.{◌≡◌, ℕ, ◌+◌, ◌-◌, ◌*◌, ◌^◌, ◌<◌, ◌≤◌, length, drop, refl, sym, ap, ◌∙◌, subst, arith}
 use Rattle.std.proofs.Math.Nat.{mul-le-mul_right}
 use Rattle.lert_bay.specs.Kept.{Bays}
+use Rattle.lert_blocks.specs.Text.{word_count}
 use Rattle.lert_frames.specs.declared.decoder.Ahead.{Ahead}
 use Rattle.lert_frames.specs.declared.decoder.Decoder.{Decoder}
 use Rattle.lert_frames.specs.declared.decoder.Present.{Present}
@@ -35,14 +36,11 @@ module _ {B : Type 0} (bays : Bays B) (before between : B) (same : bays.files be
 pub ahead_none : {B : Type 0} (bays : Bays B) (before : B) (w : Window) → ReadsAhead bays before w w
 ahead_none bays before w = record { place = refl; room = refl; grows = omega arith; later = omega arith; come = λ seen told. refl; read = λ seen told from near is. is }
 
--- more bytes are at hand
-pub later_of : (old new : Window) → place_of new ≡ place_of old → count_of old ≤ count_of new → old.at ≤ new.at
-later_of old new place grows = omega (arith, end_of old, end_of new, place, grows)
-
--- a decoder whose windows read ahead
-pub standing_ahead : (d : Decoder) (window ends : Window) (slots : ℕ) → place_of window ≡ place_of d.window → room_of window ≡ room_of d.window → count_of d.window ≤ count_of window →
-    place_of ends ≡ place_of d.ends → room_of ends ≡ room_of d.ends → count_of d.ends ≤ count_of ends → slots ≡ length d.slots.items → IsStanding d.width d.block d.ahead window ends slots
-standing_ahead d window ends slots place room grows ends_place ends_room ends_grow slots_are =
+-- a decoder whose windows read ahead, and what of it is at hand
+standing_with : (d : Decoder) (window ends : Window) (slots : ℕ) → place_of window ≡ place_of d.window → room_of window ≡ room_of d.window → room_of ends ≡ room_of d.ends →
+    slots ≡ length d.slots.items → 8 * d.block.from ≤ count_of window → (0 < d.block.from → 8 ≤ count_of ends) → place_of ends + 8 * word_count d.block.some < 2 ^ 43 →
+    IsStanding d.width d.block d.ahead window ends slots
+standing_with d window ends slots place room ends_room slots_are hand word ends_reach =
     let was = d.standing in
     record {
       narrow = was.narrow;
@@ -53,43 +51,30 @@ standing_ahead d window ends slots place room grows ends_place ends_room ends_gr
       least = was.least;
       from = was.from;
       near = was.near;
-      hand = omega (arith, was.hand, grows);
-      word = λ some. omega (arith, was.word some, ends_grow);
+      hand = hand;
+      word = word;
       most = was.most;
       some = was.some;
       count = was.count;
       reach = omega (arith, was.reach, place);
-      ends_reach = omega (arith, was.ends_reach, ends_place);
+      ends_reach = ends_reach;
       window_room = room ∙ was.window_room;
       ends_room = ends_room ∙ was.ends_room;
       slots_room = slots_are ∙ was.slots_room;
     }
+
+pub standing_ahead : (d : Decoder) (window ends : Window) (slots : ℕ) → place_of window ≡ place_of d.window → room_of window ≡ room_of d.window → count_of d.window ≤ count_of window →
+    place_of ends ≡ place_of d.ends → room_of ends ≡ room_of d.ends → count_of d.ends ≤ count_of ends → slots ≡ length d.slots.items → IsStanding d.width d.block d.ahead window ends slots
+standing_ahead d window ends slots place room grows ends_place ends_room ends_grow slots_are =
+    standing_with d window ends slots place room ends_room slots_are (omega (arith, d.standing.hand, grows)) (λ some. omega (arith, d.standing.word some, ends_grow))
+    (omega (arith, d.standing.ends_reach, ends_place))
 
 -- one without a present block, whose words of run ends may stand anywhere
 pub standing_decoded : (d : Decoder) (window ends : Window) (slots : ℕ) → d.block.some ≡ 0 → place_of window ≡ place_of d.window → room_of window ≡ room_of d.window →
     place_of ends < 2 ^ 43 → room_of ends ≡ room_of d.ends → slots ≡ length d.slots.items → IsStanding d.width d.block d.ahead window ends slots
 standing_decoded d window ends slots none place room ends_place ends_room slots_are =
-    let was = d.standing in
-    record {
-      narrow = was.narrow;
-      wide = was.wide;
-      first = was.first;
-      tails = was.tails;
-      order = was.order;
-      least = was.least;
-      from = was.from;
-      near = was.near;
-      hand = omega (arith, was.from, none);
-      word = λ some. absurd (omega (arith, was.from, none, some));
-      most = was.most;
-      some = was.some;
-      count = was.count;
-      reach = omega (arith, was.reach, place);
-      ends_reach = omega (arith, ends_place, none);
-      window_room = room ∙ was.window_room;
-      ends_room = ends_room ∙ was.ends_room;
-      slots_room = slots_are ∙ was.slots_room;
-    }
+    standing_with d window ends slots place room ends_room slots_are (omega (arith, d.standing.from, none)) (λ some. absurd (omega (arith, d.standing.from, none, some)))
+    (omega (arith, ends_place, none))
 
 -- its places
 pub window_near : (d : Decoder) → place_of d.window < 2 ^ 43
@@ -136,11 +121,4 @@ standing_begun d head block ahead window ends none some count_fits fits block_is
 
 -- the same, said of the moment before a call that changed no file
 pub ahead_since : {B : Type 0} (bays : Bays B) (before between : B) (old new : Window) → bays.files between ≡ bays.files before → ReadsAhead bays between old new → ReadsAhead bays before old new
-ahead_since bays before between old new same ahead = record {
-  place = ahead.place;
-  room = ahead.room;
-  grows = ahead.grows;
-  later = ahead.later;
-  come = λ seen told. ahead.come seen (same ∙ told);
-  read = λ seen told. ahead.read seen (same ∙ told);
-}
+ahead_since bays before between old new same ahead = ahead_on bays before between same old old new (ahead_none bays before old) ahead

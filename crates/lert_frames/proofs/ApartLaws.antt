@@ -128,11 +128,11 @@ writing_stays w old new kept is =
       at = record {
         passed = is.at.passed;
         stands = record {
-          out = λ none. (let short = w.growing.short none in
+          out = λ none. (let short = w.holding.short none in
               out_stays w.place len old new kept w.place (text_before w) w.outlet (omega arith) (omega (arith, short.fits)) (stands.out none));
           filled = stands.filled;
           spilt = λ l named.
-              let long = w.growing.spilt l named in
+              let long = w.holding.spilt l named in
               let reach = long.reach in
               let spilt = stands.spilt l named in
               let ends_low : w.place ≤ l.begin + 12 = omega (arith, long.at) in
@@ -145,7 +145,7 @@ writing_stays w old new kept is =
                 filled = spilt.filled;
               };
           before = λ l named.
-              let long = w.growing.spilt l named in
+              let long = w.holding.spilt l named in
               text_stays w.place len old new kept w.place l.begin (text_before w) (omega arith) (omega (arith, long.fits)) (stands.begins l named) (stands.before l named);
           begins = stands.begins;
         };

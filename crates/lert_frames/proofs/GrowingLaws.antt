@@ -6,7 +6,7 @@ use Rattle.std.proofs.lemmas.Option.{none-some}
 use Rattle.lert_frames.proofs.PlaceLaws.{span_half, blocks_are}
 use Rattle.lert_frames.specs.declared.long.Long.{Long}
 use Rattle.lert_frames.specs.declared.outlet.Outlet.{Outlet}
-use Rattle.lert_frames.specs.Growing.{slots_out, IsLong, IsGrowing}
+use Rattle.lert_frames.specs.Growing.{slots_out, IsLong, IsGrowing, IsHolding}
 use Rattle.lert_frames.specs.Outlet.{next_place, size_of}
 use Rattle.lert_frames.specs.Place.{block_count, blocks_bytes, frame_len, frame_place}
 use Rattle.lert_frames.specs.Spilt.{Reaches, HasRoom, block_bytes, first_place, last_place, closed_place}
@@ -63,18 +63,9 @@ some_block s level valid within = omega (arith, blocks_are s valid level within,
 
 -- ---- a frame at its begin, with nothing in memory
 
-pub growing_new : (s : Numbers) (level frame wide place number left : ℕ) (outlet ends : Outlet) (slots : ℕ) (put : List Piece) → IsValid s → 1 ≤ level → level ≤ s.levels →
-    frame ≤ s.bins → wide ≡ width s level → place ≡ frame_place s level frame → place + frame_len s level < 2 ^ 42 → number < block_count s level → left + total put ≡ span s level →
-    size_of outlet ≡ 8192 → size_of ends ≡ 512 → slots ≡ 0 → next_place outlet ≡ place → place ≤ outlet.at →
-    IsGrowing s level frame wide place number left outlet ends slots None put
-growing_new s level frame wide place number left outlet ends slots put valid first last within width_is place_is end below left_is size ends_size none next at = record {
-  valid = valid;
-  first = first;
-  last = last;
-  within = within;
-  width_is = width_is;
-  place_is = place_is;
-  end = end;
+pub growing_new : (s : Numbers) (level place number left : ℕ) (outlet ends : Outlet) (slots : ℕ) (put : List Piece) → number < block_count s level → left + total put ≡ span s level →
+    size_of outlet ≡ 8192 → size_of ends ≡ 512 → slots ≡ 0 → next_place outlet ≡ place → place ≤ outlet.at → IsHolding s level place number left outlet ends slots None put
+growing_new s level place number left outlet ends slots put below left_is size ends_size none next at = record {
   below = below;
   left_is = left_is;
   size = size;
@@ -92,26 +83,25 @@ growing_new s level frame wide place number left outlet ends slots put valid fir
 }
 
 module _ {s : Numbers} {level frame wide place number left : ℕ} {outlet ends : Outlet} {slots : ℕ} {long : Option Long} {put : List Piece}
-    (old : IsGrowing s level frame wide place number left outlet ends slots long put) where
+    (fixed : IsGrowing s level frame wide place) (old : IsHolding s level place number left outlet ends slots long put) where
   -- what isn't written is forgotten
   pub growing_again : (outlet' ends' : Outlet) (slots' : ℕ) → size_of outlet' ≡ 8192 → size_of ends' ≡ 512 → slots' ≡ 0 → next_place outlet' ≡ place → place ≤ outlet'.at →
-      IsGrowing s level frame wide place number left outlet' ends' slots' None put
+      IsHolding s level place number left outlet' ends' slots' None put
   growing_again outlet' ends' slots' size ends_size none next at =
-      growing_new s level frame wide place number left outlet' ends' slots' put old.valid old.first old.last old.within old.width_is old.place_is old.end old.below old.left_is
-      size ends_size none next at
+      growing_new s level place number left outlet' ends' slots' put old.below old.left_is size ends_size none next at
 
   -- there is room for the rest of the block
   pub growing_room : HasRoom long slots (2 ^ 62) ends outlet
   growing_room = record {
     short = λ is. let fits = one_fits (next_place outlet) (block_count s level) number slots (place + frame_len s level) old.below
         (fewer_fit (next_place outlet) (block_count s level - number) (slots + 2 * left) slots (place + frame_len s level) (omega arith) (old.short is).fits) in
-        omega (arith, fits, old.end);
-    spilt = λ l is. reaches_further l slots (place + frame_len s level) (2 ^ 62) ends outlet (omega (arith, old.end))
+        omega (arith, fits, fixed.end);
+    spilt = λ l is. reaches_further l slots (place + frame_len s level) (2 ^ 62) ends outlet (omega (arith, fixed.end))
         (reaches_fewer l (slots + 2 * left) slots (place + frame_len s level) ends outlet (omega arith) (old.spilt l is).reach);
     some = old.some;
     few = λ l is.
         let few = old.few (old.some l is) in
-        let half = span_half s old.valid level old.last in
+        let half = span_half s fixed.valid level fixed.last in
         let out : slots_out long ≡ 64 * l.words = ap slots_out is in
         omega (arith, few, half, out);
   }
@@ -144,15 +134,8 @@ module _ {s : Numbers} {level frame wide place number left : ℕ} {outlet ends :
   -- the next block
   pub growing_next : (outlet' ends' : Outlet) (slots' : ℕ) → number + 1 < block_count s level → size_of outlet' ≡ 8192 → size_of ends' ≡ 512 → slots' ≡ 0 →
       next_place outlet' ≡ closed_place long slots outlet → first_place long outlet ≤ outlet'.at →
-      IsGrowing s level frame wide place (number + 1) left outlet' ends' slots' None put
+      IsHolding s level place (number + 1) left outlet' ends' slots' None put
   growing_next outlet' ends' slots' more size ends_size none next at = record {
-    valid = old.valid;
-    first = old.first;
-    last = old.last;
-    within = old.within;
-    width_is = old.width_is;
-    place_is = old.place_is;
-    end = old.end;
     below = more;
     left_is = old.left_is;
     size = size;
@@ -176,17 +159,10 @@ module _ {s : Numbers} {level frame wide place number left : ℕ} {outlet ends :
 
   -- one piece more
   pub growing_take : (slots' count left' : ℕ) (put' : List Piece) → slots < slots' → slots' + 1 ≤ slots + 2 * count → left' + count ≡ left → total put' ≡ total put + count →
-      IsGrowing s level frame wide place number left' outlet ends slots' long put'
+      IsHolding s level place number left' outlet ends slots' long put'
   growing_take slots' count left' put' more twice less sum =
       let fewer : slots' + 2 * left' ≤ slots + 2 * left = omega (arith, twice, less) in
       record {
-        valid = old.valid;
-        first = old.first;
-        last = old.last;
-        within = old.within;
-        width_is = old.width_is;
-        place_is = old.place_is;
-        end = old.end;
         below = old.below;
         left_is = omega (arith, old.left_is, less, sum);
         size = old.size;
@@ -216,15 +192,8 @@ module _ {s : Numbers} {level frame wide place number left : ℕ} {outlet ends :
 
   -- the outlet writes
   pub growing_flushed : (outlet' : Outlet) → long ≡ None → size_of outlet' ≡ size_of outlet → next_place outlet' ≡ next_place outlet → outlet.at ≤ outlet'.at →
-      IsGrowing s level frame wide place number left outlet' ends slots long put
+      IsHolding s level place number left outlet' ends slots long put
   growing_flushed outlet' none size next at = record {
-    valid = old.valid;
-    first = old.first;
-    last = old.last;
-    within = old.within;
-    width_is = old.width_is;
-    place_is = old.place_is;
-    end = old.end;
     below = old.below;
     left_is = old.left_is;
     size = size ∙ old.size;
@@ -240,18 +209,11 @@ module _ {s : Numbers} {level frame wide place number left : ℕ} {outlet ends :
 
   -- the block is a long one
   pub growing_long : (outlet' ends' : Outlet) (l : Long) → long ≡ None → 0 < slots → size_of outlet' ≡ 8192 → size_of ends' ≡ 512 → l.begin ≡ next_place outlet → l.words ≡ 0 →
-      Reaches l (slots + 2 * left) (place + frame_len s level) ends' outlet' → IsGrowing s level frame wide place number left outlet' ends' slots (Some l) put
+      Reaches l (slots + 2 * left) (place + frame_len s level) ends' outlet' → IsHolding s level place number left outlet' ends' slots (Some l) put
   growing_long outlet' ends' l none some size ends_size begin words reach =
       let out : slots_out long ≡ 0 = ap slots_out none in
       let before = old.few some in
       record {
-        valid = old.valid;
-        first = old.first;
-        last = old.last;
-        within = old.within;
-        width_is = old.width_is;
-        place_is = old.place_is;
-        end = old.end;
         below = old.below;
         left_is = old.left_is;
         size = size;
@@ -276,19 +238,12 @@ module _ {s : Numbers} {level frame wide place number left : ℕ} {outlet ends :
   -- slots of a long block go
   pub growing_gone : (outlet' ends' : Outlet) (slots' : ℕ) (k l : Long) → long ≡ Some k → size_of outlet' ≡ 8192 → size_of ends' ≡ 512 → l.begin ≡ k.begin →
       64 * l.words + slots' ≡ 64 * k.words + slots → 0 < slots' → slots' ≤ slots →
-      Reaches l (slots + 2 * left - (slots - slots')) (place + frame_len s level) ends' outlet' → IsGrowing s level frame wide place number left outlet' ends' slots' (Some l) put
+      Reaches l (slots + 2 * left - (slots - slots')) (place + frame_len s level) ends' outlet' → IsHolding s level place number left outlet' ends' slots' (Some l) put
   growing_gone outlet' ends' slots' k l was size ends_size begin words some less reach =
       let out : slots_out long ≡ 64 * k.words = ap slots_out was in
       let before = old.few (old.some k was) in
       let left_is : slots + 2 * left - (slots - slots') ≡ slots' + 2 * left = omega (arith, less) in
       record {
-        valid = old.valid;
-        first = old.first;
-        last = old.last;
-        within = old.within;
-        width_is = old.width_is;
-        place_is = old.place_is;
-        end = old.end;
         below = old.below;
         left_is = old.left_is;
         size = size;
@@ -308,9 +263,9 @@ module _ {s : Numbers} {level frame wide place number left : ℕ} {outlet ends :
 
   -- or stay
   pub growing_kept : (outlet' ends' : Outlet) (slots' : ℕ) (k : Long) → long ≡ Some k → size_of outlet' ≡ 8192 → size_of ends' ≡ 512 → slots' ≡ slots →
-      Reaches k (slots + 2 * left) (place + frame_len s level) ends' outlet' → IsGrowing s level frame wide place number left outlet' ends' slots' long put
+      Reaches k (slots + 2 * left) (place + frame_len s level) ends' outlet' → IsHolding s level place number left outlet' ends' slots' long put
   growing_kept outlet' ends' slots' k was size ends_size same reach =
       let some = old.some k was in
-      subst (λ at. IsGrowing s level frame wide place number left outlet' ends' slots' at put) (sym was)
+      subst (λ at. IsHolding s level place number left outlet' ends' slots' at put) (sym was)
       (growing_gone outlet' ends' slots' k k was size ends_size refl (omega (arith, same)) (omega (arith, some, same)) (omega (arith, same))
       (subst (λ n. Reaches k n (place + frame_len s level) ends' outlet') (let same_left : slots + 2 * left ≡ slots + 2 * left - (slots - slots') = omega (arith, same) in same_left) reach))

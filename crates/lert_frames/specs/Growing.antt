@@ -27,7 +27,8 @@ pub record IsLong (place end blocks slots : ℕ) (l : Long) (ends outlet : Outle
   pub fits : l.begin + blocks_bytes blocks (64 * l.words + slots) ≤ end
   pub reach : Reaches l slots end ends outlet
 
-pub record IsGrowing (s : Numbers) (level frame wide place number left : ℕ) (outlet ends : Outlet) (slots : ℕ) (long : Option Long) (put : List Piece) : Type 0 where
+-- which frame it is
+pub record IsGrowing (s : Numbers) (level frame wide place : ℕ) : Type 0 where
   pub valid : IsValid s
   pub first : 1 ≤ level
   pub last : level ≤ s.levels
@@ -35,6 +36,9 @@ pub record IsGrowing (s : Numbers) (level frame wide place number left : ℕ) (o
   pub width_is : wide ≡ width s level
   pub place_is : place ≡ frame_place s level frame
   pub end : place + frame_len s level < 2 ^ 42
+
+-- and where it stands in it
+pub record IsHolding (s : Numbers) (level place number left : ℕ) (outlet ends : Outlet) (slots : ℕ) (long : Option Long) (put : List Piece) : Type 0 where
   pub below : number < block_count s level
   pub left_is : left + total put ≡ span s level
   pub size : size_of outlet ≡ 8192

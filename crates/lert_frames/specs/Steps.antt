@@ -150,6 +150,9 @@ pub record PassesWord (walk : Walk) (upto : ℕ) (old new : Decoder) : Type 0 wh
 
 -- ---- a step
 
+-- What was found are these pieces and what is found then, and a place that breaks a rule is the one that was found. Told or not,
+-- the pieces ascend from the least tail that might come, below the least one that may come then. All that was read are bytes, and
+-- the frame's end is where it was.
 pub record Steps {B : Type 0} (bays : Bays B) (before after : B) (old new : Decoder) (put : List Piece) (result : Result (Unit {0}) PieceFault) : Type 0 where
   pub gives : IfTold (bays.files before) (λ seen. OnOk result (Gives old new put (seen FRAMES)))
   pub malformed : IfTold (bays.files before) (λ seen. (at : ℕ) → IsErrOf result (Malformed at) → (decoder_found old (seen FRAMES)).left ≡ Some at)
@@ -166,3 +169,11 @@ pub record Steps {B : Type 0} (bays : Bays B) (before after : B) (old new : Deco
   pub between : (place end : ℕ) → IsBetween place end old → IsBetween place end new
   pub end : IfTold (bays.files before) (λ seen. OnOk result (decoder_end new (seen FRAMES) ≡ decoder_end old (seen FRAMES)))
   pub only_reads : OnlyReads bays before after (IsErrOf result Failed)
+
+-- and its pieces were put behind some, for which there was room
+pub record PutsBehind {B : Type 0} (bays : Bays B) (before after : B) (old new : Decoder) (pieces put : List Piece) (room left : ℕ) (result : Result (Unit {0}) PieceFault) : Type 0 where
+  pub steps : Steps bays before after old new (drop (length pieces) put) result
+  pub kept : take (length pieces) put ≡ pieces
+  pub none : OnErr result (put ≡ pieces)
+  pub few : length put ≤ length pieces + 64
+  pub capacity : left ≡ room

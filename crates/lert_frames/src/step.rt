@@ -8,7 +8,7 @@ ghost use Rattle.lert_blocks.specs.Frame.{blocks_found, blocks_len};
 ghost use Rattle.lert_blocks.specs.Walk.{nothing};
 ghost use Rattle.lert_frames.specs.Decoded.{decoder_end, decoder_floor, decoder_found, decoder_limit, work_of, Gives, IsBetween};
 ghost use Rattle.lert_frames.specs.Place.{blocks_bytes};
-ghost use Rattle.lert_frames.specs.Steps.{PassesWord, ReadsWord, Steps};
+ghost use Rattle.lert_frames.specs.Steps.{PassesWord, PutsBehind, ReadsWord, Steps};
 ghost use Rattle.lert_frames.specs.Window.{count_of, place_of, IsRead};
 ghost use Rattle.lert_spec.specs.Table.{AscendsFrom};
 
@@ -160,35 +160,7 @@ impl Decoder {
     pub fn step<B: Bay>(&mut self, bay: &mut B, pieces: &mut Vec<Piece>) -> Result<(), PieceFault>
         requires more { 0 < work_of self.old }
         requires room { length pieces.old.items + 64 ≤ vec_capacity pieces.old }
-
-        // What is found are the new pieces and what is found then; a place that breaks a rule is the one that is found.
-        ensures gives { IfTold (B.files bay.old) (λ seen. OnOk result
-            (Gives self.old self.new (drop (length pieces.old.items) pieces.new.items) (seen FRAMES))) }
-        ensures malformed { IfTold (B.files bay.old) (λ seen. (at : ℕ) → IsErrOf result (PieceFault.Malformed at) →
-            (decoder_found self.old (seen FRAMES)).left ≡ Some at) }
-        ensures refused { IfTold (B.files bay.old) (λ seen. OnErr result (decoder_found self.new (seen FRAMES) ≡ decoder_found self.old (seen FRAMES))) }
-
-        // Told or not, the new pieces ascend from the least tail that might come, below the least one that may come then.
-        ensures ascend { OnOk result (AscendsFrom (decoder_floor self.old) (decoder_floor self.new) (drop (length pieces.old.items) pieces.new.items)) }
-        ensures counts { OnOk result (All (λ piece. piece.count ≤ 2 ^ 47) (drop (length pieces.old.items) pieces.new.items)) }
-        ensures floor { decoder_floor self.old ≤ decoder_floor self.new }
-        ensures limit { decoder_limit self.new ≡ decoder_limit self.old }
-        ensures bounded { decoder_floor self.new ≤ decoder_limit self.new }
-
-        ensures kept { take (length pieces.old.items) pieces.new.items ≡ pieces.old.items }
-        ensures none { OnErr result (pieces.new.items ≡ pieces.old.items) }
-        ensures few { length pieces.new.items ≤ length pieces.old.items + 64 }
-        ensures capacity { vec_capacity pieces.new ≡ vec_capacity pieces.old }
-        ensures work { OnOk result (work_of self.new < work_of self.old) }
-        ensures stays { OnErr result (work_of self.new ≡ work_of self.old) }
-
-        // All that was read are bytes, and the frame's end is where it was.
-        ensures read { IfTold (B.files bay.old) (λ seen. (from : ℕ) → from ≤ place_of self.old.window → IsRead self.old.window from (seen FRAMES) →
-            IsRead self.new.window from (seen FRAMES)) }
-        ensures moves { place_of self.old.window ≤ place_of self.new.window }
-        ensures between { (place end : ℕ) → IsBetween place end self.old → IsBetween place end self.new }
-        ensures end { IfTold (B.files bay.old) (λ seen. OnOk result (decoder_end self.new (seen FRAMES) ≡ decoder_end self.old (seen FRAMES))) }
-        ensures only_reads { OnlyReads B.Bay bay.old bay.new (IsErrOf result PieceFault.Failed) }
+        ensures { PutsBehind B.Bay bay.old bay.new self.old self.new pieces.old.items pieces.new.items (vec_capacity pieces.old) (vec_capacity pieces.new) result }
     {
         if self.block.some == 0 {
             self.begin(bay)
@@ -214,11 +186,7 @@ impl Decoder {
     fn word<B: Bay>(&mut self, bay: &mut B, pieces: &mut Vec<Piece>) -> Result<(), PieceFault>
         requires some { 0 < self.old.block.some }
         requires room { length pieces.old.items + 64 ≤ vec_capacity pieces.old }
-        ensures steps { Steps B.Bay bay.old bay.new self.old self.new (drop (length pieces.old.items) pieces.new.items) result }
-        ensures kept { take (length pieces.old.items) pieces.new.items ≡ pieces.old.items }
-        ensures none { OnErr result (pieces.new.items ≡ pieces.old.items) }
-        ensures few { length pieces.new.items ≤ length pieces.old.items + 64 }
-        ensures capacity { vec_capacity pieces.new ≡ vec_capacity pieces.old }
+        ensures { PutsBehind B.Bay bay.old bay.new self.old self.new pieces.old.items pieces.new.items (vec_capacity pieces.old) (vec_capacity pieces.new) result }
     {
         let word = self.read_word(bay)?;
         let len = pieces.len();

@@ -26,7 +26,8 @@ pub struct Window {
 }
 
 impl Window {
-    ghost use Rattle.std.specs.Prelude.{◌↔◌, ◌++◌, [], IsTrue, IsFalse, OnOk, OnErr};
+    ghost use Rattle.std.specs.Prelude.{◌↔◌, ◌++◌, [], IsTrue, IsFalse, OnOk};
+    ghost use Rattle.lert_frames.specs.Steps.{ReadsAhead};
     ghost use Rattle.lert_frames.specs.Window.{at_hand, count_of, place_of, room_of, to_come, IsRead};
 
     /// A window with a buffer of `len` bytes, and nothing at hand. Its only error is want of memory.
@@ -110,16 +111,7 @@ impl Window {
         // The answer is right, and where it is no, the file ends behind what is at hand.
         ensures enough { IfOk result (λ enough. IsTrue enough ↔ (count ≤ count_of self.new)) }
         ensures ends { IfTold (B.files bay.old) (λ seen. IfOk result (λ enough. IsFalse enough → at_hand self.new ≡ to_come self.old (seen FRAMES))) }
-
-        // What is to come stays, and so does what is known of it.
-        ensures told { IfTold (B.files bay.old) (λ seen. to_come self.new (seen FRAMES) ≡ to_come self.old (seen FRAMES)) }
-        ensures failed { OnErr result ((file : List ℕ) → to_come self.new file ≡ to_come self.old file) }
-        ensures unread { OnErr result ((at_hand self.new ≡ at_hand self.old) × (self.new.at ≡ self.old.at)) }
-        ensures read { IfTold (B.files bay.old) (λ seen. (from : ℕ) → from ≤ self.old.at → IsRead self.old from (seen FRAMES) → IsRead self.new from (seen FRAMES)) }
-        ensures small { AreBytes (at_hand self.new) }
-        ensures place { place_of self.new ≡ place_of self.old }
-        ensures grows { count_of self.old ≤ count_of self.new }
-        ensures room { room_of self.new ≡ room_of self.old }
+        ensures ahead { ReadsAhead B.Bay bay.old self.old self.new }
         ensures only_reads { OnlyReads B.Bay bay.old bay.new (IsErr result) }
     {
         if self.at_hand().len() >= count {
@@ -133,13 +125,7 @@ impl Window {
     fn fill<B: Bay>(&mut self, bay: &mut B) -> Result<(), Failed>
         requires { place_of self.old + room_of self.old < 2 ^ 63 }
         ensures full { IfTold (B.files bay.old) (λ seen. OnOk result (count_of self.new < room_of self.new → at_hand self.new ≡ to_come self.old (seen FRAMES))) }
-        ensures told { IfTold (B.files bay.old) (λ seen. to_come self.new (seen FRAMES) ≡ to_come self.old (seen FRAMES)) }
-        ensures failed { OnErr result ((file : List ℕ) → to_come self.new file ≡ to_come self.old file) }
-        ensures unread { OnErr result ((at_hand self.new ≡ at_hand self.old) × (self.new.at ≡ self.old.at)) }
-        ensures read { IfTold (B.files bay.old) (λ seen. (from : ℕ) → from ≤ self.old.at → IsRead self.old from (seen FRAMES) → IsRead self.new from (seen FRAMES)) }
-        ensures place { place_of self.new ≡ place_of self.old }
-        ensures grows { count_of self.old ≤ count_of self.new }
-        ensures room { room_of self.new ≡ room_of self.old }
+        ensures ahead { ReadsAhead B.Bay bay.old self.old self.new }
         ensures only_reads { OnlyReads B.Bay bay.old bay.new (IsErr result) }
     {
         self.move_to_front();

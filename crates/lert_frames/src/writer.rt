@@ -7,7 +7,7 @@ ghost use Rattle.lert_bay.specs.Kept.{KeepsBay};
 ghost use Rattle.lert_blocks.specs.Filling.{IsFilled};
 ghost use Rattle.lert_blocks.specs.Text.{quotient_of};
 ghost use Rattle.lert_frames.specs.Frame.{HoldsFrame};
-ghost use Rattle.lert_frames.specs.Growing.{IsGrowing};
+ghost use Rattle.lert_frames.specs.Growing.{IsGrowing, IsHolding};
 ghost use Rattle.lert_frames.specs.Kept.{KeepsOutside, WritesWithin};
 ghost use Rattle.lert_frames.specs.Outlet.{IsOut, next_place, size_of};
 ghost use Rattle.lert_frames.specs.Place.{block_count, frame_len, frame_place, tail_limit};
@@ -52,7 +52,8 @@ pub struct FrameWriter {
     block: Block,
     long: Option<Long>,
     put: Seen<Piece>,
-    ghost growing: { IsGrowing settings level frame width place number left outlet ends block.len long put },
+    ghost growing: { IsGrowing settings level frame width place },
+    ghost holding: { IsHolding settings level place number left outlet ends block.len long put },
     ghost given: { AreGiven (tail_limit settings) put } by { given_prop (tail_limit settings) put },
 }
 

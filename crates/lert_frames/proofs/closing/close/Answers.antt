@@ -1,7 +1,6 @@
 use Rattle.std.proofs.Common.{◌≡◌, ℕ, ◌+◌, ◌*◌, ◌^◌, ◌≤◌, Option, Result, sym, subst, arith}
 use Rattle.std.specs.Prelude.{Ok, Err, OnOk}
 use Rattle.lert_bay.specs.declared.bay.TheConstants.{FRAMES}
-use Rattle.lert_bay.specs.Kept.{Bays}
 use Rattle.lert_blocks.specs.Text.{block_text}
 use Rattle.lert_blocks.proofs.LengthLaws.{block_text_len}
 use Rattle.lert_frames.specs.declared.long.Long.{Long}
@@ -14,17 +13,6 @@ use Rattle.lert_frames.proofs.OrderLaws.{here, at_least}
 use Rattle.lert_frames.proofs.WriteLaws.{on_ok}
 use Rattle.lert_frames.proofs.closing.close.Given as given
 use Rattle.lert_frames.proofs.closing.close.Goals as goal
-
-abbrev bays : (g : given.Over) → Bays g.row.B.Denot
-bays g = record {
-  faults = g.B.Faulty.faults;
-  mark = g.B.Faulty.mark;
-  files = g.B.Bay.files;
-  leaves = g.B.Bay.leaves;
-  moment = g.B.Bay.moment;
-  left_since = g.B.Bay.left_since;
-  handed_out = g.B.Bay.handed_out;
-}
 
 -- whatever it answers
 if_ok : {T E : Type 0} (P : Type 0) (result : Result T E) → P → OnOk result P
@@ -91,7 +79,7 @@ returns-in-Some g c =
           let begins = behind.begins l c.in-Some.is in
           let last = next_place c.args.outlet.now + 8 * b.len in
           let reach = c.requires.room.spilt l c.in-Some.is in
-          let before = before_stays (bays g) l.begin last _ _ seen later told told_later (done.writes l.begin last (here l.begin) (here last)).within
+          let before = before_stays _ l.begin last _ _ seen later told told_later (done.writes l.begin last (here l.begin) (here last)).within
           (begin_before l b.len c.args.ends.now c.args.outlet.now reach) place text begins (behind.before l c.in-Some.is) in
           let long = block_text_len width number 0 limit pieces up in
           three_ok _ _ _ _ c.close_long.result (done.there seen told later told_later width number limit pieces up spilt) done.place done.empty

@@ -1,28 +1,17 @@
 use Rattle.std.proofs.Common.{◌≤◌, ◌∙◌, ◌++◌, refl, sym, subst}
 use Rattle.std.proofs.lemmas.Result.{err_from_is_err_and}
 use Rattle.lert_bay.specs.declared.bay.TheConstants.{FRAMES}
-use Rattle.lert_bay.specs.Kept.{Bays}
 use Rattle.lert_bay.proofs.KeptLaws.{IsLawful}
 use Rattle.lert_blocks.specs.Text.{block_text}
 use Rattle.lert_frames.specs.Spilt.{first_place, last_place}
 use Rattle.lert_frames.proofs.CallLaws.{both_ok, told_then, writes_as, writes_on}
 use Rattle.lert_frames.proofs.OutletLaws.{out_whole}
 use Rattle.lert_frames.proofs.OrderLaws.{here, at_least}
+use Rattle.lert_frames.specs.Calls.{bays_of}
 use Rattle.lert_frames.proofs.closing.close_last.Given as given
 use Rattle.lert_frames.proofs.closing.close_last.Goals as goal
 
-abbrev bays : (g : given.Over) → Bays g.row.B.Denot
-bays g = record {
-  faults = g.B.Faulty.faults;
-  mark = g.B.Faulty.mark;
-  files = g.B.Bay.files;
-  leaves = g.B.Bay.leaves;
-  moment = g.B.Bay.moment;
-  left_since = g.B.Bay.left_since;
-  handed_out = g.B.Bay.handed_out;
-}
-
-lawful : (g : given.Over) → IsLawful (bays g)
+lawful : (g : given.Over) → IsLawful (bays_of g.B.Faulty g.B.Bay)
 lawful g = record { as_read = g.met.B.Bay.as_read; since_now = g.met.B.Bay.since_now; only_now = g.met.B.Bay.only_now; since_earlier = g.met.B.Bay.since_earlier }
 
 pub close-requires : goal.close-requires
@@ -36,7 +25,7 @@ returns-in_err-close g c =
       there = λ seen told later told_later place width number limit text pieces up behind. tt;
       size = closed.size;
       ends_size = closed.ends_size;
-      writes = λ begin end low high last. writes_as (bays g) (lawful g) begin end _ _ _ _ (λ _. refl) (closed.writes begin end low high);
+      writes = λ begin end low high last. writes_as _ (lawful g) begin end _ _ _ _ (λ _. refl) (closed.writes begin end low high);
     })
 
 pub returns : goal.returns
@@ -47,7 +36,7 @@ returns g c =
       there = λ seen told later told_later place width number limit text pieces up behind.
           let first = first_place c.args.long c.args.outlet.now in
           let last = last_place c.args.long c.args.block.now.len c.args.outlet.now in
-          let mid = told_then (bays g) first last _ _ seen (closed.writes first last (here first) (here last)).within told in
+          let mid = told_then _ first last _ _ seen (closed.writes first last (here first) (here last)).within told in
           let all = text ++ block_text width number pieces in
           both_ok _ _ _ c.flush.result
           (flushed.out mid.0 mid.1 later told_later place all (closed.out seen told mid.0 mid.1 place width number limit text pieces up behind))
@@ -55,6 +44,6 @@ returns g c =
       size = flushed.size ∙ closed.size;
       ends_size = closed.ends_size;
       writes = λ begin end low high last.
-          writes_on (bays g) (lawful g) begin end _ _ _ _ _ (closed.writes begin end low high)
+          writes_on _ (lawful g) begin end _ _ _ _ _ (closed.writes begin end low high)
           (record { within = flushed.within begin end (at_least low closed.at) (subst (λ n. n ≤ end) (sym closed.place) last); kept = flushed.kept });
     }

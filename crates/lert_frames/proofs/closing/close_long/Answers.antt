@@ -5,7 +5,6 @@ use Rattle.std.proofs.lemmas.List.{length-take-le}
 use Rattle.std.specs.Int.{div_ceil}
 use Rattle.lert_bay.specs.declared.bay.TheConstants.{FRAMES}
 use Rattle.byteorder.specs.Endian.{little_bytes}
-use Rattle.lert_bay.specs.Kept.{Bays}
 use Rattle.lert_bay.specs.Settled.{part}
 use Rattle.lert_bay.proofs.KeptLaws.{IsLawful}
 use Rattle.lert_blocks.specs.declared.block.Block.{Block}
@@ -22,21 +21,11 @@ use Rattle.lert_frames.proofs.CallLaws.{writes_on, writes_as, told_then}
 use Rattle.lert_frames.proofs.ClosingLaws.{long_text, moved_as, ends_written, slots_written, parts_stay}
 use Rattle.lert_frames.proofs.OutletLaws.{out_reaches, out_within}
 use Rattle.lert_frames.proofs.WriteLaws.{on_ok}
+use Rattle.lert_frames.specs.Calls.{bays_of}
 use Rattle.lert_frames.proofs.closing.close_long.Given as given
 use Rattle.lert_frames.proofs.closing.close_long.Goals as goal
 
-abbrev bays : (g : given.Over) → Bays g.row.B.Denot
-bays g = record {
-  faults = g.B.Faulty.faults;
-  mark = g.B.Faulty.mark;
-  files = g.B.Bay.files;
-  leaves = g.B.Bay.leaves;
-  moment = g.B.Bay.moment;
-  left_since = g.B.Bay.left_since;
-  handed_out = g.B.Bay.handed_out;
-}
-
-lawful : (g : given.Over) → IsLawful (bays g)
+lawful : (g : given.Over) → IsLawful (bays_of g.B.Faulty g.B.Bay)
 lawful g = record { as_read = g.met.B.Bay.as_read; since_now = g.met.B.Bay.since_now; only_now = g.met.B.Bay.only_now; since_earlier = g.met.B.Bay.since_earlier }
 
 -- whatever it answers
@@ -177,7 +166,7 @@ returns-in_err-write_numbers g c =
       ends_size = one.size ∙ c.requires.ends_size;
       writes = λ begin end low high.
           let first = begin_first l b.len (2 ^ 62) e o c.requires.reach begin low in
-          writes_as (bays g) (lawful g) begin end _ _ _ _ (λ _. refl) (one.writes begin end first.0 (wrote_ends l b e o c.requires.reach c.ends.result.now c.ends.ensures.value end high));
+          writes_as _ (lawful g) begin end _ _ _ _ (λ _. refl) (one.writes begin end first.0 (wrote_ends l b e o c.requires.reach c.ends.result.now c.ends.ensures.value end high));
     })
 
 pub returns-in_err-write_numbers-2 : goal.returns-in_err-write_numbers-2
@@ -197,8 +186,8 @@ returns-in_err-write_numbers-2 g c =
       ends_size = one.size ∙ c.requires.ends_size;
       writes = λ begin end low high.
           let first = begin_first l b.len (2 ^ 62) e o c.requires.reach begin low in
-          writes_on (bays g) (lawful g) begin end _ _ _ _ _ (one.writes begin end first.0 (wrote_ends l b e o c.requires.reach c.ends.result.now c.ends.ensures.value end high))
-          (writes_as (bays g) (lawful g) begin end _ _ _ _ (λ _. refl) (two.writes begin end first.1 (wrote_slots l b e o c.requires.reach c.slots.result.now c.slots.ensures end high)));
+          writes_on _ (lawful g) begin end _ _ _ _ _ (one.writes begin end first.0 (wrote_ends l b e o c.requires.reach c.ends.result.now c.ends.ensures.value end high))
+          (writes_as _ (lawful g) begin end _ _ _ _ (λ _. refl) (two.writes begin end first.1 (wrote_slots l b e o c.requires.reach c.slots.result.now c.slots.ensures end high)));
     })
 
 pub returns-in_err-move_down : goal.returns-in_err-move_down
@@ -223,10 +212,10 @@ returns-in_err-move_down g c =
       ends_size = one.size ∙ c.requires.ends_size;
       writes = λ begin end low high.
           let first = begin_first l b.len (2 ^ 62) e o reach begin low in
-          writes_on (bays g) (lawful g) begin end _ _ _ _ _
-          (writes_on (bays g) (lawful g) begin end _ _ _ _ _ (one.writes begin end first.0 (wrote_ends l b e o reach c.ends.result.now c.ends.ensures.value end high))
+          writes_on _ (lawful g) begin end _ _ _ _ _
+          (writes_on _ (lawful g) begin end _ _ _ _ _ (one.writes begin end first.0 (wrote_ends l b e o reach c.ends.result.now c.ends.ensures.value end high))
           (two.writes begin end first.1 (wrote_slots l b e o reach c.slots.result.now c.slots.ensures end high)))
-          (writes_as (bays g) (lawful g) begin end _ _ _ _ (λ _. refl) (three.writes begin end (low_as low c.div_ceil.result refl) (at_least moved.1 high)));
+          (writes_as _ (lawful g) begin end _ _ _ _ (λ _. refl) (three.writes begin end (low_as low c.div_ceil.result refl) (at_least moved.1 high)));
     })
 
 pub returns : goal.returns
@@ -256,7 +245,7 @@ returns g c =
           let slots_call = two.writes l.slots last reach.slots_at (wrote_slots l b e o reach c.slots.result.now c.slots.ensures last (here last)) in
           let moved = three.writes target (target + 8 * n) (subst (λ t. target ≤ t) (sym goal_at) (here target)) (same_end _ target _ n goal_at count) in
           let wrote_head = c.write_head.ensures.writes l.begin (l.begin + 12) (here l.begin) (here (l.begin + 12)) in
-          let first = told_then (bays g) (l.begin + 12) l.slots _ _ seen ends_call.within told in
+          let first = told_then _ (l.begin + 12) l.slots _ _ seen ends_call.within told in
           let ends_out = one.out seen told first.0 first.1 (l.begin + 12) _ spilt.ends_out in
           let within = bits_there m b.len (ends_of width pieces) (length_left width number (64 * m) pieces b spilt.filled b.sized.2 b.sized.1) c.requires.some in
           let ends_end : c.write_numbers.new.outlet.at ≡ target =
@@ -269,17 +258,17 @@ returns g c =
           let ends_there : target ≤ length (first.0 FRAMES) =
           subst (λ t. t ≤ length (first.0 FRAMES)) ends_end
           (out_reaches (l.begin + 12) _ (first.0 FRAMES) c.write_numbers.new.outlet ends_out (subst (λ t. l.begin + 12 < t) (sym ends_end) (words_behind l.begin n some))) in
-          let slots_first = out_within (bays g) (l.begin + 12) l.slots l.slots _ o _ _ seen first.0 told first.1 ends_call.within (ends_fit l b.len (2 ^ 62) e o reach).2 (inr (here l.slots))
+          let slots_first = out_within _ (l.begin + 12) l.slots l.slots _ o _ _ seen first.0 told first.1 ends_call.within (ends_fit l b.len (2 ^ 62) e o reach).2 (inr (here l.slots))
           spilt.slots_out in
           let parts =
-          parts_stay (bays g) _ _ _ _ first.0 later first.1 told_later l.begin target l.slots last n (low_words l.begin (word_count n)) places.0 (before_end l.slots n last places.2) some
+          parts_stay _ _ _ _ _ first.0 later first.1 told_later l.begin target l.slots last n (low_words l.begin (word_count n)) places.0 (before_end l.slots n last places.2) some
           slots_call.within moved.within wrote_head.within (numbers_text (words_of (ends_of width pieces))) (numbers_text (slots_of width pieces)) ends_there ends_first
           (length-numbers_text (slots_of width pieces) ∙ ap (λ k. 8 * k) (sym spilt.filled.skipped))
           (λ second told_second. slots_written l.slots (64 * m) n (slots_of width pieces) c.slots.result.now (second FRAMES) c.write_numbers-2.new.outlet (c.slots.ensures ∙ spilt.filled.slots)
           (sym spilt.filled.skipped) (two.out first.0 first.1 second told_second l.slots _ slots_first) two.empty)
           (λ second third told_second told_third longer. moved_as (second FRAMES) (third FRAMES) l.slots _ target _ n goal_at count longer (three.moved second told_second third told_third)) in
-          let second = told_then (bays g) l.slots last _ _ first.0 slots_call.within first.1 in
-          let third = told_then (bays g) target (target + 8 * n) _ _ second.0 moved.within second.1 in
+          let second = told_then _ l.slots last _ _ first.0 slots_call.within first.1 in
+          let third = told_then _ target (target + 8 * n) _ _ second.0 moved.within second.1 in
           on_ok _ _ c.write_head.result (c.write_head.ensures.there third.0 third.1 later told_later) (λ head.
           long_text width number m pieces b spilt.filled (omega arith) (later FRAMES) l.begin target c.move_down.new.outlet.at (low_words l.begin (word_count n))
           (slots_behind target n _ some at_is) at_is
@@ -292,9 +281,9 @@ returns g c =
       writes = λ begin end low high.
           let first = begin_first l b.len (2 ^ 62) e o reach begin low in
           let moved = moved_places l b.len (2 ^ 62) e o reach (64 * m + length c.slots-2.result.now) c.div_ceil.result count ceil in
-          writes_on (bays g) (lawful g) begin end _ _ _ _ _
-          (writes_on (bays g) (lawful g) begin end _ _ _ _ _
-          (writes_on (bays g) (lawful g) begin end _ _ _ _ _ (one.writes begin end first.0 (wrote_ends l b e o reach c.ends.result.now ends_are end high))
+          writes_on _ (lawful g) begin end _ _ _ _ _
+          (writes_on _ (lawful g) begin end _ _ _ _ _
+          (writes_on _ (lawful g) begin end _ _ _ _ _ (one.writes begin end first.0 (wrote_ends l b e o reach c.ends.result.now ends_are end high))
           (two.writes begin end first.1 (wrote_slots l b e o reach c.slots.result.now c.slots.ensures end high)))
           (three.writes begin end (low_as low c.div_ceil.result refl) (at_least moved.1 high)))
           (c.write_head.ensures.writes begin end low (at_least places.3 high));

@@ -5,24 +5,13 @@ use Rattle.lert_bay.specs.declared.bay.TheConstants.{FRAMES}
 use Rattle.lert_blocks.specs.Text.{numbers_text}
 use Rattle.lert_frames.specs.Outlet.{next_place}
 use Rattle.lert_frames.proofs.CallLaws.{writes_on, writes_as, told_then}
-use Rattle.lert_bay.specs.Kept.{Bays}
 use Rattle.lert_bay.proofs.KeptLaws.{IsLawful}
 use Rattle.lert_frames.proofs.OrderLaws.{here}
+use Rattle.lert_frames.specs.Calls.{bays_of}
 use Rattle.lert_frames.proofs.closing.write_numbers.Given as given
 use Rattle.lert_frames.proofs.closing.write_numbers.Goals as goal
 
-abbrev bays : (g : given.Over) → Bays g.row.B.Denot
-bays g = record {
-  faults = g.B.Faulty.faults;
-  mark = g.B.Faulty.mark;
-  files = g.B.Bay.files;
-  leaves = g.B.Bay.leaves;
-  moment = g.B.Bay.moment;
-  left_since = g.B.Bay.left_since;
-  handed_out = g.B.Bay.handed_out;
-}
-
-lawful : (g : given.Over) → IsLawful (bays g)
+lawful : (g : given.Over) → IsLawful (bays_of g.B.Faulty g.B.Bay)
 lawful g = record { as_read = g.met.B.Bay.as_read; since_now = g.met.B.Bay.since_now; only_now = g.met.B.Bay.only_now; since_earlier = g.met.B.Bay.since_earlier }
 
 -- whatever it answers
@@ -54,7 +43,7 @@ returns-in_err-make_room g c =
       empty = tt;
       place = tt;
       size = made.size;
-      writes = λ begin end low high. writes_as (bays g) (lawful g) begin end _ _ _ _ (λ _. refl) (made.writes begin end low (room_before _ _ end high));
+      writes = λ begin end low high. writes_as _ (lawful g) begin end _ _ _ _ (λ _. refl) (made.writes begin end low (room_before _ _ end high));
     })
 
 pub returns : goal.returns
@@ -66,13 +55,13 @@ returns g c =
     let place : next_place c.put_numbers.new.self ≡ next_place o + 8 * length c.args.numbers.now = put.place ∙ ap (λ n. n + 8 * length c.args.numbers.now) made.place in
     record {
       out = λ seen told later told_later begin text out.
-          let between = told_then (bays g) o.at (next_place o) _ _ seen (made.writes o.at (next_place o) (here o.at) (here (next_place o))).within told in
+          let between = told_then _ o.at (next_place o) _ _ seen (made.writes o.at (next_place o) (here o.at) (here (next_place o))).within told in
           flushed.out between.0 between.1 later told_later begin (text ++ numbers_text c.args.numbers.now)
           (put.out begin text (between.0 FRAMES) (made.out seen told between.0 between.1 begin text out));
       empty = flushed.written;
       place = if_ok _ c.flush.result (flushed.place ∙ place);
       size = flushed.size ∙ (put.size ∙ made.size);
       writes = λ begin end low high.
-          writes_on (bays g) (lawful g) begin end _ _ _ _ _ (made.writes begin end low (room_before _ _ end high))
+          writes_on _ (lawful g) begin end _ _ _ _ _ (made.writes begin end low (room_before _ _ end high))
           (record { within = flushed.within begin end (low_as begin o.at _ _ low made.at put.at) (subst (λ n. n ≤ end) (sym place) high); kept = flushed.kept });
     }

@@ -2,27 +2,16 @@ use Rattle.std.proofs.Common.{◌≡◌, ℕ, ◌<◌, ◌≤◌, ◌∙◌, Boo
 use Rattle.std.specs.Prelude.{◌↔◌, IsTrue}
 use Rattle.std.proofs.lemmas.Bool.{cases_lt, false≢true}
 use Rattle.std.proofs.lemmas.Result.{err_from_is_err_and}
-use Rattle.lert_bay.specs.Kept.{Bays}
 use Rattle.lert_bay.proofs.KeptLaws.{IsLawful, reads_as, reads_on}
 use Rattle.lert_frames.specs.Window.{count_of}
 use Rattle.lert_frames.proofs.FaultLaws.{fault_is, no_place, not_err}
 use Rattle.lert_frames.proofs.FieldLaws.{length_hand}
 use Rattle.lert_frames.proofs.WriteLaws.{same_err}
+use Rattle.lert_frames.specs.Calls.{bays_of}
 use Rattle.lert_frames.proofs.ending.demand.Given as given
 use Rattle.lert_frames.proofs.ending.demand.Goals as goal
 
-abbrev bays : (g : given.Over) → Bays g.row.B.Denot
-bays g = record {
-  faults = g.B.Faulty.faults;
-  mark = g.B.Faulty.mark;
-  files = g.B.Bay.files;
-  leaves = g.B.Bay.leaves;
-  moment = g.B.Bay.moment;
-  left_since = g.B.Bay.left_since;
-  handed_out = g.B.Bay.handed_out;
-}
-
-lawful : (g : given.Over) → IsLawful (bays g)
+lawful : (g : given.Over) → IsLawful (bays_of g.B.Faulty g.B.Bay)
 lawful g = record { as_read = g.met.B.Bay.as_read; since_now = g.met.B.Bay.since_now; only_now = g.met.B.Bay.only_now; since_earlier = g.met.B.Bay.since_earlier }
 
 pub returns-in_err-need : goal.returns-in_err-need
@@ -34,7 +23,7 @@ returns-in_err-need g c =
       short = λ seen told at is. absurd (no_place at _ asked.failed (fault_is _ _ is));
       end = λ seen told at is. absurd (no_place at _ asked.failed (fault_is _ _ is));
       ahead = asked.ahead;
-      only_reads = reads_as (bays g) (lawful g) c.args.bay.now c.need.new.bay _ _ (λ is. same_err _ _ is) asked.only_reads;
+      only_reads = reads_as _ (lawful g) c.args.bay.now c.need.new.bay _ _ (λ is. same_err _ _ is) asked.only_reads;
     })
 
 -- what isn't at hand is missing
@@ -52,7 +41,7 @@ returns-then-branch g c =
       short = λ seen told at is. absurd (not_err _ _ is);
       end = λ seen told at is. absurd (not_err _ _ is);
       ahead = asked.ahead;
-      only_reads = reads_as (bays g) (lawful g) c.args.bay.now c.need.new.bay _ _ (λ is. absurd (not_err _ _ is)) asked.only_reads;
+      only_reads = reads_as _ (lawful g) c.args.bay.now c.need.new.bay _ _ (λ is. absurd (not_err _ _ is)) asked.only_reads;
     }
 
 pub returns : goal.returns
@@ -68,6 +57,6 @@ returns g c =
           subst (λ n. n < c.args.count) (sym (length_hand w) ∙ all) (missing c.in_ok-need.field-0 c.args.count (count_of w) c.if-branch.false asked.enough);
       end = λ seen told at is. c.file_end.ensures.told seen (asked.only_reads.seen ∙ told) at (fault_is _ _ is);
       ahead = asked.ahead;
-      only_reads = reads_on (bays g) (lawful g) before between c.file_end.new.bay _ _ asked.only_reads
-          (reads_as (bays g) (lawful g) between c.file_end.new.bay _ _ (λ is. fault_is _ _ is) c.file_end.ensures.only_reads);
+      only_reads = reads_on _ (lawful g) before between c.file_end.new.bay _ _ asked.only_reads
+          (reads_as _ (lawful g) between c.file_end.new.bay _ _ (λ is. fault_is _ _ is) c.file_end.ensures.only_reads);
     }

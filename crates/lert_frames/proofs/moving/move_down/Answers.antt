@@ -8,11 +8,11 @@ use Rattle.lert_frames.proofs.CallLaws.{writes_none, writes_on, writes_as, write
 use Rattle.lert_frames.proofs.OutletLaws.{out_all}
 use Rattle.lert_frames.proofs.PartLaws.{part_is, part_join}
 use Rattle.lert_frames.proofs.WithinLaws.{part_within}
+use Rattle.lert_frames.specs.Calls.{bays_of}
 use Rattle.lert_frames.proofs.moving.move_down.Given as given
-use Rattle.lert_frames.proofs.moving.move_down.Invariants.{bays}
 use Rattle.lert_frames.proofs.moving.move_down.Goals as goal
 
-lawful : (g : given.Over) → IsLawful (bays g)
+lawful : (g : given.Over) → IsLawful (bays_of g.B.Faulty g.B.Bay)
 lawful g = record { as_read = g.met.B.Bay.as_read; since_now = g.met.B.Bay.since_now; only_now = g.met.B.Bay.only_now; since_earlier = g.met.B.Bay.since_earlier }
 
 pub returns-in_err-move_part : goal.returns-in_err-move_part
@@ -26,9 +26,9 @@ returns-in_err-move_part g c =
       place = tt;
       size = step.size ∙ inv.size;
       writes = λ begin end low high.
-          writes_on (bays g) (lawful g) begin end _ _ _ _ _
-          (writes_wider (bays g) c.args.to (c.args.to + c.loop-moved.moved) begin end _ _ _ low (omega arith) (omega (arith, inv.some, high)) inv.writes)
-          (writes_as (bays g) (lawful g) begin end _ _ _ _ (λ _. refl) (step.writes begin end (omega (arith, inv.place)) (omega (arith, inv.place))));
+          writes_on _ (lawful g) begin end _ _ _ _ _
+          (writes_wider _ c.args.to (c.args.to + c.loop-moved.moved) begin end _ _ _ low (omega arith) (omega (arith, inv.some, high)) inv.writes)
+          (writes_as _ (lawful g) begin end _ _ _ _ (λ _. refl) (step.writes begin end (omega (arith, inv.place)) (omega (arith, inv.place))));
     })
 
 pub returns-clause-empty : goal.returns-clause-empty
@@ -51,14 +51,14 @@ loop-moved-preserved g c =
       empty = step.empty;
       place = omega (arith, step.place, inv.place);
       size = step.size ∙ inv.size;
-      writes = writes_on (bays g) (lawful g) to (to + (moved + more)) _ _ _ _ _
-          (writes_wider (bays g) to (to + moved) to (to + (moved + more)) _ _ _ (omega arith) (omega arith) (omega arith) inv.writes)
-          (writes_as (bays g) (lawful g) to (to + (moved + more)) _ _ _ _ (λ never. absurd never) (step.writes to (to + (moved + more)) (omega (arith, inv.place)) (omega (arith, inv.place))));
+      writes = writes_on _ (lawful g) to (to + (moved + more)) _ _ _ _ _
+          (writes_wider _ to (to + moved) to (to + (moved + more)) _ _ _ (omega arith) (omega arith) (omega arith) inv.writes)
+          (writes_as _ (lawful g) to (to + (moved + more)) _ _ _ _ (λ never. absurd never) (step.writes to (to + (moved + more)) (omega (arith, inv.place)) (omega (arith, inv.place))));
       out = λ seen told later told_later within.
-          let mid = told_then (bays g) to (to + moved) _ _ seen inv.writes.within told in
-          let longer = no_shorter (bays g) to (to + moved) _ _ seen mid.0 inv.writes.within told mid.1 in
+          let mid = told_then _ to (to + moved) _ _ seen inv.writes.within told in
+          let longer = no_shorter _ to (to + moved) _ _ seen mid.0 inv.writes.within told mid.1 in
           let there = step.out mid.0 mid.1 later told_later (omega (arith, within, longer, few)) to _ (inv.out seen told mid.0 mid.1 within) in
-          let same = part_within (bays g) to (to + moved) _ _ seen mid.0 told mid.1 inv.writes.within (from + moved) (from + moved + more) (omega (arith, within, few)) (omega arith)
+          let same = part_within _ to (to + moved) _ _ seen mid.0 told mid.1 inv.writes.within (from + moved) (from + moved + more) (omega (arith, within, few)) (omega arith)
           (inr (omega (arith, c.requires.order))) in
           let whole : part (seen FRAMES) from (from + moved) ++ part (mid.0 FRAMES) (from + moved) (from + moved + more) ≡ part (seen FRAMES) from (from + (moved + more)) =
           ap (λ (bytes : List ℕ). part (seen FRAMES) from (from + moved) ++ bytes) same
@@ -83,7 +83,7 @@ loop-moved-init g c =
       empty = omega (arith, e.place, e.at);
       place = omega (arith, e.at);
       size = e.size ∙ c.requires.size;
-      writes = writes_none (bays g) (lawful g) c.args.to (c.args.to + 0) c.args.bay.now ⊥ (λ never. never);
+      writes = writes_none _ (lawful g) c.args.to (c.args.to + 0) c.args.bay.now ⊥ (λ never. never);
       out = λ seen told later told_later within.
           let none = part_is (seen FRAMES) c.args.from 0 (c.args.from + 0) refl in
           subst (λ (bytes : List ℕ). IsOut c.args.to bytes (later FRAMES) c.start.new.self) (sym none) (e.out (later FRAMES));
@@ -96,6 +96,6 @@ pub returns-clause-writes : goal.returns-clause-writes
 returns-clause-writes g c begin end low high =
     let inv = c.loop-moved.invariant in
     let to = c.args.to in
-    writes_as (bays g) (lawful g) begin end c.args.bay.now c.loop-moved.bay ⊥ _ (λ failed. cc)
-    (writes_wider (bays g) to (to + c.loop-moved.moved) begin end c.args.bay.now c.loop-moved.bay ⊥ low (omega arith)
+    writes_as _ (lawful g) begin end c.args.bay.now c.loop-moved.bay ⊥ _ (λ failed. cc)
+    (writes_wider _ to (to + c.loop-moved.moved) begin end c.args.bay.now c.loop-moved.bay ⊥ low (omega arith)
     (omega (arith, inv.some, high)) inv.writes)

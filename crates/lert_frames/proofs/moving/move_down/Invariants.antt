@@ -3,7 +3,7 @@ use Rattle.lert_bay.specs.declared.bay.TheConstants.{FRAMES}
 use Rattle.lert_bay.specs.Files.{IfTold}
 use Rattle.lert_bay.specs.Kept.{Bays}
 use Rattle.lert_bay.specs.Settled.{part}
-use Rattle.lert_frames.specs.Calls.{Writes}
+use Rattle.lert_frames.specs.Calls.{Writes, bays_of}
 use Rattle.lert_frames.specs.Outlet.{IsOut, size_of}
 use Rattle.lert_frames.specs.declared.outlet.Outlet.{Outlet}
 use Rattle.lert_frames.proofs.moving.move_down.Given as goal
@@ -18,19 +18,8 @@ pub record IsMoved {B : Type 0} (bays : Bays B) (from to count moved : ℕ) (bef
   pub out : IfTold (bays.files before) (λ seen. IfTold (bays.files after) (λ later. from + count ≤ length (seen FRAMES) →
       IsOut to (part (seen FRAMES) from (from + moved)) (later FRAMES) outlet))
 
-abbrev pub bays : (g : goal.Over) → Bays g.row.B.Denot
-bays g = record {
-  faults = g.B.Faulty.faults;
-  mark = g.B.Faulty.mark;
-  files = g.B.Bay.files;
-  leaves = g.B.Bay.leaves;
-  moment = g.B.Bay.moment;
-  left_since = g.B.Bay.left_since;
-  handed_out = g.B.Bay.handed_out;
-}
-
 abbrev pub invariant-loop-moved : goal.invariant-loop-moved
-invariant-loop-moved g l = IsMoved (bays g) l.from l.to l.count l.moved l.initial.bay l.bay l.outlet
+invariant-loop-moved g l = IsMoved (bays_of g.B.Faulty g.B.Bay) l.from l.to l.count l.moved l.initial.bay l.bay l.outlet
 
 abbrev pub decreases-loop-moved : goal.decreases-loop-moved
 decreases-loop-moved g l = l.count - l.moved

@@ -3,23 +3,12 @@ use Rattle.std.proofs.lemmas.Result.{err_from_is_err_and}
 use Rattle.lert_frames.proofs.CallLaws.{writes_on, writes_as, writes_reads}
 use Rattle.lert_frames.specs.Outlet.{size_of}
 use Rattle.lert_frames.proofs.WriteLaws.{on_ok}
-use Rattle.lert_bay.specs.Kept.{Bays}
 use Rattle.lert_bay.proofs.KeptLaws.{IsLawful}
+use Rattle.lert_frames.specs.Calls.{bays_of}
 use Rattle.lert_frames.proofs.moving.move_part.Given as given
 use Rattle.lert_frames.proofs.moving.move_part.Goals as goal
 
-abbrev bays : (g : given.Over) → Bays g.row.B.Denot
-bays g = record {
-  faults = g.B.Faulty.faults;
-  mark = g.B.Faulty.mark;
-  files = g.B.Bay.files;
-  leaves = g.B.Bay.leaves;
-  moment = g.B.Bay.moment;
-  left_since = g.B.Bay.left_since;
-  handed_out = g.B.Bay.handed_out;
-}
-
-lawful : (g : given.Over) → IsLawful (bays g)
+lawful : (g : given.Over) → IsLawful (bays_of g.B.Faulty g.B.Bay)
 lawful g = record { as_read = g.met.B.Bay.as_read; since_now = g.met.B.Bay.since_now; only_now = g.met.B.Bay.only_now; since_earlier = g.met.B.Bay.since_earlier }
 
 -- the place behind the bytes
@@ -44,7 +33,7 @@ returns-in_err-copy g c =
       empty = tt;
       place = tt;
       size = copied.size;
-      writes = λ begin end low high. writes_as (bays g) (lawful g) begin end _ _ _ _ (λ _. refl) (writes_reads (bays g) (lawful g) begin end _ _ _ copied.only_reads);
+      writes = λ begin end low high. writes_as _ (lawful g) begin end _ _ _ _ (λ _. refl) (writes_reads _ (lawful g) begin end _ _ _ copied.only_reads);
     })
 
 pub returns : goal.returns
@@ -60,7 +49,7 @@ returns g c =
       place = on_ok _ _ c.flush.result flushed.written (λ none. behind c.flush.new.self.at c.flush.new.self.len _ o.at o.len count flushed.place copied.place c.requires.empty none);
       size = flushed.size ∙ copied.size;
       writes = λ begin end low high.
-          writes_on (bays g) (lawful g) begin end _ _ _ _ _ (writes_reads (bays g) (lawful g) begin end _ _ _ copied.only_reads)
+          writes_on _ (lawful g) begin end _ _ _ _ _ (writes_reads _ (lawful g) begin end _ _ _ copied.only_reads)
           (record {
             within = flushed.within begin end (subst (λ n. begin ≤ n) (sym copied.at) low) (high_as _ o.at o.len count end copied.place c.requires.empty high);
             kept = flushed.kept;

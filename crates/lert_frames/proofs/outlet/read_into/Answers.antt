@@ -1,25 +1,14 @@
 use Rattle.std.proofs.Common.{◌≡◌, ◌+◌, ◌∙◌, length, take, drop, refl, sym, ap, arith}
 use Rattle.std.proofs.lemmas.Bool.{false≢true}
 use Rattle.lert_bay.specs.declared.bay.TheConstants.{JOURNAL, FRAMES}
-use Rattle.lert_bay.specs.Kept.{Bays}
 use Rattle.lert_bay.proofs.KeptLaws.{IsLawful, apart_from_frames, reads_call}
 use Rattle.lert_frames.proofs.OutletLaws.{laid_behind}
 use Rattle.lert_frames.proofs.PartLaws.{part_is}
+use Rattle.lert_frames.specs.Calls.{bays_of}
 use Rattle.lert_frames.proofs.outlet.read_into.Given as given
 use Rattle.lert_frames.proofs.outlet.read_into.Goals as goal
 
-abbrev bays : (g : given.Over) → Bays g.row.B.Denot
-bays g = record {
-  faults = g.B.Faulty.faults;
-  mark = g.B.Faulty.mark;
-  files = g.B.Bay.files;
-  leaves = g.B.Bay.leaves;
-  moment = g.B.Bay.moment;
-  left_since = g.B.Bay.left_since;
-  handed_out = g.B.Bay.handed_out;
-}
-
-lawful : (g : given.Over) → IsLawful (bays g)
+lawful : (g : given.Over) → IsLawful (bays_of g.B.Faulty g.B.Bay)
 lawful g = record { as_read = g.met.B.Bay.as_read; since_now = g.met.B.Bay.since_now; only_now = g.met.B.Bay.only_now; since_earlier = g.met.B.Bay.since_earlier }
 
 pub returns-clause-told : goal.returns-clause-told
@@ -38,11 +27,11 @@ returns-clause-told g c seen told within =
 pub returns-in_err-read_at-clause-only_reads : goal.returns-in_err-read_at-clause-only_reads
 returns-in_err-read_at-clause-only_reads g c =
     let read = c.in_err-read_at.ensures in
-    reads_call (bays g) (lawful g) c.args.bay.now c.read_at.new.self _ read.time read.cause.never_falls (λ is. read.cause.failed refl) read.mark read.seen read.images
+    reads_call _ (lawful g) c.args.bay.now c.read_at.new.self _ read.time read.cause.never_falls (λ is. read.cause.failed refl) read.mark read.seen read.images
     (read.handed.others JOURNAL apart_from_frames)
 
 pub returns-clause-only_reads : goal.returns-clause-only_reads
 returns-clause-only_reads g c =
     let read = c.in_ok-read_at.ensures in
-    reads_call (bays g) (lawful g) c.args.bay.now c.read_at.new.self _ read.time read.cause.never_falls (λ never. absurd (false≢true never)) read.mark read.seen read.images
+    reads_call _ (lawful g) c.args.bay.now c.read_at.new.self _ read.time read.cause.never_falls (λ never. absurd (false≢true never)) read.mark read.seen read.images
     (read.handed.others JOURNAL apart_from_frames)

@@ -5,17 +5,17 @@ use Rattle.lert_frames.proofs.PassLaws.{words_none, words_more, words_short}
 use Rattle.lert_frames.specs.Steps.{PassesWords}
 use Rattle.lert_frames.proofs.FaultLaws.{not_err}
 use Rattle.lert_frames.proofs.WriteLaws.{same_err}
+use Rattle.lert_frames.specs.Calls.{bays_of}
 use Rattle.lert_frames.proofs.run_ends.pass_run_ends.Given as given
-use Rattle.lert_frames.proofs.run_ends.pass_run_ends.Invariants.{bays}
 use Rattle.lert_frames.proofs.run_ends.pass_run_ends.Goals as goal
 
-lawful : (g : given.Over) → IsLawful (bays g)
+lawful : (g : given.Over) → IsLawful (bays_of g.B.Faulty g.B.Bay)
 lawful g = record { as_read = g.met.B.Bay.as_read; since_now = g.met.B.Bay.since_now; only_now = g.met.B.Bay.only_now; since_earlier = g.met.B.Bay.since_earlier }
 
 pub loop-word-init : goal.loop-word-init
 loop-word-init g c = record {
-  passes = words_none (bays g) c.args.bay.now c.args.ends.now c.none-found.result c.none-found.ensures;
-  reads = reads_none (bays g) (lawful g) c.args.bay.now ⊥ (λ never. never);
+  passes = words_none _ c.args.bay.now c.args.ends.now c.none-found.result c.none-found.ensures;
+  reads = reads_none _ (lawful g) c.args.bay.now ⊥ (λ never. never);
 }
 
 pub pass_word-requires-clause-room : goal.pass_word-requires-clause-room
@@ -33,7 +33,7 @@ loop-word-preserved g c =
     let one = c.in_ok-pass_word.ensures in
     let more = c.with-found.ensures in
     record {
-      passes = words_more (bays g) c.args.bay.now c.loop-word._word c.in_ok-pass_word.field-0 c.args.ends.now c.loop-word.ends c.pass_word.new.ends c.loop-word.found c.with-found.result
+      passes = words_more _ c.args.bay.now c.loop-word._word c.in_ok-pass_word.field-0 c.args.ends.now c.loop-word.ends c.pass_word.new.ends c.loop-word.found c.with-found.result
           now.passes (record {
             place = one.behind;
             room = one.room;
@@ -43,8 +43,8 @@ loop-word-preserved g c =
             come = λ seen told. one.come seen (now.reads.seen ∙ told);
             read = λ seen told. one.bytes seen (now.reads.seen ∙ told);
           }) more.counted more.few;
-      reads = reads_on (bays g) (lawful g) c.args.bay.now c.loop-word.bay c.pass_word.new.bay ⊥ ⊥ now.reads
-          (reads_as (bays g) (lawful g) c.loop-word.bay c.pass_word.new.bay _ ⊥ (λ never. absurd never) one.only_reads);
+      reads = reads_on _ (lawful g) c.args.bay.now c.loop-word.bay c.pass_word.new.bay ⊥ ⊥ now.reads
+          (reads_as _ (lawful g) c.loop-word.bay c.pass_word.new.bay _ ⊥ (λ never. absurd never) one.only_reads);
     }
 
 pub returns-in_err-pass_word : goal.returns-in_err-pass_word
@@ -54,13 +54,13 @@ returns-in_err-pass_word g c =
     let one = c.in_err-pass_word.ensures in
     rw (p.1, p.2) (record {
       passes = tt;
-      short = λ seen told at is. words_short (bays g) c.args.bay.now c.loop-word._word c.args.words c.args.ends.now c.loop-word.ends c.loop-word.found now.passes c.loop-word-test.true
+      short = λ seen told at is. words_short _ c.args.bay.now c.loop-word._word c.args.words c.args.ends.now c.loop-word.ends c.loop-word.found now.passes c.loop-word-test.true
           seen told (one.short seen (now.reads.seen ∙ told) at (same_err _ _ is));
       end = λ seen told at is. one.end seen (now.reads.seen ∙ told) at (same_err _ _ is);
       within = omega (arith, one.within, now.passes.place, c.loop-word-test.true);
       room = one.room ∙ now.passes.room;
-      only_reads = reads_on (bays g) (lawful g) c.args.bay.now c.loop-word.bay c.pass_word.new.bay ⊥ _ now.reads
-          (reads_as (bays g) (lawful g) c.loop-word.bay c.pass_word.new.bay _ _ (λ is. same_err _ _ is) one.only_reads);
+      only_reads = reads_on _ (lawful g) c.args.bay.now c.loop-word.bay c.pass_word.new.bay ⊥ _ now.reads
+          (reads_as _ (lawful g) c.loop-word.bay c.pass_word.new.bay _ _ (λ is. same_err _ _ is) one.only_reads);
     })
 
 pub returns : goal.returns
@@ -68,10 +68,10 @@ returns g c =
     let now = c.loop-word.invariant in
     let all : c.loop-word._word ≡ c.args.words = omega (arith, c.loop-word-test.false, c.loop-word.auto) in
     record {
-      passes = subst (λ (n : ℕ). PassesWords (bays g) c.args.bay.now n c.args.ends.now c.loop-word.ends c.loop-word.found) all now.passes;
+      passes = subst (λ (n : ℕ). PassesWords (bays_of g.B.Faulty g.B.Bay) c.args.bay.now n c.args.ends.now c.loop-word.ends c.loop-word.found) all now.passes;
       short = λ seen told at is. absurd (not_err _ _ is);
       end = λ seen told at is. absurd (not_err _ _ is);
       within = omega (arith, now.passes.place, c.loop-word.auto);
       room = now.passes.room;
-      only_reads = reads_as (bays g) (lawful g) c.args.bay.now c.loop-word.bay ⊥ _ (λ is. not_err _ _ is) now.reads;
+      only_reads = reads_as _ (lawful g) c.args.bay.now c.loop-word.bay ⊥ _ (λ is. not_err _ _ is) now.reads;
     }

@@ -2,28 +2,17 @@ use Rattle.std.proofs.Common.{◌+◌, ◌∙◌, length, drop, sym, ap, arith, 
 use Rattle.std.proofs.lemmas.Result.{err_from_is_err_and}
 use Rattle.byteorder.specs.Endian.{little_number}
 use Rattle.lert_bay.specs.declared.bay.TheConstants.{FRAMES}
-use Rattle.lert_bay.specs.Kept.{Bays}
 use Rattle.lert_bay.proofs.KeptLaws.{IsLawful, reads_as}
 use Rattle.lert_frames.specs.Window.{at_hand}
 use Rattle.lert_frames.proofs.FaultLaws.{not_err}
 use Rattle.lert_frames.proofs.FieldLaws.{length_hand}
 use Rattle.lert_frames.proofs.NumberLaws.{little_number-append}
 use Rattle.lert_frames.proofs.WriteLaws.{same_err}
+use Rattle.lert_frames.specs.Calls.{bays_of}
 use Rattle.lert_frames.proofs.run_ends.pass_word.Given as given
 use Rattle.lert_frames.proofs.run_ends.pass_word.Goals as goal
 
-abbrev bays : (g : given.Over) → Bays g.row.B.Denot
-bays g = record {
-  faults = g.B.Faulty.faults;
-  mark = g.B.Faulty.mark;
-  files = g.B.Bay.files;
-  leaves = g.B.Bay.leaves;
-  moment = g.B.Bay.moment;
-  left_since = g.B.Bay.left_since;
-  handed_out = g.B.Bay.handed_out;
-}
-
-lawful : (g : given.Over) → IsLawful (bays g)
+lawful : (g : given.Over) → IsLawful (bays_of g.B.Faulty g.B.Bay)
 lawful g = record { as_read = g.met.B.Bay.as_read; since_now = g.met.B.Bay.since_now; only_now = g.met.B.Bay.only_now; since_earlier = g.met.B.Bay.since_earlier }
 
 pub returns-in_err-demand : goal.returns-in_err-demand
@@ -41,7 +30,7 @@ returns-in_err-demand g c =
       within = omega (arith, asked.ahead.place);
       later = asked.ahead.later;
       room = asked.ahead.room;
-      only_reads = reads_as (bays g) (lawful g) c.args.bay.now c.demand.new.bay _ _ (λ is. same_err _ _ is) asked.only_reads;
+      only_reads = reads_as _ (lawful g) c.args.bay.now c.demand.new.bay _ _ (λ is. same_err _ _ is) asked.only_reads;
     })
 
 pub returns : goal.returns
@@ -64,5 +53,5 @@ returns g c =
       within = omega (arith, skipped.place, asked.ahead.place);
       later = omega (arith, asked.ahead.later, skipped.end);
       room = skipped.room ∙ asked.ahead.room;
-      only_reads = reads_as (bays g) (lawful g) c.args.bay.now c.demand.new.bay _ _ (λ is. absurd (not_err _ _ is)) asked.only_reads;
+      only_reads = reads_as _ (lawful g) c.args.bay.now c.demand.new.bay _ _ (λ is. absurd (not_err _ _ is)) asked.only_reads;
     }

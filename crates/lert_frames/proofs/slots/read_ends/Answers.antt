@@ -6,25 +6,14 @@ use Rattle.lert_frames.specs.Steps.{AreEnds}
 use Rattle.lert_frames.specs.Window.{count_of, to_come}
 use Rattle.lert_frames.proofs.WindowLaws.{off_of}
 use Rattle.std.proofs.lemmas.Result.{err_from_is_err_and}
-use Rattle.lert_bay.specs.Kept.{Bays}
 use Rattle.lert_bay.proofs.KeptLaws.{IsLawful, reads_as}
 use Rattle.lert_frames.proofs.FaultLaws.{not_err}
 use Rattle.lert_frames.proofs.WriteLaws.{same_err}
+use Rattle.lert_frames.specs.Calls.{bays_of}
 use Rattle.lert_frames.proofs.slots.read_ends.Given as given
 use Rattle.lert_frames.proofs.slots.read_ends.Goals as goal
 
-abbrev bays : (g : given.Over) → Bays g.row.B.Denot
-bays g = record {
-  faults = g.B.Faulty.faults;
-  mark = g.B.Faulty.mark;
-  files = g.B.Bay.files;
-  leaves = g.B.Bay.leaves;
-  moment = g.B.Bay.moment;
-  left_since = g.B.Bay.left_since;
-  handed_out = g.B.Bay.handed_out;
-}
-
-lawful : (g : given.Over) → IsLawful (bays g)
+lawful : (g : given.Over) → IsLawful (bays_of g.B.Faulty g.B.Bay)
 lawful g = record { as_read = g.met.B.Bay.as_read; since_now = g.met.B.Bay.since_now; only_now = g.met.B.Bay.only_now; since_earlier = g.met.B.Bay.since_earlier }
 
 at_hand_too : (had now bytes : ℕ) → had ≤ now → bytes ≡ now → 8 ≤ had → 8 ≤ bytes
@@ -41,7 +30,7 @@ returns-in_err-need g c =
       one = tt;
       ahead = asked.ahead;
       failed = asked.failed;
-      only_reads = reads_as (bays g) (lawful g) c.args.bay.now c.need.new.bay _ _ (λ is. same_err _ _ is) asked.only_reads;
+      only_reads = reads_as _ (lawful g) c.args.bay.now c.need.new.bay _ _ (λ is. same_err _ _ is) asked.only_reads;
     })
 
 none_more : (xs rest ys : List ℕ) → xs ++ rest ≡ ys → xs ≡ ys → rest ≡ []
@@ -80,4 +69,4 @@ returns-clause-failed g c = tt
 
 pub returns-clause-only_reads : goal.returns-clause-only_reads
 returns-clause-only_reads g c =
-    reads_as (bays g) (lawful g) c.args.bay.now c.need.new.bay _ _ (λ is. absurd (not_err _ _ is)) c.in_ok-need.ensures.only_reads
+    reads_as _ (lawful g) c.args.bay.now c.need.new.bay _ _ (λ is. absurd (not_err _ _ is)) c.in_ok-need.ensures.only_reads

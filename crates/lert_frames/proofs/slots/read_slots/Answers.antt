@@ -1,27 +1,16 @@
 use Rattle.std.proofs.Common.{◌≡◌, ◌<◌, ◌*◌, ◌/◌, ◌∙◌, ℕ, min, length, ap, ap₂, arith}
 use Rattle.std.proofs.lemmas.Result.{err_from_is_err_and}
-use Rattle.lert_bay.specs.Kept.{Bays}
 use Rattle.lert_bay.proofs.KeptLaws.{IsLawful, reads_as}
 use Rattle.lert_blocks.specs.Frame.{numbers_in}
 use Rattle.lert_frames.specs.Window.{count_of}
 use Rattle.lert_frames.proofs.FaultLaws.{not_err}
 use Rattle.lert_frames.proofs.WindowLaws.{off_of}
 use Rattle.lert_frames.proofs.WriteLaws.{same_err}
+use Rattle.lert_frames.specs.Calls.{bays_of}
 use Rattle.lert_frames.proofs.slots.read_slots.Given as given
 use Rattle.lert_frames.proofs.slots.read_slots.Goals as goal
 
-abbrev bays : (g : given.Over) → Bays g.row.B.Denot
-bays g = record {
-  faults = g.B.Faulty.faults;
-  mark = g.B.Faulty.mark;
-  files = g.B.Bay.files;
-  leaves = g.B.Bay.leaves;
-  moment = g.B.Bay.moment;
-  left_since = g.B.Bay.left_since;
-  handed_out = g.B.Bay.handed_out;
-}
-
-lawful : (g : given.Over) → IsLawful (bays g)
+lawful : (g : given.Over) → IsLawful (bays_of g.B.Faulty g.B.Bay)
 lawful g = record { as_read = g.met.B.Bay.as_read; since_now = g.met.B.Bay.since_now; only_now = g.met.B.Bay.only_now; since_earlier = g.met.B.Bay.since_earlier }
 
 pub returns-in_err-need : goal.returns-in_err-need
@@ -34,7 +23,7 @@ returns-in_err-need g c =
       all = λ seen told. tt;
       ahead = asked.ahead;
       failed = asked.failed;
-      only_reads = reads_as (bays g) (lawful g) c.args.bay.now c.need.new.bay _ _ (λ is. same_err _ _ is) asked.only_reads;
+      only_reads = reads_as _ (lawful g) c.args.bay.now c.need.new.bay _ _ (λ is. same_err _ _ is) asked.only_reads;
     })
 
 pub returns-clause-ahead : goal.returns-clause-ahead
@@ -45,7 +34,7 @@ returns-clause-failed g c = tt
 
 pub returns-clause-only_reads : goal.returns-clause-only_reads
 returns-clause-only_reads g c =
-    reads_as (bays g) (lawful g) c.args.bay.now c.need.new.bay _ _ (λ is. absurd (not_err _ _ is)) c.in_ok-need.ensures.only_reads
+    reads_as _ (lawful g) c.args.bay.now c.need.new.bay _ _ (λ is. absurd (not_err _ _ is)) c.in_ok-need.ensures.only_reads
 
 pub returns-clause-count : goal.returns-clause-count
 returns-clause-count g c =

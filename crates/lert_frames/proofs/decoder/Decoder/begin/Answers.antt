@@ -1,7 +1,6 @@
 use Rattle.std.proofs.Common.{◌+◌, ◌*◌, ◌^◌, ◌<◌, ◌∙◌, ℕ, List, length, ap, sym, refl, subst, arith}
 use Rattle.std.proofs.lemmas.Result.{err_from_is_err_and}
 use Rattle.lert_bay.specs.declared.bay.TheConstants.{FRAMES}
-use Rattle.lert_bay.specs.Kept.{Bays}
 use Rattle.lert_bay.proofs.KeptLaws.{IsLawful, reads_as, reads_on}
 use Rattle.lert_blocks.specs.Frame.{words_in}
 use Rattle.lert_blocks.specs.Text.{word_count}
@@ -13,21 +12,11 @@ use Rattle.lert_frames.proofs.FieldLaws.{fields_told, head_fits}
 use Rattle.lert_frames.proofs.OrderLaws.{here}
 use Rattle.lert_frames.proofs.StepLaws.{next_fits, steps_begun, steps_unbegun}
 use Rattle.lert_frames.proofs.WriteLaws.{same_err}
+use Rattle.lert_frames.specs.Calls.{bays_of}
 use Rattle.lert_frames.proofs.decoder.Decoder.begin.Given as given
 use Rattle.lert_frames.proofs.decoder.Decoder.begin.Goals as goal
 
-abbrev bays : (g : given.Over) → Bays g.row.B.Denot
-bays g = record {
-  faults = g.B.Faulty.faults;
-  mark = g.B.Faulty.mark;
-  files = g.B.Bay.files;
-  leaves = g.B.Bay.leaves;
-  moment = g.B.Bay.moment;
-  left_since = g.B.Bay.left_since;
-  handed_out = g.B.Bay.handed_out;
-}
-
-lawful : (g : given.Over) → IsLawful (bays g)
+lawful : (g : given.Over) → IsLawful (bays_of g.B.Faulty g.B.Bay)
 lawful g = record { as_read = g.met.B.Bay.as_read; since_now = g.met.B.Bay.since_now; only_now = g.met.B.Bay.only_now; since_earlier = g.met.B.Bay.since_earlier }
 
 next_too : (next : ℕ) → 64 * next < 2 ^ 64 → next + 1 < 2 ^ 64
@@ -73,9 +62,9 @@ returns-in_err-head g c =
     let before = c.args.bay.now in
     let after = c.read_head.new.bay in
     let asked = c.in_err-head.ensures in
-    rw (p.1, p.2) (steps_unbegun (bays g) before after c.args.self.now _ refl c.requires.decoded c.requires.more _ refl refl asked.ahead
+    rw (p.1, p.2) (steps_unbegun _ before after c.args.self.now _ refl c.requires.decoded c.requires.more _ refl refl asked.ahead
     (λ seen told at is. asked.malformed seen told at (err_of _ _ is))
-    (reads_as (bays g) (lawful g) before after _ _ (λ is. same_err _ _ is) asked.only_reads))
+    (reads_as _ (lawful g) before after _ _ (λ is. same_err _ _ is) asked.only_reads))
 
 pub returns-in_err-pass_fields : goal.returns-in_err-pass_fields
 returns-in_err-pass_fields g c =
@@ -88,15 +77,15 @@ returns-in_err-pass_fields g c =
     let head = c.in_ok-head.head in
     let asked = c.in_ok-head.ensures in
     let passed = c.in_err-pass_fields.ensures in
-    rw (p.1, p.2) (steps_unbegun (bays g) before after old _ refl c.requires.decoded c.requires.more _ refl refl
-    (ahead_on (bays g) before between asked.only_reads.seen old.window near c.pass_fields.new.window asked.ahead passed.ahead)
+    rw (p.1, p.2) (steps_unbegun _ before after old _ refl c.requires.decoded c.requires.more _ refl refl
+    (ahead_on _ before between asked.only_reads.seen old.window near c.pass_fields.new.window asked.ahead passed.ahead)
     (λ seen told at is.
     let xs = to_come old.window (seen FRAMES) in
     head_fits old.ahead.most (place_of old.window) (length (seen FRAMES)) head xs
     (fields_told head (at_hand near) xs near (seen FRAMES) refl (asked.ahead.come seen told) asked.fields) asked.fits
     ∙ ((λ i. run_ends_left (sym asked.ahead.place i) (length (seen FRAMES)) (sym (asked.ahead.come seen told) i))
     ∙ passed.malformed seen (asked.only_reads.seen ∙ told) at (err_of _ _ is)))
-    (reads_on (bays g) (lawful g) before between after _ _ asked.only_reads (reads_as (bays g) (lawful g) between after _ _ (λ is. same_err _ _ is) passed.only_reads)))
+    (reads_on _ (lawful g) before between after _ _ asked.only_reads (reads_as _ (lawful g) between after _ _ (λ is. same_err _ _ is) passed.only_reads)))
 
 pub begun-self-requires : goal.begun-self-requires
 begun-self-requires g c = next_fits c.args.self.now c.requires.more
@@ -125,11 +114,11 @@ returns g c =
     let asked = c.in_ok-head.ensures in
     let passed = c.in_ok-pass_fields.ensures in
     let near = c.read_head.new.window in
-    let passes = passes_on (bays g) before between asked.only_reads.seen old.window near c.pass_fields.new.window asked.ahead (fields_len head) passed.passes in
-    steps_begun (bays g) before after old _ refl c.requires.decoded c.requires.more head c.begun-self.ensures c.behind-self.ensures asked.small asked.fits passes
+    let passes = passes_on _ before between asked.only_reads.seen old.window near c.pass_fields.new.window asked.ahead (fields_len head) passed.passes in
+    steps_begun _ before after old _ refl c.requires.decoded c.requires.more head c.begun-self.ensures c.behind-self.ensures asked.small asked.fits passes
     (passed.ends_place ∙ ap (λ n. n + 12) asked.ahead.place)
     (λ seen told. fields_told head (at_hand near) (to_come old.window (seen FRAMES)) near (seen FRAMES) refl (asked.ahead.come seen told) asked.fields)
     (λ seen told. (λ i. run_ends_left (sym asked.ahead.place i) (length (seen FRAMES)) (sym (asked.ahead.come seen told) i)) ∙ passed.agree seen (asked.only_reads.seen ∙ told))
     (λ seen told. subst (λ (xs : List ℕ). AreWords (words_in xs) (word_count head.count) (to_come c.pass_fields.new.ends (seen FRAMES))) (asked.ahead.come seen told)
     (passed.words seen (asked.only_reads.seen ∙ told)))
-    (reads_on (bays g) (lawful g) before between after _ _ asked.only_reads (reads_as (bays g) (lawful g) between after _ _ (λ is. absurd (not_err _ _ is)) passed.only_reads))
+    (reads_on _ (lawful g) before between after _ _ asked.only_reads (reads_as _ (lawful g) between after _ _ (λ is. absurd (not_err _ _ is)) passed.only_reads))

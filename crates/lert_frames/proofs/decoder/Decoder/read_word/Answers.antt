@@ -3,7 +3,6 @@ use Rattle.std.specs.Vec.{with_items}
 use Rattle.std.proofs.lemmas.List.{with_items_is}
 use Rattle.std.proofs.lemmas.Result.{err_from_is_err_and}
 use Rattle.lert_bay.specs.declared.bay.TheConstants.{FRAMES}
-use Rattle.lert_bay.specs.Kept.{Bays}
 use Rattle.lert_bay.proofs.KeptLaws.{IsLawful, reads_as, reads_on}
 use Rattle.lert_frames.specs.Steps.{AreEnds}
 use Rattle.lert_frames.specs.Window.{count_of, to_come}
@@ -12,21 +11,11 @@ use Rattle.lert_frames.proofs.FaultLaws.{not_err}
 use Rattle.lert_frames.proofs.SlotLaws.{hand_from, hand_read}
 use Rattle.lert_frames.proofs.OrderLaws.{here}
 use Rattle.lert_frames.proofs.WriteLaws.{same_err}
+use Rattle.lert_frames.specs.Calls.{bays_of}
 use Rattle.lert_frames.proofs.decoder.Decoder.read_word.Given as given
 use Rattle.lert_frames.proofs.decoder.Decoder.read_word.Goals as goal
 
-abbrev bays : (g : given.Over) → Bays g.row.B.Denot
-bays g = record {
-  faults = g.B.Faulty.faults;
-  mark = g.B.Faulty.mark;
-  files = g.B.Bay.files;
-  leaves = g.B.Bay.leaves;
-  moment = g.B.Bay.moment;
-  left_since = g.B.Bay.left_since;
-  handed_out = g.B.Bay.handed_out;
-}
-
-lawful : (g : given.Over) → IsLawful (bays g)
+lawful : (g : given.Over) → IsLawful (bays_of g.B.Faulty g.B.Bay)
 lawful g = record { as_read = g.met.B.Bay.as_read; since_now = g.met.B.Bay.since_now; only_now = g.met.B.Bay.only_now; since_earlier = g.met.B.Bay.since_earlier }
 
 -- the slots that were read
@@ -80,12 +69,12 @@ returns-in_err-ends g c =
       width = refl;
       block = refl;
       ahead = refl;
-      window = ahead_none (bays g) before c.args.self.now.window;
+      window = ahead_none _ before c.args.self.now.window;
       ends = word.ahead;
       hand = tt;
       slots = λ seen told. tt;
       failed = word.failed;
-      only_reads = reads_as (bays g) (lawful g) before c.read_ends.new.bay _ _ (λ is. same_err _ _ is) word.only_reads;
+      only_reads = reads_as _ (lawful g) before c.read_ends.new.bay _ _ (λ is. same_err _ _ is) word.only_reads;
     })
 
 pub returns-in_err-count : goal.returns-in_err-count
@@ -100,12 +89,12 @@ returns-in_err-count g c =
       width = refl;
       block = refl;
       ahead = refl;
-      window = ahead_since (bays g) before between c.args.self.now.window c.read_slots.new.window word.only_reads.seen read.ahead;
+      window = ahead_since _ before between c.args.self.now.window c.read_slots.new.window word.only_reads.seen read.ahead;
       ends = word.ahead;
       hand = tt;
       slots = λ seen told. tt;
       failed = read.failed;
-      only_reads = reads_on (bays g) (lawful g) before between after _ _ word.only_reads (reads_as (bays g) (lawful g) between after _ _ (λ is. same_err _ _ is) read.only_reads);
+      only_reads = reads_on _ (lawful g) before between after _ _ word.only_reads (reads_as _ (lawful g) between after _ _ (λ is. same_err _ _ is) read.only_reads);
     })
 
 pub returns : goal.returns
@@ -123,7 +112,7 @@ returns g c =
       width = refl;
       block = refl;
       ahead = refl;
-      window = ahead_since (bays g) before between old.window c.read_slots.new.window word.only_reads.seen read.ahead;
+      window = ahead_since _ before between old.window c.read_slots.new.window word.only_reads.seen read.ahead;
       ends = word.ahead;
       hand = record {
         few = few_slots old.block.some words count had read.count;
@@ -139,5 +128,5 @@ returns g c =
           (ap (take count) (with_items_is old.slots c.read_slots.new.into (c.read_slots.auto.into ∙ c.deref_mut.ensures.len)) ∙ read.slots)
           (λ few. read.all seen (word.only_reads.seen ∙ told) few ∙ sym (read.ahead.come seen (word.only_reads.seen ∙ told)));
       failed = tt;
-      only_reads = reads_on (bays g) (lawful g) before between after _ _ word.only_reads (reads_as (bays g) (lawful g) between after _ _ (λ is. absurd (not_err _ _ is)) read.only_reads);
+      only_reads = reads_on _ (lawful g) before between after _ _ word.only_reads (reads_as _ (lawful g) between after _ _ (λ is. absurd (not_err _ _ is)) read.only_reads);
     }

@@ -2,7 +2,6 @@ use Rattle.std.proofs.Common.{◌≡◌, ℕ, ◌<◌, ◌≤◌, ◌+◌, ◌*�
 use Rattle.std.proofs.lemmas.List.{length-take-le, take_all}
 use Rattle.std.proofs.lemmas.Result.{err_from_is_err_and}
 use Rattle.lert_bay.specs.declared.bay.TheConstants.{FRAMES}
-use Rattle.lert_bay.specs.Kept.{Bays}
 use Rattle.lert_bay.proofs.KeptLaws.{IsLawful, reads_as, reads_on}
 use Rattle.lert_frames.specs.declared.decoder.Decoder.{Decoder}
 use Rattle.lert_frames.specs.declared.decoder.Present.{Present}
@@ -20,21 +19,11 @@ use Rattle.lert_frames.proofs.StepLaws.{steps_refused, steps_since}
 use Rattle.lert_frames.proofs.WordStepLaws.{all_decoded, all_left, spot_is, steps_word}
 use Rattle.lert_frames.proofs.WriteLaws.{same_err}
 use Rattle.lert_spec.specs.declared.piece.Piece.{Piece}
+use Rattle.lert_frames.specs.Calls.{bays_of}
 use Rattle.lert_frames.proofs.decoder.Decoder.word.Given as given
 use Rattle.lert_frames.proofs.decoder.Decoder.word.Goals as goal
 
-abbrev bays : (g : given.Over) → Bays g.row.B.Denot
-bays g = record {
-  faults = g.B.Faulty.faults;
-  mark = g.B.Faulty.mark;
-  files = g.B.Bay.files;
-  leaves = g.B.Bay.leaves;
-  moment = g.B.Bay.moment;
-  left_since = g.B.Bay.left_since;
-  handed_out = g.B.Bay.handed_out;
-}
-
-lawful : (g : given.Over) → IsLawful (bays g)
+lawful : (g : given.Over) → IsLawful (bays_of g.B.Faulty g.B.Bay)
 lawful g = record { as_read = g.met.B.Bay.as_read; since_now = g.met.B.Bay.since_now; only_now = g.met.B.Bay.only_now; since_earlier = g.met.B.Bay.since_earlier }
 
 -- ---- numbers
@@ -152,10 +141,10 @@ returns-in_err-word g c =
     let read = c.in_err-word.ensures in
     let items = c.args.pieces.now.items in
     rw (p.1, p.2) (record {
-      steps = steps_refused (bays g) before after c.args.self.now middle read.width _ _ read.block read.ahead read.window (λ _. read.ends.place)
+      steps = steps_refused _ before after c.args.self.now middle read.width _ _ read.block read.ahead read.window (λ _. read.ends.place)
           (λ seen told i. found_by (read.width i) (read.block i) (read.ahead i) (read.window.place i) (length (seen FRAMES)) (read.ends.come seen told i) (read.window.come seen told i))
           (λ seen told at is. absurd (no_place at _ read.failed is))
-          (reads_as (bays g) (lawful g) before after _ _ (λ is. same_err _ _ is) read.only_reads);
+          (reads_as _ (lawful g) before after _ _ (λ is. same_err _ _ is) read.only_reads);
       kept = take_all (length items) items (here (length items));
       none = refl;
       few = more_room (length items);
@@ -174,8 +163,8 @@ returns-in-Ok g c =
     let some_slots = subst (λ (b : Present). 0 < b.some) (sym read.block) c.requires.some in
     record {
       steps =
-          steps_since (bays g) before after old middle _ _ (Ok tt) read.width read.block read.ahead read.window read.ends
-          (steps_word (bays g) before after middle c.pass_word.new.self c.decode.new.walk c.in-Ok.upto (min middle.block.some 64) _ some_slots
+          steps_since _ before after old middle _ _ (Ok tt) read.width read.block read.ahead read.window read.ends
+          (steps_word _ before after middle c.pass_word.new.self c.decode.new.walk c.in-Ok.upto (min middle.block.some 64) _ some_slots
           (record {
             width = passes.width;
             ahead = passes.ahead;
@@ -209,7 +198,7 @@ returns-in-Ok g c =
             decoded = all_decoded middle.width middle.block.first middle.block.from (c.in-Ok.upto - middle.block.from) middle.block.walk there _ (take word.count middle.slots.items) behind
                 (slots_there some ends slots) now_is there_too c.in-Ok.upto c.decode.new.walk _ _ found.0 found.1 found.2;
           })
-          (reads_as (bays g) (lawful g) before after _ _ (λ is. absurd (not_err _ _ is)) read.only_reads));
+          (reads_as _ (lawful g) before after _ _ (λ is. absurd (not_err _ _ is)) read.only_reads));
       kept = decoded.kept;
       none = tt;
       few = decoded.few;
@@ -229,9 +218,9 @@ returns-in-Err g c =
     let same = c.truncate.ensures.items ∙ (ap (λ n. take n c.decode.new.pieces.items) len_is ∙ left.kept) in
     record {
       steps =
-          steps_since (bays g) before after c.args.self.now middle _ _ (Err c.slot_fault.result) read.width read.block read.ahead read.window read.ends
-          (steps_refused (bays g) before after middle middle refl _ c.slot_fault.result refl refl
-          (ahead_none (bays g) before middle.window) (λ _. refl) (λ seen told. refl)
+          steps_since _ before after c.args.self.now middle _ _ (Err c.slot_fault.result) read.width read.block read.ahead read.window read.ends
+          (steps_refused _ before after middle middle refl _ c.slot_fault.result refl refl
+          (ahead_none _ before middle.window) (λ _. refl) (λ seen told. refl)
           (λ seen told spot is.
           let ends = to_come middle.ends (seen FRAMES) in
           let slots = to_come middle.window (seen FRAMES) in
@@ -251,7 +240,7 @@ returns-in-Err g c =
           fault.here (λ past n named. fault.end past seen (read.only_reads.seen ∙ told) n named) is)
           (all_left middle.width middle.block.first middle.block.from (c.in-Err.at - middle.block.from) middle.block.walk there _ items behind (slots_there some ends slots) now_is
           (hand_there some ends slots word.ends word.count items hand) found))
-          (reads_on (bays g) (lawful g) before between after _ _ read.only_reads (reads_as (bays g) (lawful g) between after _ _ (λ is. fault_is _ _ is) fault.only_reads)));
+          (reads_on _ (lawful g) before between after _ _ read.only_reads (reads_as _ (lawful g) between after _ _ (λ is. fault_is _ _ is) fault.only_reads)));
       kept = kept_same c.truncate.new.self.items c.args.pieces.now.items same;
       none = same;
       few = few_same c.truncate.new.self.items c.args.pieces.now.items same;

@@ -3,28 +3,17 @@ use Rattle.std.proofs.lemmas.Bool.{false≢true}
 use Rattle.std.proofs.lemmas.Result.{err_from_is_err_and}
 use Rattle.lert_bay.specs.declared.bay.TheConstants.{FRAMES}
 use Rattle.lert_bay.specs.Files.{Changes, Files, Holds}
-use Rattle.lert_bay.specs.Kept.{Bays}
 use Rattle.lert_bay.proofs.KeptLaws.{IsLawful, keeps_none}
 use Rattle.lert_frames.specs.Outlet.{IsOut}
 use Rattle.lert_frames.proofs.CallLaws.{same_files}
 use Rattle.lert_frames.proofs.OutletLaws.{out_flushed}
 use Rattle.lert_frames.proofs.OrderLaws.{here}
 use Rattle.lert_frames.proofs.WithinLaws.{turns_to, within_same}
+use Rattle.lert_frames.specs.Calls.{bays_of}
 use Rattle.lert_frames.proofs.outlet.Outlet.flush.Given as given
 use Rattle.lert_frames.proofs.outlet.Outlet.flush.Goals as goal
 
-abbrev bays : (g : given.Over) → Bays g.row.B.Denot
-bays g = record {
-  faults = g.B.Faulty.faults;
-  mark = g.B.Faulty.mark;
-  files = g.B.Bay.files;
-  leaves = g.B.Bay.leaves;
-  moment = g.B.Bay.moment;
-  left_since = g.B.Bay.left_since;
-  handed_out = g.B.Bay.handed_out;
-}
-
-lawful : (g : given.Over) → IsLawful (bays g)
+lawful : (g : given.Over) → IsLawful (bays_of g.B.Faulty g.B.Bay)
 lawful g = record { as_read = g.met.B.Bay.as_read; since_now = g.met.B.Bay.since_now; only_now = g.met.B.Bay.only_now; since_earlier = g.met.B.Bay.since_earlier }
 
 -- ---- the bytes that aren't written
@@ -49,8 +38,8 @@ returns-then-self-eq0 g c =
       place = refl;
       size = refl;
       at = here o.at;
-      within = λ begin end low high. within_same (bays g) begin end (lawful g) bay;
-      kept = keeps_none (bays g) (lawful g) bay _ (λ is. absurd (false≢true is));
+      within = λ begin end low high. within_same _ begin end (lawful g) bay;
+      kept = keeps_none _ (lawful g) bay _ (λ is. absurd (false≢true is));
     }
 
 pub returns-in_err-write_bytes : goal.returns-in_err-write_bytes

@@ -3,7 +3,6 @@ use Rattle.std.specs.Prelude.{option_to_list}
 use Rattle.std.proofs.lemmas.Result.{err_from_is_err_and}
 use Rattle.lert_bay.specs.declared.bay.TheConstants.{FRAMES}
 use Rattle.lert_bay.specs.Files.{Files}
-use Rattle.lert_bay.specs.Kept.{Bays}
 use Rattle.lert_bay.proofs.KeptLaws.{IsLawful, reads_none, reads_as}
 use Rattle.lert_frames.specs.InOrder.{gave_given}
 use Rattle.lert_frames.specs.Place.{tail_limit}
@@ -13,21 +12,11 @@ use Rattle.lert_frames.proofs.FaultLaws.{not_err, ok_not_err, err_not_ok, some_n
 use Rattle.lert_frames.proofs.ToComeLaws.{same_to_come_on, left_before, told_stays, broken_stays, broken_untold, handed_broken, handed_gave, handed_over}
 use Rattle.lert_frames.proofs.ToComeLaws.{handed_untold, handed_within, handed_none, told_first, told_next, given_within, given_all}
 use Rattle.lert_frames.proofs.WriteLaws.{same_err}
+use Rattle.lert_frames.specs.Calls.{bays_of}
 use Rattle.lert_frames.proofs.read.FrameReaderPieces.next.Given as given
 use Rattle.lert_frames.proofs.read.FrameReaderPieces.next.Goals as goal
 
-abbrev bays : (g : given.Over) → Bays g.row.B.Denot
-bays g = record {
-  faults = g.B.Faulty.faults;
-  mark = g.B.Faulty.mark;
-  files = g.B.Bay.files;
-  leaves = g.B.Bay.leaves;
-  moment = g.B.Bay.moment;
-  left_since = g.B.Bay.left_since;
-  handed_out = g.B.Bay.handed_out;
-}
-
-lawful : (g : given.Over) → IsLawful (bays g)
+lawful : (g : given.Over) → IsLawful (bays_of g.B.Faulty g.B.Bay)
 lawful g = record { as_read = g.met.B.Bay.as_read; since_now = g.met.B.Bay.since_now; only_now = g.met.B.Bay.only_now; since_earlier = g.met.B.Bay.since_earlier }
 
 -- ---- a piece that was ready
@@ -39,7 +28,7 @@ returns-in-Some g c =
     let after = c.give.new.self in
     let files = g.B.Bay.files bay in
     let hands = subst (λ (piece : Option Piece). HandsOut self after piece) c.in-Some.is c.give.ensures in
-    let none = reads_none (bays g) (lawful g) bay ⊥ (λ none. none) in
+    let none = reads_none _ (lawful g) bay ⊥ (λ none. none) in
     record {
       told = λ ps told. told_first files self after c.in-Some.piece ps hands told;
       untold = handed_untold self after _ hands files;
@@ -61,7 +50,7 @@ returns-in-Some g c =
       wide = hands.wide;
       within = λ seen told within. handed_within self after _ hands (seen FRAMES) within;
       over = λ is. absurd (some_not_none _ is);
-      only_reads = reads_none (bays g) (lawful g) bay _ (λ is. not_err _ _ is);
+      only_reads = reads_none _ (lawful g) bay _ (λ is. not_err _ _ is);
     }
 
 -- ---- where none was
@@ -93,7 +82,7 @@ returns-in_err-fill g c =
       breaks = broken_stays files (g.B.Bay.files later) self after e.only_reads.seen same;
       faults = e.only_reads.kept.never_falls;
       mark = e.only_reads.kept.mark;
-      keeps = reads_as (bays g) (lawful g) before later _ ⊥ (λ none. absurd none) e.only_reads;
+      keeps = reads_as _ (lawful g) before later _ ⊥ (λ none. absurd none) e.only_reads;
       sum = tt;
       all = λ is. absurd (err_not_ok _ _ is);
       settings = e.frame.settings ∙ none.settings;
@@ -102,7 +91,7 @@ returns-in_err-fill g c =
       wide = e.frame.wide ∙ none.wide;
       within = λ seen told within. tt;
       over = λ is. absurd (err_not_ok _ _ is);
-      only_reads = reads_as (bays g) (lawful g) before later _ _ (λ is. same_err _ _ is) e.only_reads;
+      only_reads = reads_as _ (lawful g) before later _ _ (λ is. same_err _ _ is) e.only_reads;
     })
 
 pub returns : goal.returns
@@ -136,7 +125,7 @@ returns g c =
       breaks = λ at. (λ breaks. (broken at).0 ((handed at).0 breaks), λ breaks. (handed at).1 ((broken at).1 breaks));
       faults = e.only_reads.kept.never_falls;
       mark = e.only_reads.kept.mark;
-      keeps = reads_as (bays g) (lawful g) before later _ ⊥ (λ none. absurd none) e.only_reads;
+      keeps = reads_as _ (lawful g) before later _ ⊥ (λ none. absurd none) e.only_reads;
       sum = given_within after;
       all = λ is. let end : piece ≡ None = same_ok _ _ is in given_all filled after (ended end) (handed_over filled after (ended end) e.over);
       settings = hands.settings ∙ (e.frame.settings ∙ none.settings);
@@ -145,5 +134,5 @@ returns g c =
       wide = hands.wide ∙ (e.frame.wide ∙ none.wide);
       within = λ seen told within. handed_within filled after piece hands (seen FRAMES) (e.within seen told (handed_within self c.give.new.self None none (seen FRAMES) within));
       over = λ is. let end : piece ≡ None = same_ok _ _ is in handed_over filled after (ended end) e.over;
-      only_reads = reads_as (bays g) (lawful g) before later _ _ (λ is. absurd (not_err _ _ is)) e.only_reads;
+      only_reads = reads_as _ (lawful g) before later _ _ (λ is. absurd (not_err _ _ is)) e.only_reads;
     }

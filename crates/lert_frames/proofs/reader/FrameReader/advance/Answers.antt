@@ -28,7 +28,7 @@ settle-self-requires g c =
     record {
       from = subst (λ n. n ≤ length c.step.new.pieces.items) from_is (kept_within items c.step.new.pieces.items e.kept);
       few = subst (λ n. length c.step.new.pieces.items ≤ n + 64) from_is e.few;
-      counts = subst (λ n. All (λ (piece : Piece). piece.count ≤ 2 ^ 47) (drop n c.step.new.pieces.items)) from_is e.counts;
+      counts = subst (λ n. All (λ (piece : Piece). piece.count ≤ 2 ^ 47) (drop n c.step.new.pieces.items)) from_is e.steps.counts;
     }
 
 -- ---- a step that stops
@@ -39,7 +39,7 @@ invariant_of-self-in-Err g c =
     let e = c.in-Err.ensures in
     record {
       reading = reading_stopped self.settings self.level self.place self.wide self.sum self.decoder _ self.pieces.items _ _ _ self.given self.gave self.reading
-          e.none e.floor e.limit e.bounded e.capacity e.between;
+          e.none e.steps.floor e.steps.limit e.steps.bounded e.capacity e.steps.between;
     }
 
 pub returns-in-Err : goal.returns-in-Err
@@ -52,15 +52,15 @@ returns-in-Err g c =
           let file = seen FRAMES in
           record {
             left = left_stopped self.sum self.place (decoder_found self.decoder file) (decoder_found c.step.new.self file) self.fault c.place_in-self.result c.in-Err.fault
-                c.requires.fault (e.refused seen told) (λ at is. (e.malformed seen told at (ap Err is), c.place_in-self.ensures.malformed at is)) c.place_in-self.ensures.failed;
-            pieces = λ _. ap₂ (λ items (found : Found). drop self.given items ++ found.pieces) e.none (e.refused seen told);
+                c.requires.fault (e.steps.refused seen told) (λ at is. (e.steps.malformed seen told at (ap Err is), c.place_in-self.ensures.malformed at is)) c.place_in-self.ensures.failed;
+            pieces = λ _. ap₂ (λ items (found : Found). drop self.given items ++ found.pieces) e.none (e.steps.refused seen told);
           };
-      malformed = λ seen told at is. left_broken self.sum self.place at (decoder_found self.decoder (seen FRAMES)) self.fault c.requires.fault (e.malformed seen told at is);
+      malformed = λ seen told at is. left_broken self.sum self.place at (decoder_found self.decoder (seen FRAMES)) self.fault c.requires.fault (e.steps.malformed seen told at is);
       given = refl;
       fault = tt;
       work = tt;
       within = λ seen told within. tt;
-      only_reads = e.only_reads;
+      only_reads = e.steps.only_reads;
     }
 
 -- ---- a step that gives pieces
@@ -75,7 +75,7 @@ invariant_of-self g c =
     let items_are = kept_behind c.settle-self.result c.len-before.result self.pieces.items c.step.new.pieces.items c.settle-self.new.pieces.items from_is e.kept c.settle-self.ensures.kept in
     record {
       reading = reading_on self.settings self.level self.place self.wide self.sum c.settle-self.result self.decoder c.step.new.self self.pieces.items put c.settle-self.new.pieces.items
-          _ _ self.given self.gave self.reading less_is items_are e.ascend e.counts e.floor e.limit e.bounded (c.settle-self.ensures.capacity ∙ e.capacity) e.between;
+          _ _ self.given self.gave self.reading less_is items_are e.steps.ascend e.steps.counts e.steps.floor e.steps.limit e.steps.bounded (c.settle-self.ensures.capacity ∙ e.capacity) e.steps.between;
     }
 
 pub returns-in-Ok : goal.returns-in-Ok
@@ -90,7 +90,7 @@ returns-in-Ok g c =
       frame = record { settings = refl; level = refl; place = refl; wide = refl; gave = refl };
       to_come = λ seen told.
           let file = seen FRAMES in
-          let gives = e.gives seen told in
+          let gives = e.steps.gives seen told in
           let left : verdict c.settle-self.result self.place (decoder_found c.step.new.self file) ≡ verdict self.sum self.place (decoder_found self.decoder file) =
           left_on self.sum c.settle-self.result self.place put (decoder_found self.decoder file) (decoder_found c.step.new.self file) less_is gives in
           record {
@@ -102,11 +102,11 @@ returns-in-Ok g c =
       malformed = λ seen told at is. absurd (not_err _ _ is);
       given = refl;
       fault = c.requires.fault;
-      work = e.work;
+      work = e.steps.work;
       within = λ seen told within. record {
-        read = e.read seen told self.place within.from within.read;
-        from = omega (arith, e.moves, within.from);
-        end = e.end seen told ∙ within.end;
+        read = e.steps.read seen told self.place within.from within.read;
+        from = omega (arith, e.steps.moves, within.from);
+        end = e.steps.end seen told ∙ within.end;
       };
-      only_reads = e.only_reads;
+      only_reads = e.steps.only_reads;
     }

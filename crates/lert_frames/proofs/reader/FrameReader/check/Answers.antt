@@ -11,11 +11,11 @@ use Rattle.lert_frames.specs.ToCome.{IsOver}
 use Rattle.lert_frames.proofs.CheckLaws.{total_grows, whole_bin, left_started, whole_from, stands_from}
 use Rattle.lert_frames.proofs.FaultLaws.{not_err}
 use Rattle.lert_frames.proofs.WriteLaws.{same_err}
+use Rattle.lert_frames.specs.Calls.{bays_of}
 use Rattle.lert_frames.proofs.reader.FrameReader.check.Given as given
 use Rattle.lert_frames.proofs.reader.FrameReader.check.Goals as goal
-use Rattle.lert_frames.proofs.reader.FrameReader.check.Invariants.{bays}
 
-lawful : (g : given.Over) → IsLawful (bays g)
+lawful : (g : given.Over) → IsLawful (bays_of g.B.Faulty g.B.Bay)
 lawful g = record { as_read = g.met.B.Bay.as_read; since_now = g.met.B.Bay.since_now; only_now = g.met.B.Bay.only_now; since_earlier = g.met.B.Bay.since_earlier }
 
 pub loop-piece-init : goal.loop-piece-init
@@ -26,7 +26,7 @@ loop-piece-init g c = record {
   wide = refl;
   breaks = λ at. (λ same. same, λ same. same);
   within = λ seen told. c.start.ensures.within (seen FRAMES);
-  only_reads = reads_none (bays g) (lawful g) c.args.bay.now ⊥ (λ none. none);
+  only_reads = reads_none _ (lawful g) c.args.bay.now ⊥ (λ none. none);
 }
 
 pub loop-piece-preserved : goal.loop-piece-preserved
@@ -40,7 +40,7 @@ loop-piece-preserved g c =
       wide = e.wide ∙ is.wide;
       breaks = λ at. (λ later. (is.breaks at).0 ((e.breaks at).0 later), λ before. (e.breaks at).1 ((is.breaks at).1 before));
       within = λ seen told. e.within seen (is.only_reads.seen ∙ told) (is.within seen told);
-      only_reads = reads_on (bays g) (lawful g) c.args.bay.now c.loop-piece.bay c.next.new.ctx ⊥ ⊥ is.only_reads e.keeps;
+      only_reads = reads_on _ (lawful g) c.args.bay.now c.loop-piece.bay c.next.new.ctx ⊥ ⊥ is.only_reads e.keeps;
     }
 
 smaller_by : (wide later before more after : ℕ) → before < more → after ≡ more → after ≤ later → later ≡ wide → later - after < wide - before
@@ -69,8 +69,8 @@ returns-in_err-_piece-clause-malformed g c seen told at =
 pub returns-in_err-_piece-clause-only_reads : goal.returns-in_err-_piece-clause-only_reads
 returns-in_err-_piece-clause-only_reads g c =
     let p = err_from_is_err_and c.from_residual.result c.from_residual.ensures.1 in
-    rw (p.1, p.2) (reads_on (bays g) (lawful g) c.args.bay.now c.loop-piece.bay c.next.new.ctx ⊥ _ c.loop-piece.invariant.only_reads
-    (reads_as (bays g) (lawful g) c.loop-piece.bay c.next.new.ctx _ _ (same_err _ _) c.in_err-_piece.ensures.only_reads))
+    rw (p.1, p.2) (reads_on _ (lawful g) c.args.bay.now c.loop-piece.bay c.next.new.ctx ⊥ _ c.loop-piece.invariant.only_reads
+    (reads_as _ (lawful g) c.loop-piece.bay c.next.new.ctx _ _ (same_err _ _) c.in_err-_piece.ensures.only_reads))
 
 -- ---- at the end
 
@@ -109,5 +109,5 @@ returns-clause-stands g c seen told =
 
 pub returns-clause-only_reads : goal.returns-clause-only_reads
 returns-clause-only_reads g c =
-    reads_on (bays g) (lawful g) c.args.bay.now c.loop-piece.bay c.next.new.ctx ⊥ _ c.loop-piece.invariant.only_reads
-    (reads_as (bays g) (lawful g) c.loop-piece.bay c.next.new.ctx ⊥ _ (λ failed. not_err _ _ failed) c.in_ok-_piece.ensures.keeps)
+    reads_on _ (lawful g) c.args.bay.now c.loop-piece.bay c.next.new.ctx ⊥ _ c.loop-piece.invariant.only_reads
+    (reads_as _ (lawful g) c.loop-piece.bay c.next.new.ctx ⊥ _ (λ failed. not_err _ _ failed) c.in_ok-_piece.ensures.keeps)

@@ -1,21 +1,11 @@
 use Rattle.std.proofs.Common.{◌≡◌, ◌-◌, ◌↔◌, ℕ, Some}
 use Rattle.lert_bay.specs.Files.{Files}
-use Rattle.lert_bay.specs.Kept.{Bays, OnlyReads}
+use Rattle.lert_bay.specs.Kept.{OnlyReads}
 use Rattle.lert_bay.specs.declared.bay.TheConstants.{FRAMES}
 use Rattle.lert_spec.specs.Table.{total}
 use Rattle.lert_frames.specs.ToCome.{Breaks, IsWithin}
+use Rattle.lert_frames.specs.Calls.{bays_of}
 use Rattle.lert_frames.proofs.reader.FrameReader.check.Given as goal
-
-abbrev pub bays : (g : goal.Over) → Bays g.row.B.Denot
-bays g = record {
-  faults = g.B.Faulty.faults;
-  mark = g.B.Faulty.mark;
-  files = g.B.Bay.files;
-  leaves = g.B.Bay.leaves;
-  moment = g.B.Bay.moment;
-  left_since = g.B.Bay.left_since;
-  handed_out = g.B.Bay.handed_out;
-}
 
 -- the frame is the same, it leaves its text where it did, and nothing was changed
 abbrev pub invariant-loop-piece : goal.invariant-loop-piece
@@ -26,7 +16,7 @@ invariant-loop-piece g l = record {
   wide : l.self.wide ≡ l.initial.self.wide;
   breaks : (at : ℕ) → Breaks (g.B.Bay.files l.bay) l.self at ↔ Breaks (g.B.Bay.files l.fn.bay) l.initial.self at;
   within : (seen : Files) → g.B.Bay.files l.fn.bay ≡ Some seen → IsWithin l.self (seen FRAMES);
-  only_reads : OnlyReads (bays g) l.fn.bay l.bay ⊥;
+  only_reads : OnlyReads (bays_of g.B.Faulty g.B.Bay) l.fn.bay l.bay ⊥;
 }
 
 -- each piece raises the sum of those that were given

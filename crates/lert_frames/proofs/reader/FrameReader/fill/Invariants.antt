@@ -1,21 +1,11 @@
 use Rattle.std.proofs.Common.{◌≡◌, None, Some}
 use Rattle.lert_bay.specs.Files.{Files}
-use Rattle.lert_bay.specs.Kept.{Bays, OnlyReads}
+use Rattle.lert_bay.specs.Kept.{OnlyReads}
 use Rattle.lert_bay.specs.declared.bay.TheConstants.{FRAMES}
 use Rattle.lert_frames.specs.Decoded.{work_of}
 use Rattle.lert_frames.specs.ToCome.{IsSameFrame, IsSameToCome, IsWithin}
+use Rattle.lert_frames.specs.Calls.{bays_of}
 use Rattle.lert_frames.proofs.reader.FrameReader.fill.Given as goal
-
-abbrev pub bays : (g : goal.Over) → Bays g.row.B.Denot
-bays g = record {
-  faults = g.B.Faulty.faults;
-  mark = g.B.Faulty.mark;
-  files = g.B.Bay.files;
-  leaves = g.B.Bay.leaves;
-  moment = g.B.Bay.moment;
-  left_since = g.B.Bay.left_since;
-  handed_out = g.B.Bay.handed_out;
-}
 
 -- the same is to come, and nothing was changed
 abbrev pub invariant-loop-self : goal.invariant-loop-self
@@ -25,7 +15,7 @@ invariant-loop-self g l = record {
   frame : IsSameFrame l.fn.self l.self;
   to_come : (seen : Files) → g.B.Bay.files l.fn.bay ≡ Some seen → IsSameToCome l.fn.self l.self (seen FRAMES);
   within : (seen : Files) → g.B.Bay.files l.fn.bay ≡ Some seen → IsWithin l.fn.self (seen FRAMES) → IsWithin l.self (seen FRAMES);
-  only_reads : OnlyReads (bays g) l.fn.bay l.bay ⊥;
+  only_reads : OnlyReads (bays_of g.B.Faulty g.B.Bay) l.fn.bay l.bay ⊥;
 }
 
 abbrev pub decreases-loop-self : goal.decreases-loop-self

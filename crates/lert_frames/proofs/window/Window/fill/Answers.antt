@@ -1,28 +1,17 @@
 use Rattle.std.proofs.Common.{◌≡◌, ℕ, ◌≤◌, ◌++◌, ◌∙◌, take, drop, refl, sym, ap, ap₂, subst, arith}
 use Rattle.std.proofs.lemmas.Result.{err_from_is_err_and}
 use Rattle.lert_bay.specs.declared.bay.TheConstants.{FRAMES}
-use Rattle.lert_bay.specs.Kept.{Bays}
 use Rattle.lert_bay.specs.Settled.{part}
 use Rattle.lert_bay.proofs.KeptLaws.{IsLawful, reads_as}
 use Rattle.lert_frames.specs.declared.window.Window.{Window}
 use Rattle.lert_frames.specs.Window.{count_of, place_of}
 use Rattle.lert_frames.specs.Bytes.{AreBytes}
 use Rattle.lert_frames.proofs.WindowLaws.{hand_kept, filled_come, filled_all, read_more}
+use Rattle.lert_frames.specs.Calls.{bays_of}
 use Rattle.lert_frames.proofs.window.Window.fill.Given as given
 use Rattle.lert_frames.proofs.window.Window.fill.Goals as goal
 
-abbrev bays : (g : given.Over) → Bays g.row.B.Denot
-bays g = record {
-  faults = g.B.Faulty.faults;
-  mark = g.B.Faulty.mark;
-  files = g.B.Bay.files;
-  leaves = g.B.Bay.leaves;
-  moment = g.B.Bay.moment;
-  left_since = g.B.Bay.left_since;
-  handed_out = g.B.Bay.handed_out;
-}
-
-lawful : (g : given.Over) → IsLawful (bays g)
+lawful : (g : given.Over) → IsLawful (bays_of g.B.Faulty g.B.Bay)
 lawful g = record { as_read = g.met.B.Bay.as_read; since_now = g.met.B.Bay.since_now; only_now = g.met.B.Bay.only_now; since_earlier = g.met.B.Bay.since_earlier }
 
 -- the place of what is at hand
@@ -43,14 +32,15 @@ returns-in_err-read g c =
     let p = err_from_is_err_and c.from_residual.result c.from_residual.ensures.1 in
     rw p.1 (record {
       full = λ seen told. tt;
-      told = λ seen told. ap₂ (λ hand at. hand ++ drop at (seen FRAMES)) hand moved.end;
-      failed = λ file. ap₂ (λ hand at. hand ++ drop at file) hand moved.end;
-      unread = (hand, moved.end);
-      read = λ seen told from before known. subst (λ (n : ℕ). AreBytes (part (seen FRAMES) from n)) (sym moved.end) known;
-      place = place_moved w old moved.front moved.count moved.end;
-      grows = count_moved w old moved.front moved.count moved.end;
-      room = moved.room;
-      only_reads = reads_as (bays g) (lawful g) c.args.bay.now c.read_behind.new.bay _ _ (λ _. refl) c.in_err-read.ensures.only_reads;
+      ahead = record {
+        place = place_moved w old moved.front moved.count moved.end;
+        room = moved.room;
+        grows = count_moved w old moved.front moved.count moved.end;
+        later = omega (arith, moved.end);
+        come = λ seen told. ap₂ (λ hand at. hand ++ drop at (seen FRAMES)) hand moved.end;
+        read = λ seen told from before known. subst (λ (n : ℕ). AreBytes (part (seen FRAMES) from n)) (sym moved.end) known;
+      };
+      only_reads = reads_as _ (lawful g) c.args.bay.now c.read_behind.new.bay _ _ (λ _. refl) c.in_err-read.ensures.only_reads;
     })
 
 pub returns-clause-full : goal.returns-clause-full
@@ -62,17 +52,22 @@ returns-clause-full g c seen told short =
     (omega (arith, short, moved.front))
     ∙ ap₂ (λ hand at. hand ++ drop at (seen FRAMES)) moved.hand moved.end
 
-pub returns-clause-told : goal.returns-clause-told
-returns-clause-told g c seen told =
+pub returns-clause-ahead : goal.returns-clause-ahead
+returns-clause-ahead g c =
     let w = c.move_to_front.new.self in
     let moved = c.move_to_front.ensures in
+    let into = c.read_behind.new.into in
+    let read = c.in_ok-read.read in
     let same = c.read_behind.ensures.front ∙ ap (take w.upto) c.deref_mut.ensures.value in
-    filled_come w.bytes c.read_behind.new.into w.from w.upto moved.front (omega arith) same (seen FRAMES) w.at c.in_ok-read.read (c.in_ok-read.ensures.told seen told)
-    ∙ ap₂ (λ hand at. hand ++ drop at (seen FRAMES)) moved.hand moved.end
-
-pub returns-clause-read : goal.returns-clause-read
-returns-clause-read g c seen told from before known =
-    let w = c.move_to_front.new.self in
-    let moved = c.move_to_front.ensures in
-    read_more c.read_behind.new.into (seen FRAMES) w.upto w.at c.in_ok-read.read from (c.in_ok-read.ensures.told seen told) (omega (arith, before, moved.end))
-    c.read_behind.ensures.small (subst (λ (n : ℕ). AreBytes (part (seen FRAMES) from n)) (sym moved.end) known)
+    record {
+      place = omega (arith, moved.front, moved.count, moved.end);
+      room = moved.room;
+      grows = omega (arith, moved.front, moved.count);
+      later = omega (arith, moved.end);
+      come = λ seen told.
+          filled_come w.bytes into w.from w.upto moved.front (omega arith) same (seen FRAMES) w.at read (c.in_ok-read.ensures.told seen told)
+          ∙ ap₂ (λ hand at. hand ++ drop at (seen FRAMES)) moved.hand moved.end;
+      read = λ seen told from before known.
+          read_more into (seen FRAMES) w.upto w.at read from (c.in_ok-read.ensures.told seen told) (omega (arith, before, moved.end)) c.read_behind.ensures.small
+          (subst (λ (n : ℕ). AreBytes (part (seen FRAMES) from n)) (sym moved.end) known);
+    }

@@ -1,25 +1,13 @@
-use Rattle.std.proofs.Common.{◌<◌, ◌∙◌, length, refl, sym, arith}
-use Rattle.std.proofs.lemmas.List.Elements.{All-same}
+use Rattle.std.proofs.Common.{◌<◌, length, refl, arith}
 use Rattle.std.proofs.lemmas.Result.{err_from_is_err_and}
-use Rattle.lert_bay.specs.Kept.{Bays}
 use Rattle.lert_bay.proofs.KeptLaws.{IsLawful, reads_as}
-use Rattle.lert_frames.specs.Window.{at_hand, count_of}
+use Rattle.lert_frames.specs.Window.{count_of}
 use Rattle.lert_frames.proofs.WindowLaws.{is_enough, too_few}
+use Rattle.lert_frames.specs.Calls.{bays_of}
 use Rattle.lert_frames.proofs.window.Window.need.Given as given
 use Rattle.lert_frames.proofs.window.Window.need.Goals as goal
 
-abbrev bays : (g : given.Over) → Bays g.row.B.Denot
-bays g = record {
-  faults = g.B.Faulty.faults;
-  mark = g.B.Faulty.mark;
-  files = g.B.Bay.files;
-  leaves = g.B.Bay.leaves;
-  moment = g.B.Bay.moment;
-  left_since = g.B.Bay.left_since;
-  handed_out = g.B.Bay.handed_out;
-}
-
-lawful : (g : given.Over) → IsLawful (bays g)
+lawful : (g : given.Over) → IsLawful (bays_of g.B.Faulty g.B.Bay)
 lawful g = record { as_read = g.met.B.Bay.as_read; since_now = g.met.B.Bay.since_now; only_now = g.met.B.Bay.only_now; since_earlier = g.met.B.Bay.since_earlier }
 
 pub returns-in_err-fill : goal.returns-in_err-fill
@@ -29,15 +17,8 @@ returns-in_err-fill g c =
     rw p.1 (record {
       enough = tt;
       ends = λ seen told. tt;
-      told = filled.told;
-      failed = filled.failed;
-      unread = filled.unread;
-      read = filled.read;
-      small = All-same (λ byte. byte < 256) (at_hand c.fill.new.self) c.at_hand.result.now (filled.unread.0 ∙ sym c.at_hand.ensures.value) c.at_hand.ensures.small;
-      place = filled.place;
-      grows = filled.grows;
-      room = filled.room;
-      only_reads = reads_as (bays g) (lawful g) c.args.bay.now c.fill.new.bay _ _ (λ _. refl) filled.only_reads;
+      ahead = filled.ahead;
+      only_reads = reads_as _ (lawful g) c.args.bay.now c.fill.new.bay _ _ (λ _. refl) filled.only_reads;
     })
 
 pub fill-requires : goal.fill-requires
@@ -49,11 +30,7 @@ returns-clause-enough g c = is_enough c.args.count (length c.at_hand-2.result.no
 pub returns-clause-ends : goal.returns-clause-ends
 returns-clause-ends g c seen told missing =
     let short = too_few c.args.count (length c.at_hand-2.result.now) (count_of c.fill.new.self) c.at_hand-2.ensures.count missing in
-    c.in_ok-fill.ensures.full seen told (omega (arith, short, c.requires.fits, c.in_ok-fill.ensures.room))
+    c.in_ok-fill.ensures.full seen told (omega (arith, short, c.requires.fits, c.in_ok-fill.ensures.ahead.room))
 
-pub returns-clause-read : goal.returns-clause-read
-returns-clause-read g c = c.in_ok-fill.ensures.read
-
-pub returns-clause-small : goal.returns-clause-small
-returns-clause-small g c =
-    All-same (λ byte. byte < 256) (at_hand c.fill.new.self) c.at_hand-2.result.now (sym c.at_hand-2.ensures.value) c.at_hand-2.ensures.small
+pub returns-clause-ahead : goal.returns-clause-ahead
+returns-clause-ahead g c = c.in_ok-fill.ensures.ahead

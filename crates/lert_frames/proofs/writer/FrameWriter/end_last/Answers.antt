@@ -5,32 +5,21 @@ use Rattle.lert_frames.specs.Writing.{end_of}
 use Rattle.lert_frames.proofs.CallLaws.{writes_as}
 use Rattle.lert_frames.proofs.GrowingLaws.{growing_room, growing_again, first_within, last_within, closed_within}
 use Rattle.lert_frames.proofs.WritingLaws.{in_block-ascend, holds_frame}
-use Rattle.lert_bay.specs.Kept.{Bays}
 use Rattle.lert_bay.proofs.KeptLaws.{IsLawful}
+use Rattle.lert_frames.specs.Calls.{bays_of}
 use Rattle.lert_frames.proofs.writer.FrameWriter.end_last.Given as given
 use Rattle.lert_frames.proofs.writer.FrameWriter.end_last.Goals as goal
 
-abbrev bays : (g : given.Over) → Bays g.row.B.Denot
-bays g = record {
-  faults = g.B.Faulty.faults;
-  mark = g.B.Faulty.mark;
-  files = g.B.Bay.files;
-  leaves = g.B.Bay.leaves;
-  moment = g.B.Bay.moment;
-  left_since = g.B.Bay.left_since;
-  handed_out = g.B.Bay.handed_out;
-}
-
-lawful : (g : given.Over) → IsLawful (bays g)
+lawful : (g : given.Over) → IsLawful (bays_of g.B.Faulty g.B.Bay)
 lawful g = record { as_read = g.met.B.Bay.as_read; since_now = g.met.B.Bay.since_now; only_now = g.met.B.Bay.only_now; since_earlier = g.met.B.Bay.since_earlier }
 
 pub close_last-requires-clause-room : goal.close_last-requires-clause-room
-close_last-requires-clause-room g c = let w = c.args.self.now in growing_room w.growing
+close_last-requires-clause-room g c = let w = c.args.self.now in growing_room w.growing w.holding
 
-pub invariant_of-self-clause-growing : goal.invariant_of-self-clause-growing
-invariant_of-self-clause-growing g c =
+pub invariant_of-self-clause-holding : goal.invariant_of-self-clause-holding
+invariant_of-self-clause-holding g c =
     let w = c.args.self.now in
-    growing_again w.growing c.restart.new.outlet c.close_last.new.ends c.restart.new.block.len (omega (arith, c.restart.ensures.size, c.in-Err.ensures.size)) c.in-Err.ensures.ends_size
+    growing_again w.growing w.holding c.restart.new.outlet c.close_last.new.ends c.restart.new.block.len (omega (arith, c.restart.ensures.size, c.in-Err.ensures.size)) c.in-Err.ensures.ends_size
     c.restart.ensures.len c.restart.ensures.place (omega (arith, c.restart.ensures.at))
 
 pub returns-in-Err-clause-proceeds : goal.returns-in-Err-clause-proceeds
@@ -38,14 +27,14 @@ returns-in-Err-clause-proceeds g c =
     let w = c.args.self.now in
     record {
       same = record { settings = refl; level = refl; frame = refl; width = refl; place = refl; put = refl; left = refl };
-      writes = writes_as (bays g) (lawful g) w.place (end_of w) _ _ _ _ (λ _. refl)
-          (c.in-Err.ensures.writes w.place (end_of w) (first_within w.growing) (last_within w.growing) (closed_within w.growing));
+      writes = writes_as _ (lawful g) w.place (end_of w) _ _ _ _ (λ _. refl)
+          (c.in-Err.ensures.writes w.place (end_of w) (first_within w.growing w.holding) (last_within w.growing w.holding) (closed_within w.growing w.holding));
     }
 
-pub invariant_of-self-2-clause-growing : goal.invariant_of-self-2-clause-growing
-invariant_of-self-2-clause-growing g c =
+pub invariant_of-self-2-clause-holding : goal.invariant_of-self-2-clause-holding
+invariant_of-self-2-clause-holding g c =
     let w = c.args.self.now in
-    growing_again w.growing c.restart-2.new.outlet c.close_last.new.ends c.restart-2.new.block.len (omega (arith, c.restart-2.ensures.size, c.in_default.ensures.size)) c.in_default.ensures.ends_size
+    growing_again w.growing w.holding c.restart-2.new.outlet c.close_last.new.ends c.restart-2.new.block.len (omega (arith, c.restart-2.ensures.size, c.in_default.ensures.size)) c.in_default.ensures.ends_size
     c.restart-2.ensures.len c.restart-2.ensures.place (omega (arith, c.restart-2.ensures.at))
 
 pub returns-clause-proceeds : goal.returns-clause-proceeds
@@ -53,8 +42,8 @@ returns-clause-proceeds g c =
     let w = c.args.self.now in
     record {
       same = record { settings = refl; level = refl; frame = refl; width = refl; place = refl; put = refl; left = refl };
-      writes = writes_as (bays g) (lawful g) w.place (end_of w) _ _ _ _ (λ never. never)
-          (c.in_default.ensures.writes w.place (end_of w) (first_within w.growing) (last_within w.growing) (closed_within w.growing));
+      writes = writes_as _ (lawful g) w.place (end_of w) _ _ _ _ (λ never. never)
+          (c.in_default.ensures.writes w.place (end_of w) (first_within w.growing w.holding) (last_within w.growing w.holding) (closed_within w.growing w.holding));
     }
 
 pub returns-clause-stands : goal.returns-clause-stands

@@ -4,71 +4,35 @@ use Rattle.std.proofs.lemmas.List.{length-take-le}
 use Rattle.std.proofs.lemmas.Result.{err_from_is_err_and}
 use Rattle.lert_bay.specs.declared.bay.TheConstants.{FRAMES}
 use Rattle.lert_blocks.specs.Text.{blocks_text, pieces_in}
-use Rattle.lert_frames.specs.declared.outlet.Outlet.{Outlet}
 use Rattle.lert_frames.specs.declared.writer.FrameWriter.{FrameWriter}
-use Rattle.lert_frames.specs.Growing.{IsGrowing}
-use Rattle.lert_frames.specs.Outlet.{next_place, size_of}
+use Rattle.lert_frames.specs.Outlet.{next_place}
 use Rattle.lert_frames.specs.Spilt.{Reaches, block_bytes}
 use Rattle.lert_frames.specs.Writing.{end_of}
-use Rattle.lert_frames.proofs.GrowingLaws.{growing_long, long_fits}
+use Rattle.lert_frames.proofs.GrowingLaws.{growing_flushed, growing_long, long_fits}
 use Rattle.lert_frames.proofs.ProceedLaws.{proceeds_none, stays_none}
 use Rattle.lert_frames.proofs.WritingLaws.{behind_long}
-use Rattle.lert_bay.specs.Kept.{Bays}
 use Rattle.lert_bay.proofs.KeptLaws.{IsLawful}
+use Rattle.lert_frames.specs.Calls.{bays_of}
 use Rattle.lert_frames.proofs.writer.FrameWriter.long_block.Given as given
 use Rattle.lert_frames.proofs.writer.FrameWriter.long_block.Goals as goal
 
-abbrev bays : (g : given.Over) → Bays g.row.B.Denot
-bays g = record {
-  faults = g.B.Faulty.faults;
-  mark = g.B.Faulty.mark;
-  files = g.B.Bay.files;
-  leaves = g.B.Bay.leaves;
-  moment = g.B.Bay.moment;
-  left_since = g.B.Bay.left_since;
-  handed_out = g.B.Bay.handed_out;
-}
-
-lawful : (g : given.Over) → IsLawful (bays g)
+lawful : (g : given.Over) → IsLawful (bays_of g.B.Faulty g.B.Bay)
 lawful g = record { as_read = g.met.B.Bay.as_read; since_now = g.met.B.Bay.since_now; only_now = g.met.B.Bay.only_now; since_earlier = g.met.B.Bay.since_earlier }
 
 pub returns-in-Some : goal.returns-in-Some
 returns-in-Some g c =
     let w = c.args.self.now in
     record {
-      proceeds = proceeds_none (bays g) (lawful g) w w _ _ (record { settings = refl; level = refl; frame = refl; width = refl; place = refl; put = refl; left = refl })
+      proceeds = proceeds_none _ (lawful g) w w _ _ (record { settings = refl; level = refl; frame = refl; width = refl; place = refl; put = refl; left = refl })
           (λ e. absurd (false≢true e));
-      stays = stays_none (bays g) w c.args.bay.now;
+      stays = stays_none (bays_of g.B.Faulty g.B.Bay) w c.args.bay.now;
       number = refl;
       block = refl;
       long = c.in-Some.is;
     }
 
--- a flush that failed
-growing_same : (w : FrameWriter) (outlet : Outlet) → w.long ≡ None → size_of outlet ≡ size_of w.outlet → next_place outlet ≡ next_place w.outlet → w.outlet.at ≤ outlet.at →
-    IsGrowing w.settings w.level w.frame w.width w.place w.number w.left outlet w.ends w.block.len w.long w.put
-growing_same w outlet none size place at =
-    let was = w.growing in
-    record {
-      valid = was.valid;
-      first = was.first;
-      last = was.last;
-      within = was.within;
-      width_is = was.width_is;
-      place_is = was.place_is;
-      end = was.end;
-      below = was.below;
-      left_is = was.left_is;
-      size = size ∙ was.size;
-      ends_size = was.ends_size;
-      few = was.few;
-      short = λ is. record { at = omega (arith, (was.short is).at, at); fits = omega (arith, (was.short is).fits, place) };
-      some = was.some;
-      spilt = λ l is. absurd (cc);
-    }
-
 flush_end : (w : FrameWriter) → w.long ≡ None → next_place w.outlet ≤ end_of w
-flush_end w none = omega (arith, long_fits w.growing none)
+flush_end w none = omega (arith, long_fits w.growing w.holding none)
 
 long_reach : (place slots : ℕ) (w : FrameWriter) → place + slots ≤ end_of w → place + slots < 2 ^ 62
 long_reach place slots w fits = omega (arith, fits, w.growing.end)
@@ -77,7 +41,7 @@ pub invariant_of-self : goal.invariant_of-self
 invariant_of-self g c =
     let w = c.args.self.now in
     let flushed = c.in_err-flush.ensures in
-    record { growing = growing_same w c.flush.new.self c.in_default.is flushed.size flushed.place flushed.at; given = w.given }
+    record { growing = w.growing; holding = growing_flushed w.growing w.holding c.flush.new.self c.in_default.is flushed.size flushed.place flushed.at; given = w.given }
 
 pub begin_long-long-requires : goal.begin_long-long-requires
 begin_long-long-requires g c =
@@ -85,7 +49,7 @@ begin_long-long-requires g c =
     let b = w.block in
     let counted : length c.slots.result.now ≡ b.len = ap length c.slots.ensures ∙ length-take-le b.len b.slots.items (omega (arith, b.sized.0, b.sized.2)) in
     let fits : next_place c.flush.new.self + block_bytes (length c.slots.result.now + 2 * w.left) ≤ end_of w =
-    omega (arith, long_fits w.growing c.in_default.is, c.in_ok-flush.ensures.place, counted) in
+    omega (arith, long_fits w.growing w.holding c.in_default.is, c.in_ok-flush.ensures.place, counted) in
     long_reach (next_place c.flush.new.self) (block_bytes (length c.slots.result.now + 2 * w.left)) w fits
 
 pub returns-in_err-flush : goal.returns-in_err-flush
@@ -96,7 +60,7 @@ returns-in_err-flush g c =
     rw p.1 (record {
       proceeds = record {
         same = record { settings = refl; level = refl; frame = refl; width = refl; place = refl; put = refl; left = refl };
-        writes = record { within = flushed.within w.place (end_of w) (w.growing.short c.in_default.is).at (flush_end w c.in_default.is); kept = flushed.kept };
+        writes = record { within = flushed.within w.place (end_of w) (w.holding.short c.in_default.is).at (flush_end w c.in_default.is); kept = flushed.kept };
       };
       stays = tt;
       number = refl;
@@ -113,8 +77,8 @@ returns-clause-block g c = refl
 pub returns-clause-long : goal.returns-clause-long
 returns-clause-long g c = refl
 
-pub invariant_of-self-2-clause-growing : goal.invariant_of-self-2-clause-growing
-invariant_of-self-2-clause-growing g c =
+pub invariant_of-self-2-clause-holding : goal.invariant_of-self-2-clause-holding
+invariant_of-self-2-clause-holding g c =
     let w = c.args.self.now in
     let b = w.block in
     let flushed = c.in_ok-flush.ensures in
@@ -122,19 +86,19 @@ invariant_of-self-2-clause-growing g c =
     let counted : length c.slots.result.now ≡ b.len = ap length c.slots.ensures ∙ length-take-le b.len b.slots.items (omega (arith, b.sized.0, b.sized.2)) in
     let most : length c.slots.result.now + 2 * w.left ≡ b.len + 2 * w.left = omega (arith, counted) in
     let fits : next_place c.flush.new.self + block_bytes (length c.slots.result.now + 2 * w.left) ≤ end_of w =
-    omega (arith, long_fits w.growing c.in_default.is, flushed.place, counted) in
-    growing_long w.growing c.begin_long-long.new.outlet c.begin_long-long.new.ends c.begin_long-long.result c.in_default.is c.requires
-    (begun.size ∙ (flushed.size ∙ w.growing.size)) (begun.ends_size ∙ w.growing.ends_size) (begun.begin ∙ flushed.place) begun.words
+    omega (arith, long_fits w.growing w.holding c.in_default.is, flushed.place, counted) in
+    growing_long w.growing w.holding c.begin_long-long.new.outlet c.begin_long-long.new.ends c.begin_long-long.result c.in_default.is c.requires
+    (begun.size ∙ (flushed.size ∙ w.holding.size)) (begun.ends_size ∙ w.holding.ends_size) (begun.begin ∙ flushed.place) begun.words
     (subst (λ n. Reaches c.begin_long-long.result n (end_of w) c.begin_long-long.new.ends c.begin_long-long.new.outlet) most (begun.reach (end_of w) fits))
 
 pub returns-clause-proceeds : goal.returns-clause-proceeds
 returns-clause-proceeds g c =
     let w = c.args.self.now in
-    let short = w.growing.short c.in_default.is in
+    let short = w.holding.short c.in_default.is in
     record {
       same = record { settings = refl; level = refl; frame = refl; width = refl; place = refl; put = refl; left = refl };
       writes = record {
-        within = c.in_ok-flush.ensures.within w.place (end_of w) short.at (omega (arith, long_fits w.growing c.in_default.is));
+        within = c.in_ok-flush.ensures.within w.place (end_of w) short.at (omega (arith, long_fits w.growing w.holding c.in_default.is));
         kept = c.in_ok-flush.ensures.kept;
       };
     }

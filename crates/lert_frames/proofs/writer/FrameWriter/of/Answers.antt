@@ -9,12 +9,17 @@ use Rattle.lert_frames.proofs.writer.FrameWriter.of.Goals as goal
 
 pub invariant_of-result-clause-growing : goal.invariant_of-result-clause-growing
 invariant_of-result-clause-growing c =
+    let valid : IsValid c.args.settings.now = subst IsValid c.numbers-valid.ensures.value c.numbers-valid.ensures.valid in
+    let place = c.frame_place-place.ensures in
+    record { valid = valid; first = c.requires.first; last = c.requires.last; within = omega arith; width_is = c.width.ensures.value; place_is = place.value; end = place.end }
+
+pub invariant_of-result-clause-holding : goal.invariant_of-result-clause-holding
+invariant_of-result-clause-holding c =
     let s = c.args.settings.now in
     let valid : IsValid s = subst IsValid c.numbers-valid.ensures.value c.numbers-valid.ensures.valid in
-    growing_new s c.args.level 0 c.width.result c.frame_place-place.result 0 c.span.result c.restart.new.outlet c.args.ends c.restart.new.block.len c.new.result
-    valid c.requires.first c.requires.last (omega arith) c.width.ensures.value c.frame_place-place.ensures.value c.frame_place-place.ensures.end (some_block s c.args.level valid c.requires.last)
-    (omega (arith, ap total c.new.ensures, c.span.ensures.value)) (c.restart.ensures.size ∙ c.requires.size) c.requires.ends_size c.restart.ensures.len c.restart.ensures.place
-    (omega (arith, c.restart.ensures.at))
+    growing_new s c.args.level c.frame_place-place.result 0 c.span.result c.restart.new.outlet c.args.ends c.restart.new.block.len c.new.result
+    (some_block s c.args.level valid c.requires.last) (omega (arith, ap total c.new.ensures, c.span.ensures.value)) (c.restart.ensures.size ∙ c.requires.size) c.requires.ends_size
+    c.restart.ensures.len c.restart.ensures.place (omega (arith, c.restart.ensures.at))
 
 pub invariant_of-result-clause-given : goal.invariant_of-result-clause-given
 invariant_of-result-clause-given c = subst (λ (ps : List Piece). AreGiven (tail_limit c.args.settings.now) ps) (sym c.new.ensures) (given_none (tail_limit c.args.settings.now))

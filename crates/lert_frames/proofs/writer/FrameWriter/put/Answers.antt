@@ -9,23 +9,12 @@ use Rattle.lert_spec.specs.Table.{AreGiven, total}
 use Rattle.lert_frames.proofs.ProceedLaws.{frame_writes, frame_outside, proceeds_as}
 use Rattle.lert_frames.proofs.WritingLaws.{last_piece}
 use Rattle.lert_frames.proofs.WriteLaws.{on_err}
-use Rattle.lert_bay.specs.Kept.{Bays}
 use Rattle.lert_bay.proofs.KeptLaws.{IsLawful}
+use Rattle.lert_frames.specs.Calls.{bays_of}
 use Rattle.lert_frames.proofs.writer.FrameWriter.put.Given as given
 use Rattle.lert_frames.proofs.writer.FrameWriter.put.Goals as goal
 
-abbrev bays : (g : given.Over) → Bays g.row.B.Denot
-bays g = record {
-  faults = g.B.Faulty.faults;
-  mark = g.B.Faulty.mark;
-  files = g.B.Bay.files;
-  leaves = g.B.Bay.leaves;
-  moment = g.B.Bay.moment;
-  left_since = g.B.Bay.left_since;
-  handed_out = g.B.Bay.handed_out;
-}
-
-lawful : (g : given.Over) → IsLawful (bays g)
+lawful : (g : given.Over) → IsLawful (bays_of g.B.Faulty g.B.Bay)
 lawful g = record { as_read = g.met.B.Bay.as_read; since_now = g.met.B.Bay.since_now; only_now = g.met.B.Bay.only_now; since_earlier = g.met.B.Bay.since_earlier }
 
 pub ready-requires : goal.ready-requires
@@ -48,14 +37,14 @@ pub returns-in_err-ready-clause-failed : goal.returns-in_err-ready-clause-failed
 returns-in_err-ready-clause-failed g c = on_err _ c.from_residual.result c.in_err-ready.ensures.proceeds.same.put
 
 pub returns-in_err-ready-clause-within : goal.returns-in_err-ready-clause-within
-returns-in_err-ready-clause-within g c = (frame_writes (bays g) c.args.self.now c.ready.new.self _ _ _ c.in_err-ready.ensures.proceeds).within
+returns-in_err-ready-clause-within g c = (frame_writes _ c.args.self.now c.ready.new.self _ _ _ c.in_err-ready.ensures.proceeds).within
 
 pub returns-in_err-ready-clause-outside : goal.returns-in_err-ready-clause-outside
-returns-in_err-ready-clause-outside g c seen told = frame_outside (bays g) c.args.self.now c.ready.new.self _ _ _ seen c.in_err-ready.ensures.proceeds
+returns-in_err-ready-clause-outside g c seen told = frame_outside _ c.args.self.now c.ready.new.self _ _ _ seen c.in_err-ready.ensures.proceeds
 
 pub returns-in_err-ready-clause-kept : goal.returns-in_err-ready-clause-kept
 returns-in_err-ready-clause-kept g c =
-    (proceeds_as (bays g) (lawful g) c.args.self.now c.ready.new.self _ _ _ _ (λ _. refl) c.in_err-ready.ensures.proceeds).writes.kept
+    (proceeds_as _ (lawful g) c.args.self.now c.ready.new.self _ _ _ _ (λ _. refl) c.in_err-ready.ensures.proceeds).writes.kept
 
 pub returns-clause-put : goal.returns-clause-put
 returns-clause-put g c =
@@ -79,10 +68,10 @@ pub returns-clause-frame : goal.returns-clause-frame
 returns-clause-frame g c = c.take.ensures.frame ∙ c.in_ok-ready.ensures.proceeds.same.frame
 
 pub returns-clause-within : goal.returns-clause-within
-returns-clause-within g c = (frame_writes (bays g) c.args.self.now c.ready.new.self _ _ _ c.in_ok-ready.ensures.proceeds).within
+returns-clause-within g c = (frame_writes _ c.args.self.now c.ready.new.self _ _ _ c.in_ok-ready.ensures.proceeds).within
 
 pub returns-clause-outside : goal.returns-clause-outside
-returns-clause-outside g c seen told = frame_outside (bays g) c.args.self.now c.ready.new.self _ _ _ seen c.in_ok-ready.ensures.proceeds
+returns-clause-outside g c seen told = frame_outside _ c.args.self.now c.ready.new.self _ _ _ seen c.in_ok-ready.ensures.proceeds
 
 pub returns-clause-kept : goal.returns-clause-kept
 returns-clause-kept g c = c.in_ok-ready.ensures.proceeds.writes.kept

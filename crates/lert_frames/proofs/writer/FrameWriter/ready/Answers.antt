@@ -6,23 +6,12 @@ use Rattle.lert_frames.specs.declared.writer.FrameWriter.{FrameWriter}
 use Rattle.lert_frames.proofs.ProceedLaws.{proceeds_as, proceeds_on, stays_on}
 use Rattle.lert_frames.proofs.WritingLaws.{block_within}
 use Rattle.lert_frames.proofs.WriteLaws.{on_ok}
-use Rattle.lert_bay.specs.Kept.{Bays}
 use Rattle.lert_bay.proofs.KeptLaws.{IsLawful}
+use Rattle.lert_frames.specs.Calls.{bays_of}
 use Rattle.lert_frames.proofs.writer.FrameWriter.ready.Given as given
 use Rattle.lert_frames.proofs.writer.FrameWriter.ready.Goals as goal
 
-abbrev bays : (g : given.Over) → Bays g.row.B.Denot
-bays g = record {
-  faults = g.B.Faulty.faults;
-  mark = g.B.Faulty.mark;
-  files = g.B.Bay.files;
-  leaves = g.B.Bay.leaves;
-  moment = g.B.Bay.moment;
-  left_since = g.B.Bay.left_since;
-  handed_out = g.B.Bay.handed_out;
-}
-
-lawful : (g : given.Over) → IsLawful (bays g)
+lawful : (g : given.Over) → IsLawful (bays_of g.B.Faulty g.B.Bay)
 lawful g = record { as_read = g.met.B.Bay.as_read; since_now = g.met.B.Bay.since_now; only_now = g.met.B.Bay.only_now; since_earlier = g.met.B.Bay.since_earlier }
 
 -- a remainder is shorter than a word
@@ -43,7 +32,7 @@ pub returns-in_err-reach : goal.returns-in_err-reach
 returns-in_err-reach g c =
     let p = err_from_is_err_and c.from_residual.result c.from_residual.ensures.1 in
     rw p.1 (record {
-      proceeds = proceeds_as (bays g) (lawful g) c.args.self.now c.reach.new.self _ _ _ _ (λ _. refl) c.in_err-reach.ensures.proceeds;
+      proceeds = proceeds_as _ (lawful g) c.args.self.now c.reach.new.self _ _ _ _ (λ _. refl) c.in_err-reach.ensures.proceeds;
       stays = tt;
       number = tt;
       room = tt;
@@ -54,12 +43,12 @@ returns-clause-room g c = c.make_room.ensures.room
 
 pub returns-clause-proceeds : goal.returns-clause-proceeds
 returns-clause-proceeds g c =
-    proceeds_on (bays g) (lawful g) c.args.self.now c.reach.new.self _ _ _ _ _ _ c.in_ok-reach.ensures.proceeds c.make_room.ensures.proceeds
+    proceeds_on _ (lawful g) c.args.self.now c.reach.new.self _ _ _ _ _ _ c.in_ok-reach.ensures.proceeds c.make_room.ensures.proceeds
 
 pub returns-clause-stays : goal.returns-clause-stays
 returns-clause-stays g c =
     on_ok _ _ c.make_room.result c.make_room.ensures.stays
-    (λ stays. stays_on (bays g) (lawful g) c.args.self.now c.reach.new.self _ _ _ _ _ c.in_ok-reach.ensures.proceeds c.in_ok-reach.ensures.stays stays)
+    (λ stays. stays_on _ (lawful g) c.args.self.now c.reach.new.self _ _ _ _ _ c.in_ok-reach.ensures.proceeds c.in_ok-reach.ensures.stays stays)
 
 pub returns-clause-number : goal.returns-clause-number
 returns-clause-number g c =

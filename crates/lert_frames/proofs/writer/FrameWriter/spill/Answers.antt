@@ -8,27 +8,16 @@ use Rattle.lert_frames.proofs.ClosingLaws.{before_stays}
 use Rattle.lert_frames.proofs.GrowingLaws.{growing_room, growing_gone, growing_kept}
 use Rattle.lert_frames.proofs.ProceedLaws.{proceeds_on, stays_on}
 use Rattle.lert_frames.proofs.WritingLaws.{behind_some, in_block-ascend}
-use Rattle.lert_bay.specs.Kept.{Bays}
 use Rattle.lert_bay.proofs.KeptLaws.{IsLawful}
+use Rattle.lert_frames.specs.Calls.{bays_of}
 use Rattle.lert_frames.proofs.writer.FrameWriter.spill.Given as given
 use Rattle.lert_frames.proofs.writer.FrameWriter.spill.Goals as goal
 
-abbrev bays : (g : given.Over) → Bays g.row.B.Denot
-bays g = record {
-  faults = g.B.Faulty.faults;
-  mark = g.B.Faulty.mark;
-  files = g.B.Bay.files;
-  leaves = g.B.Bay.leaves;
-  moment = g.B.Bay.moment;
-  left_since = g.B.Bay.left_since;
-  handed_out = g.B.Bay.handed_out;
-}
-
-lawful : (g : given.Over) → IsLawful (bays g)
+lawful : (g : given.Over) → IsLawful (bays_of g.B.Faulty g.B.Bay)
 lawful g = record { as_read = g.met.B.Bay.as_read; since_now = g.met.B.Bay.since_now; only_now = g.met.B.Bay.only_now; since_earlier = g.met.B.Bay.since_earlier }
 
 pub let_go-requires-clause-reach : goal.let_go-requires-clause-reach
-let_go-requires-clause-reach g c = let m = c.long_block.new.self in (growing_room m.growing).spilt c.in_ok-long.long c.in_ok-long.ensures.long
+let_go-requires-clause-reach g c = let m = c.long_block.new.self in (growing_room m.growing m.holding).spilt c.in_ok-long.long c.in_ok-long.ensures.long
 
 pub invariant_of-self : goal.invariant_of-self
 invariant_of-self g c =
@@ -37,18 +26,19 @@ invariant_of-self g c =
     let is = c.in_ok-long.ensures.long in
     let gone = c.in_err-gone.ensures in
     record {
-      growing = growing_kept m.growing c.let_go.new.outlet c.let_go.new.ends c.let_go.new.block.len long is gone.size gone.ends_size gone.stays
-          (gone.failed (m.block.len + 2 * m.left) (end_of m) (m.growing.spilt long is).reach);
+      growing = m.growing;
+      holding = growing_kept m.growing m.holding c.let_go.new.outlet c.let_go.new.ends c.let_go.new.block.len long is gone.size gone.ends_size gone.stays
+          (gone.failed (m.block.len + 2 * m.left) (end_of m) (m.holding.spilt long is).reach);
       given = m.given;
     }
 
 pub returns-in_err-gone-clause-proceeds : goal.returns-in_err-gone-clause-proceeds
 returns-in_err-gone-clause-proceeds g c =
     let m = c.long_block.new.self in
-    let spilt = m.growing.spilt c.in_ok-long.long c.in_ok-long.ensures.long in
-    proceeds_on (bays g) (lawful g) c.args.self.now m _ _ _ _ _ _ c.in_ok-long.ensures.proceeds (record {
+    let spilt = m.holding.spilt c.in_ok-long.long c.in_ok-long.ensures.long in
+    proceeds_on _ (lawful g) c.args.self.now m _ _ _ _ _ _ c.in_ok-long.ensures.proceeds (record {
       same = record { settings = refl; level = refl; frame = refl; width = refl; place = refl; put = refl; left = refl };
-      writes = writes_as (bays g) (lawful g) m.place (end_of m) _ _ _ _ (λ _. refl)
+      writes = writes_as _ (lawful g) m.place (end_of m) _ _ _ _ (λ _. refl)
           (c.in_err-gone.ensures.writes m.place (end_of m) spilt.at (omega (arith, spilt.reach.slots_fit)));
     })
 
@@ -59,16 +49,17 @@ invariant_of-self-2 g c =
     let is = c.in_ok-long.ensures.long in
     let gone = c.in_ok-gone.ensures in
     record {
-      growing = growing_gone m.growing c.let_go.new.outlet c.let_go.new.ends c.let_go.new.block.len long c.in_ok-gone.gone is gone.size gone.ends_size gone.begin gone.words gone.room.0 gone.less
-          (gone.reach (m.block.len + 2 * m.left) (end_of m) (omega arith) (m.growing.spilt long is).reach);
+      growing = m.growing;
+      holding = growing_gone m.growing m.holding c.let_go.new.outlet c.let_go.new.ends c.let_go.new.block.len long c.in_ok-gone.gone is gone.size gone.ends_size gone.begin gone.words gone.room.0 gone.less
+          (gone.reach (m.block.len + 2 * m.left) (end_of m) (omega arith) (m.holding.spilt long is).reach);
       given = m.given;
     }
 
 pub returns-clause-proceeds : goal.returns-clause-proceeds
 returns-clause-proceeds g c =
     let m = c.long_block.new.self in
-    let spilt = m.growing.spilt c.in_ok-long.long c.in_ok-long.ensures.long in
-    proceeds_on (bays g) (lawful g) c.args.self.now m _ _ _ _ _ _ c.in_ok-long.ensures.proceeds (record {
+    let spilt = m.holding.spilt c.in_ok-long.long c.in_ok-long.ensures.long in
+    proceeds_on _ (lawful g) c.args.self.now m _ _ _ _ _ _ c.in_ok-long.ensures.proceeds (record {
       same = record { settings = refl; level = refl; frame = refl; width = refl; place = refl; put = refl; left = refl };
       writes = c.in_ok-gone.ensures.writes m.place (end_of m) spilt.at (omega (arith, spilt.reach.slots_fit));
     })
@@ -78,16 +69,16 @@ returns-clause-stays g c =
     let m = c.long_block.new.self in
     let long = c.in_ok-long.long in
     let is = c.in_ok-long.ensures.long in
-    let spilt = m.growing.spilt long is in
+    let spilt = m.holding.spilt long is in
     let gone = c.in_ok-gone.ensures in
     let text = blocks_text m.width 0 m.number m.put in
     let pieces = pieces_in m.width m.number m.put in
-    stays_on (bays g) (lawful g) c.args.self.now m _ _ _ _ _ c.in_ok-long.ensures.proceeds c.in_ok-long.ensures.stays (λ seen told later told_later at.
+    stays_on _ (lawful g) c.args.self.now m _ _ _ _ _ c.in_ok-long.ensures.proceeds c.in_ok-long.ensures.stays (λ seen told later told_later at.
     record {
       passed = at.passed;
       stands = behind_some c.in_ok-gone.gone m.place text m.width m.number pieces (later FRAMES) c.let_go.new.ends c.let_go.new.outlet c.let_go.new.block
           (gone.spilt seen told later told_later m.width m.number _ pieces (in_block-ascend m.width m.number 0 _ m.put at.passed) (at.stands.spilt long is))
-          (ap (part (later FRAMES) m.place) gone.begin ∙ before_stays (bays g) long.begin (end_of m) _ _ seen later told told_later
+          (ap (part (later FRAMES) m.place) gone.begin ∙ before_stays _ long.begin (end_of m) _ _ seen later told told_later
           (gone.writes long.begin (end_of m) (omega arith) (omega (arith, spilt.reach.slots_fit))).within
           (omega (arith, spilt.reach.slots_fit, spilt.reach.slots_at, spilt.reach.words_fit, spilt.reach.ends_at, spilt.reach.ends_next)) m.place text (at.stands.begins long is)
           (at.stands.before long is))

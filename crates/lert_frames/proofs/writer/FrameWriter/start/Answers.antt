@@ -10,12 +10,16 @@ use Rattle.lert_frames.proofs.writer.FrameWriter.start.Goals as goal
 
 pub invariant_of-self-clause-growing : goal.invariant_of-self-clause-growing
 invariant_of-self-clause-growing c =
+    let old = c.args.self.now.growing in
+    let place = c.frame_place-self.ensures in
+    record { valid = old.valid; first = old.first; last = old.last; within = c.requires; width_is = old.width_is; place_is = place.value; end = place.end }
+
+pub invariant_of-self-clause-holding : goal.invariant_of-self-clause-holding
+invariant_of-self-clause-holding c =
     let w = c.args.self.now in
-    let old = w.growing in
-    growing_new w.settings w.level c.args.frame w.width c.frame_place-self.result 0 c.span-self.result c.restart.new.outlet w.ends c.restart.new.block.len c.new.result
-    old.valid old.first old.last c.requires old.width_is c.frame_place-self.ensures.value c.frame_place-self.ensures.end (some_block w.settings w.level old.valid old.last)
-    (omega (arith, ap total c.new.ensures, c.span-self.ensures.value)) (c.restart.ensures.size ∙ old.size) old.ends_size c.restart.ensures.len c.restart.ensures.place
-    (omega (arith, c.restart.ensures.at))
+    growing_new w.settings w.level c.frame_place-self.result 0 c.span-self.result c.restart.new.outlet w.ends c.restart.new.block.len c.new.result
+    (some_block w.settings w.level w.growing.valid w.growing.last) (omega (arith, ap total c.new.ensures, c.span-self.ensures.value)) (c.restart.ensures.size ∙ w.holding.size) w.holding.ends_size
+    c.restart.ensures.len c.restart.ensures.place (omega (arith, c.restart.ensures.at))
 
 pub invariant_of-self-clause-given : goal.invariant_of-self-clause-given
 invariant_of-self-clause-given c = subst (λ (ps : List Piece). AreGiven (tail_limit c.args.self.now.settings) ps) (sym c.new.ensures) (given_none (tail_limit c.args.self.now.settings))

@@ -1,7 +1,7 @@
 use Rattle.std.proofs.Common.{◌+◌, ◌*◌, ◌%◌, ◌-◌, ◌^◌, ◌∷◌, ◌++◌, List, [], sym, subst, arith}
 use Rattle.lert_blocks.specs.Text.{blocks_text, pieces_in}
 use Rattle.lert_blocks.proofs.LengthLaws.{group_short}
-use Rattle.lert_frames.specs.Growing.{IsGrowing}
+use Rattle.lert_frames.specs.Growing.{IsHolding}
 use Rattle.lert_frames.specs.Place.{tail_limit}
 use Rattle.lert_frames.specs.Spilt.{IsBehind}
 use Rattle.lert_spec.specs.declared.piece.Piece.{Piece}
@@ -20,18 +20,18 @@ pub put-requires-clause-count : goal.put-requires-clause-count
 put-requires-clause-count c = last_count (tail_limit c.args.self.now.settings) c.args.self.now.put c.args.piece c.requires.given
 
 pub overflow_sub-self : goal.overflow_sub-self
-overflow_sub-self c = let w = c.args.self.now in omega (arith, w.growing.left_is, c.requires.fits, total_push w.put c.args.piece)
+overflow_sub-self c = let w = c.args.self.now in omega (arith, w.holding.left_is, c.requires.fits, total_push w.put c.args.piece)
 
-pub invariant_of-self-clause-growing : goal.invariant_of-self-clause-growing
-invariant_of-self-clause-growing c =
+pub invariant_of-self-clause-holding : goal.invariant_of-self-clause-holding
+invariant_of-self-clause-holding c =
     let w = c.args.self.now in
     let p = c.args.piece in
     let wide = width_from w.settings w.level w.width w.growing.valid w.growing.last w.growing.width_is in
     let count = last_count (tail_limit w.settings) w.put p c.requires.given in
     let short = group_short w.width (p.tail % 2 ^ w.width) p.count wide.0 count.0 in
-    subst (λ (ps : List Piece). IsGrowing w.settings w.level w.frame w.width w.place w.number (w.left - p.count) w.outlet w.ends c.put.new.self.len w.long ps) (sym c.push.ensures)
-    (growing_take w.growing c.put.new.self.len p.count (w.left - p.count) (w.put ++ p ∷ []) c.put.ensures.more (omega (arith, c.put.ensures.grows, short))
-    (omega (arith, w.growing.left_is, c.requires.fits, total_push w.put p)) (total_push w.put p))
+    subst (λ (ps : List Piece). IsHolding w.settings w.level w.place w.number (w.left - p.count) w.outlet w.ends c.put.new.self.len w.long ps) (sym c.push.ensures)
+    (growing_take w.growing w.holding c.put.new.self.len p.count (w.left - p.count) (w.put ++ p ∷ []) c.put.ensures.more (omega (arith, c.put.ensures.grows, short))
+    (omega (arith, w.holding.left_is, c.requires.fits, total_push w.put p)) (total_push w.put p))
 
 pub returns-clause-writing : goal.returns-clause-writing
 returns-clause-writing c file here at =
@@ -44,6 +44,6 @@ returns-clause-writing c file here at =
         passed = subst (λ (ps : List Piece). AscendsFrom 0 (64 * (w.number + 1) * 2 ^ w.width) ps) (sym c.push.ensures) (passed_take w.width w.number limit w.put p c.requires.given.table here);
         stands = subst (λ (ps : List Piece). IsBehind w.long w.place (blocks_text w.width 0 w.number ps) w.width w.number
             (pieces_in w.width w.number ps) file w.ends w.outlet c.put.new.self) (sym c.push.ensures)
-            (stands_take w.long w.place w.width w.number limit w.put p file w.ends w.outlet w.block c.put.new.self c.requires.given.table here w.growing.some c.put.ensures.filled at.stands);
+            (stands_take w.long w.place w.width w.number limit w.put p file w.ends w.outlet w.block c.put.new.self c.requires.given.table here w.holding.some c.put.ensures.filled at.stands);
       };
     }
