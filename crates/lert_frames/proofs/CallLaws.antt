@@ -9,48 +9,41 @@ use Rattle.lert_frames.specs.Calls.{Writes}
 use Rattle.lert_frames.specs.Kept.{WritesWithin}
 use Rattle.lert_frames.proofs.WithinLaws.{within_same, within_reads, within_on, within_wider, turns_to}
 
-module _ {B : Type 0} (bays : Bays B) (lawful : IsLawful bays) (begin end : ℕ) where
-  pub writes_none : (bay : B) (Failed : Type 0) → (Failed → ⊥) → Writes bays begin end bay bay Failed
-  writes_none bay Failed never = record { within = within_same bays begin end lawful bay; kept = keeps_none bays lawful bay Failed never }
+module _ {B : Type 0} {bays : Bays B} (lawful : IsLawful bays) {begin end : ℕ} where
+  pub writes_none : {bay : B} {Failed : Type 0} → (Failed → ⊥) → Writes bays begin end bay bay Failed
+  writes_none {bay} {Failed} never = record { within = within_same bays begin end lawful bay; kept = keeps_none bays lawful bay Failed never }
 
   -- calls that read alone
-  pub writes_reads : (before after : B) (Failed : Type 0) → OnlyReads bays before after Failed → Writes bays begin end before after Failed
-  writes_reads before after Failed reads = record { within = within_reads bays begin end before after Failed reads; kept = reads.kept }
+  pub writes_reads : {before after : B} {Failed : Type 0} → OnlyReads bays before after Failed → Writes bays begin end before after Failed
+  writes_reads reads = record { within = within_reads bays begin end _ _ _ reads; kept = reads.kept }
 
   -- calls behind others, of which the last one failed, if any did
-  pub writes_on : (before between after : B) (First Failed : Type 0) → Writes bays begin end before between First → Writes bays begin end between after Failed →
+  pub writes_on : {before between after : B} {First Failed : Type 0} → Writes bays begin end before between First → Writes bays begin end between after Failed →
       Writes bays begin end before after Failed
-  writes_on before between after First Failed one two = record {
-    within = within_on bays begin end before between after First Failed one.kept two.kept one.within two.within;
-    kept = keeps_on bays lawful before between after First Failed one.kept two.kept;
-  }
+  writes_on one two = record { within = within_on bays begin end _ _ _ _ _ one.kept two.kept one.within two.within; kept = keeps_on bays lawful _ _ _ _ _ one.kept two.kept }
 
   -- the same calls, seen as failed in other words
-  pub writes_as : (before after : B) (First Failed : Type 0) → (Failed → First) → Writes bays begin end before after First → Writes bays begin end before after Failed
-  writes_as before after First Failed turned one = record { within = one.within; kept = keeps_as bays lawful before after First Failed turned one.kept }
+  pub writes_as : {before after : B} {First Failed : Type 0} → (Failed → First) → Writes bays begin end before after First → Writes bays begin end before after Failed
+  writes_as turned one = record { within = one.within; kept = keeps_as bays lawful _ _ _ _ turned one.kept }
 
 -- a bay tells the same files each time
 pub same_files : (seen later : Files) → ◌≡◌ {A = Option Files} (Some seen) (Some later) → seen ≡ later
 same_files seen later is = cc
 
--- a bay that tells its files tells them behind the calls
-pub told_then : {B : Type 0} (bays : Bays B) (begin end : ℕ) (before after : B) (seen : Files) → WritesWithin bays begin end before after → bays.files before ≡ Some seen →
-    (later : Files) × (bays.files after ≡ Some later)
-told_then bays begin end before after seen wrote told = let then = wrote.wrote.seen.told seen told in (then.0, then.1)
+module _ {B : Type 0} {bays : Bays B} {begin end : ℕ} {before after : B} where
+  -- a wider range
+  pub writes_wider : {low high : ℕ} {Failed : Type 0} → Writes bays begin end before after Failed → low ≤ begin → begin ≤ end → end ≤ high → Writes bays low high before after Failed
+  writes_wider {low} {high} one lower order higher = record { within = within_wider bays begin end low high before after lower order higher one.within; kept = one.kept }
 
--- a wider range
-pub writes_wider : {B : Type 0} (bays : Bays B) (begin end low high : ℕ) (before after : B) (Failed : Type 0) → low ≤ begin → begin ≤ end → end ≤ high →
-    Writes bays begin end before after Failed → Writes bays low high before after Failed
-writes_wider bays begin end low high before after Failed lower order higher one = record {
-  within = within_wider bays begin end low high before after lower order higher one.within;
-  kept = one.kept;
-}
+  module _ {seen : Files} (wrote : WritesWithin bays begin end before after) (told : bays.files before ≡ Some seen) where
+    -- a bay that tells its files tells them behind the calls
+    pub told_then : (later : Files) × (bays.files after ≡ Some later)
+    told_then = let then = wrote.wrote.seen.told seen told in (then.0, then.1)
 
--- no file gets shorter
-pub no_shorter : {B : Type 0} (bays : Bays B) (begin end : ℕ) (before after : B) (seen later : Files) → WritesWithin bays begin end before after →
-    bays.files before ≡ Some seen → bays.files after ≡ Some later → length (seen FRAMES) ≤ length (later FRAMES)
-no_shorter bays begin end before after seen later wrote told told_later =
-    (turns_to (Changes (LeftByFailure begin (end - begin)) FRAMES) (bays.files before) (bays.files after) seen later wrote.wrote.seen told told_later).here.torn.no_shorter
+    -- no file gets shorter
+    pub no_shorter : {later : Files} → bays.files after ≡ Some later → length (seen FRAMES) ≤ length (later FRAMES)
+    no_shorter {later} told_later =
+        (turns_to (Changes (LeftByFailure begin (end - begin)) FRAMES) (bays.files before) (bays.files after) seen later wrote.wrote.seen told told_later).here.torn.no_shorter
 
 -- two facts of Ok
 pub both_ok : {T E : Type 0} (A B C : Type 0) (result : Result T E) → OnOk result A → OnOk result B → (A → B → C) → OnOk result C

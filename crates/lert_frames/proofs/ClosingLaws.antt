@@ -74,15 +74,15 @@ module _ {B : Type 0} (bays : Bays B) (one two three four : B) (first last : Fil
     (begin target slots end n : ℕ) (low : begin + 12 ≤ target) (order : target ≤ slots) (high : slots ≤ end) (some : 0 < n)
     (wrote : WritesWithin bays slots end one two) (moved : WritesWithin bays target (target + 8 * n) two three) (headed : WritesWithin bays begin (begin + 12) three four) where
   abbrev second : (seen : Files) × (bays.files two ≡ Some seen)
-  second = told_then bays slots end one two first wrote told
+  second = told_then wrote told
 
   abbrev third : (seen : Files) × (bays.files three ≡ Some seen)
-  third = told_then bays target (target + 8 * n) two three second.0 moved second.1
+  third = told_then moved second.1
 
   ends_stay : (text : List ℕ) → target ≤ length (first FRAMES) → part (first FRAMES) (begin + 12) target ≡ text → part (last FRAMES) (begin + 12) target ≡ text
   ends_stay text there is =
-      let longer = no_shorter bays slots end one two first second.0 wrote told second.1 in
-      let longer_too = no_shorter bays target (target + 8 * n) two three second.0 third.0 moved second.1 third.1 in
+      let longer = no_shorter wrote told second.1 in
+      let longer_too = no_shorter moved second.1 third.1 in
       part_within bays begin (begin + 12) three four third.0 last third.1 told_last headed (begin + 12) target (omega (arith, there, longer, longer_too)) (omega arith) (inr (omega arith))
       ∙ (part_within bays target (target + 8 * n) two three second.0 third.0 second.1 third.1 moved (begin + 12) target (omega (arith, there, longer)) (omega arith) (inl (omega arith))
       ∙ (part_within bays slots end one two first second.0 told second.1 wrote (begin + 12) target there high (inl order) ∙ is))

@@ -29,29 +29,23 @@ same_on a b c one two = record {
 pub same_end : (a b : FrameWriter) → SameFrame a b → end_of b ≡ end_of a
 same_end a b same = λ i. same.place i + frame_len (same.settings i) (same.level i)
 
-module _ {B : Type 0} (bays : Bays B) (lawful : IsLawful bays) where
-  pub proceeds_none : (a b : FrameWriter) (x : B) (Failed : Type 0) → SameFrame a b → (Failed → ⊥) → Proceeds bays a b x x Failed
-  proceeds_none a b x Failed same never = record { same = same; writes = writes_none bays lawful a.place (end_of a) x Failed never }
+module _ {B : Type 0} {bays : Bays B} (lawful : IsLawful bays) where
+  pub proceeds_none : {a b : FrameWriter} {x : B} {Failed : Type 0} → SameFrame a b → (Failed → ⊥) → Proceeds bays a b x x Failed
+  proceeds_none same never = record { same = same; writes = writes_none lawful never }
 
-  -- calls of the second writer's, behind those of the first
-  pub writes_behind : (a b : FrameWriter) (x y z : B) (First Failed : Type 0) → Proceeds bays a b x y First → Writes bays b.place (end_of b) y z Failed →
-      Writes bays a.place (end_of a) x z Failed
-  writes_behind a b x y z First Failed one two =
-      writes_on bays lawful a.place (end_of a) x y z First Failed one.writes
-      (subst (λ end. Writes bays a.place end y z Failed) (same_end a b one.same) (subst (λ begin. Writes bays begin (end_of b) y z Failed) one.same.place two))
-
-  pub proceeds_on : (a b c : FrameWriter) (x y z : B) (First Failed : Type 0) → Proceeds bays a b x y First → Proceeds bays b c y z Failed → Proceeds bays a c x z Failed
-  proceeds_on a b c x y z First Failed one two = record {
+  pub proceeds_on : {a b c : FrameWriter} {x y z : B} {First Failed : Type 0} → Proceeds bays a b x y First → Proceeds bays b c y z Failed → Proceeds bays a c x z Failed
+  proceeds_on {a} {b} {c} {x} {y} {z} {First} {Failed} one two = record {
     same = same_on a b c one.same two.same;
-    writes = writes_behind a b x y z First Failed one two.writes;
+    writes = writes_on lawful one.writes
+        (subst (λ end. Writes bays a.place end y z Failed) (same_end a b one.same) (subst (λ begin. Writes bays begin (end_of b) y z Failed) one.same.place two.writes));
   }
 
-  pub proceeds_as : (a b : FrameWriter) (x y : B) (First Failed : Type 0) → (Failed → First) → Proceeds bays a b x y First → Proceeds bays a b x y Failed
-  proceeds_as a b x y First Failed turned one = record { same = one.same; writes = writes_as bays lawful a.place (end_of a) x y First Failed turned one.writes }
+  pub proceeds_as : {a b : FrameWriter} {x y : B} {First Failed : Type 0} → (Failed → First) → Proceeds bays a b x y First → Proceeds bays a b x y Failed
+  proceeds_as turned one = record { same = one.same; writes = writes_as lawful turned one.writes }
 
-  pub stays_on : (a b c : FrameWriter) (x y z : B) (First : Type 0) → Proceeds bays a b x y First → Stays bays a b x y → Stays bays b c y z → Stays bays a c x z
-  stays_on a b c x y z First one first second seen told later told_later at =
-      let mid = told_then bays a.place (end_of a) x y seen one.writes.within told in
+  pub stays_on : {a b c : FrameWriter} {x y z : B} {First : Type 0} → Proceeds bays a b x y First → Stays bays a b x y → Stays bays b c y z → Stays bays a c x z
+  stays_on one first second seen told later told_later at =
+      let mid = told_then one.writes.within told in
       second mid.0 mid.1 later told_later (first seen told mid.0 mid.1 at)
 
 pub stays_none : {B : Type 0} (bays : Bays B) (a : FrameWriter) (x : B) → Stays bays a a x x
@@ -60,16 +54,16 @@ stays_none bays a x seen told later told_later at =
     let same : seen ≡ later = cc in
     subst (λ (files : Files). IsAt a (files FRAMES)) same at
 
--- the calls wrote into the frame's place
-pub frame_writes : {B : Type 0} (bays : Bays B) (a b : FrameWriter) (x y : B) (Failed : Type 0) → Proceeds bays a b x y Failed →
-    Writes bays (frame_place a.settings a.level a.frame) (frame_place a.settings a.level a.frame + frame_len a.settings a.level) x y Failed
-frame_writes bays a b x y Failed one = subst (λ p. Writes bays p (p + frame_len a.settings a.level) x y Failed) a.growing.place_is one.writes
+module _ {B : Type 0} {bays : Bays B} {a b : FrameWriter} {x y : B} {Failed : Type 0} (one : Proceeds bays a b x y Failed) where
+  -- the calls wrote into the frame's place
+  pub frame_writes : Writes bays (frame_place a.settings a.level a.frame) (frame_place a.settings a.level a.frame + frame_len a.settings a.level) x y Failed
+  frame_writes = subst (λ p. Writes bays p (p + frame_len a.settings a.level) x y Failed) a.growing.place_is one.writes
 
-pub frame_outside : {B : Type 0} (bays : Bays B) (a b : FrameWriter) (x y : B) (Failed : Type 0) (seen : Files) → Proceeds bays a b x y Failed →
-    KeepsOutside bays x y seen FRAMES (frame_place a.settings a.level a.frame) (frame_place a.settings a.level a.frame + frame_len a.settings a.level)
-frame_outside bays a b x y Failed seen one =
-    let place = frame_place a.settings a.level a.frame in
-    within_outside bays place (place + frame_len a.settings a.level) (place + frame_len a.settings a.level) x y seen (omega arith) (omega arith) (frame_writes bays a b x y Failed one).within
+  pub frame_outside : (seen : Files) →
+      KeepsOutside bays x y seen FRAMES (frame_place a.settings a.level a.frame) (frame_place a.settings a.level a.frame + frame_len a.settings a.level)
+  frame_outside seen =
+      let place = frame_place a.settings a.level a.frame in
+      within_outside bays place (place + frame_len a.settings a.level) (place + frame_len a.settings a.level) x y seen (omega arith) (omega arith) frame_writes.within
 
 -- the frame is the same one
 pub holds_same : (a b : FrameWriter) (file : List ℕ) → SameFrame a b → HoldsFrame b.settings b.level b.frame file b.put → HoldsFrame a.settings a.level a.frame file a.put

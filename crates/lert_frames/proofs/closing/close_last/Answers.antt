@@ -25,7 +25,7 @@ returns-in_err-close g c =
       there = λ seen told later told_later place width number limit text pieces up behind. tt;
       size = closed.size;
       ends_size = closed.ends_size;
-      writes = λ begin end low high last. writes_as _ (lawful g) begin end _ _ _ _ (λ _. refl) (closed.writes begin end low high);
+      writes = λ begin end low high last. writes_as (lawful g) (λ _. refl) (closed.writes begin end low high);
     })
 
 pub returns : goal.returns
@@ -36,7 +36,7 @@ returns g c =
       there = λ seen told later told_later place width number limit text pieces up behind.
           let first = first_place c.args.long c.args.outlet.now in
           let last = last_place c.args.long c.args.block.now.len c.args.outlet.now in
-          let mid = told_then _ first last _ _ seen (closed.writes first last (here first) (here last)).within told in
+          let mid = told_then (closed.writes first last (here first) (here last)).within told in
           let all = text ++ block_text width number pieces in
           both_ok _ _ _ c.flush.result
           (flushed.out mid.0 mid.1 later told_later place all (closed.out seen told mid.0 mid.1 place width number limit text pieces up behind))
@@ -44,6 +44,6 @@ returns g c =
       size = flushed.size ∙ closed.size;
       ends_size = closed.ends_size;
       writes = λ begin end low high last.
-          writes_on _ (lawful g) begin end _ _ _ _ _ (closed.writes begin end low high)
+          writes_on (lawful g) (closed.writes begin end low high)
           (record { within = flushed.within begin end (at_least low closed.at) (subst (λ n. n ≤ end) (sym closed.place) last); kept = flushed.kept });
     }

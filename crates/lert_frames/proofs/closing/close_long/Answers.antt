@@ -166,7 +166,7 @@ returns-in_err-write_numbers g c =
       ends_size = one.size ∙ c.requires.ends_size;
       writes = λ begin end low high.
           let first = begin_first l b.len (2 ^ 62) e o c.requires.reach begin low in
-          writes_as _ (lawful g) begin end _ _ _ _ (λ _. refl) (one.writes begin end first.0 (wrote_ends l b e o c.requires.reach c.ends.result.now c.ends.ensures.value end high));
+          writes_as (lawful g) (λ _. refl) (one.writes begin end first.0 (wrote_ends l b e o c.requires.reach c.ends.result.now c.ends.ensures.value end high));
     })
 
 pub returns-in_err-write_numbers-2 : goal.returns-in_err-write_numbers-2
@@ -186,8 +186,8 @@ returns-in_err-write_numbers-2 g c =
       ends_size = one.size ∙ c.requires.ends_size;
       writes = λ begin end low high.
           let first = begin_first l b.len (2 ^ 62) e o c.requires.reach begin low in
-          writes_on _ (lawful g) begin end _ _ _ _ _ (one.writes begin end first.0 (wrote_ends l b e o c.requires.reach c.ends.result.now c.ends.ensures.value end high))
-          (writes_as _ (lawful g) begin end _ _ _ _ (λ _. refl) (two.writes begin end first.1 (wrote_slots l b e o c.requires.reach c.slots.result.now c.slots.ensures end high)));
+          writes_on (lawful g) (one.writes begin end first.0 (wrote_ends l b e o c.requires.reach c.ends.result.now c.ends.ensures.value end high))
+          (writes_as (lawful g) (λ _. refl) (two.writes begin end first.1 (wrote_slots l b e o c.requires.reach c.slots.result.now c.slots.ensures end high)));
     })
 
 pub returns-in_err-move_down : goal.returns-in_err-move_down
@@ -212,10 +212,10 @@ returns-in_err-move_down g c =
       ends_size = one.size ∙ c.requires.ends_size;
       writes = λ begin end low high.
           let first = begin_first l b.len (2 ^ 62) e o reach begin low in
-          writes_on _ (lawful g) begin end _ _ _ _ _
-          (writes_on _ (lawful g) begin end _ _ _ _ _ (one.writes begin end first.0 (wrote_ends l b e o reach c.ends.result.now c.ends.ensures.value end high))
+          writes_on (lawful g)
+          (writes_on (lawful g) (one.writes begin end first.0 (wrote_ends l b e o reach c.ends.result.now c.ends.ensures.value end high))
           (two.writes begin end first.1 (wrote_slots l b e o reach c.slots.result.now c.slots.ensures end high)))
-          (writes_as _ (lawful g) begin end _ _ _ _ (λ _. refl) (three.writes begin end (low_as low c.div_ceil.result refl) (at_least moved.1 high)));
+          (writes_as (lawful g) (λ _. refl) (three.writes begin end (low_as low c.div_ceil.result refl) (at_least moved.1 high)));
     })
 
 pub returns : goal.returns
@@ -245,7 +245,7 @@ returns g c =
           let slots_call = two.writes l.slots last reach.slots_at (wrote_slots l b e o reach c.slots.result.now c.slots.ensures last (here last)) in
           let moved = three.writes target (target + 8 * n) (subst (λ t. target ≤ t) (sym goal_at) (here target)) (same_end _ target _ n goal_at count) in
           let wrote_head = c.write_head.ensures.writes l.begin (l.begin + 12) (here l.begin) (here (l.begin + 12)) in
-          let first = told_then _ (l.begin + 12) l.slots _ _ seen ends_call.within told in
+          let first = told_then ends_call.within told in
           let ends_out = one.out seen told first.0 first.1 (l.begin + 12) _ spilt.ends_out in
           let within = bits_there m b.len (ends_of width pieces) (length_left width number (64 * m) pieces b spilt.filled b.sized.2 b.sized.1) c.requires.some in
           let ends_end : c.write_numbers.new.outlet.at ≡ target =
@@ -267,8 +267,8 @@ returns g c =
           (λ second told_second. slots_written l.slots (64 * m) n (slots_of width pieces) c.slots.result.now (second FRAMES) c.write_numbers-2.new.outlet (c.slots.ensures ∙ spilt.filled.slots)
           (sym spilt.filled.skipped) (two.out first.0 first.1 second told_second l.slots _ slots_first) two.empty)
           (λ second third told_second told_third longer. moved_as (second FRAMES) (third FRAMES) l.slots _ target _ n goal_at count longer (three.moved second told_second third told_third)) in
-          let second = told_then _ l.slots last _ _ first.0 slots_call.within first.1 in
-          let third = told_then _ target (target + 8 * n) _ _ second.0 moved.within second.1 in
+          let second = told_then slots_call.within first.1 in
+          let third = told_then moved.within second.1 in
           on_ok _ _ c.write_head.result (c.write_head.ensures.there third.0 third.1 later told_later) (λ head.
           long_text width number m pieces b spilt.filled (omega arith) (later FRAMES) l.begin target c.move_down.new.outlet.at (low_words l.begin (word_count n))
           (slots_behind target n _ some at_is) at_is
@@ -281,9 +281,9 @@ returns g c =
       writes = λ begin end low high.
           let first = begin_first l b.len (2 ^ 62) e o reach begin low in
           let moved = moved_places l b.len (2 ^ 62) e o reach (64 * m + length c.slots-2.result.now) c.div_ceil.result count ceil in
-          writes_on _ (lawful g) begin end _ _ _ _ _
-          (writes_on _ (lawful g) begin end _ _ _ _ _
-          (writes_on _ (lawful g) begin end _ _ _ _ _ (one.writes begin end first.0 (wrote_ends l b e o reach c.ends.result.now ends_are end high))
+          writes_on (lawful g)
+          (writes_on (lawful g)
+          (writes_on (lawful g) (one.writes begin end first.0 (wrote_ends l b e o reach c.ends.result.now ends_are end high))
           (two.writes begin end first.1 (wrote_slots l b e o reach c.slots.result.now c.slots.ensures end high)))
           (three.writes begin end (low_as low c.div_ceil.result refl) (at_least moved.1 high)))
           (c.write_head.ensures.writes begin end low (at_least places.3 high));

@@ -20,7 +20,7 @@ returns-in_err-make_room g c =
       place = tt;
       at = made.at;
       size = made.size ∙ c.requires.size;
-      writes = λ begin end low high. writes_as _ (lawful g) begin end _ _ _ _ (λ _. refl) (made.writes begin end low high);
+      writes = λ begin end low high. writes_as (lawful g) (λ _. refl) (made.writes begin end low high);
     })
 
 pub returns : goal.returns
@@ -33,5 +33,5 @@ returns g c =
       place = put.place ∙ ap (λ n. n + laid_len c.args.block.now) made.place;
       at = subst (λ n. c.args.outlet.now.at ≤ n) (sym put.at) made.at;
       size = put.size ∙ (made.size ∙ c.requires.size);
-      writes = λ begin end low high. writes_as _ (lawful g) begin end _ _ _ _ (λ is. is) (made.writes begin end low high);
+      writes = λ begin end low high. writes_as (lawful g) (λ is. is) (made.writes begin end low high);
     }

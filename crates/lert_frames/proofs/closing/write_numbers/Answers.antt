@@ -43,7 +43,7 @@ returns-in_err-make_room g c =
       empty = tt;
       place = tt;
       size = made.size;
-      writes = λ begin end low high. writes_as _ (lawful g) begin end _ _ _ _ (λ _. refl) (made.writes begin end low (room_before _ _ end high));
+      writes = λ begin end low high. writes_as (lawful g) (λ _. refl) (made.writes begin end low (room_before _ _ end high));
     })
 
 pub returns : goal.returns
@@ -55,13 +55,13 @@ returns g c =
     let place : next_place c.put_numbers.new.self ≡ next_place o + 8 * length c.args.numbers.now = put.place ∙ ap (λ n. n + 8 * length c.args.numbers.now) made.place in
     record {
       out = λ seen told later told_later begin text out.
-          let between = told_then _ o.at (next_place o) _ _ seen (made.writes o.at (next_place o) (here o.at) (here (next_place o))).within told in
+          let between = told_then (made.writes o.at (next_place o) (here o.at) (here (next_place o))).within told in
           flushed.out between.0 between.1 later told_later begin (text ++ numbers_text c.args.numbers.now)
           (put.out begin text (between.0 FRAMES) (made.out seen told between.0 between.1 begin text out));
       empty = flushed.written;
       place = if_ok _ c.flush.result (flushed.place ∙ place);
       size = flushed.size ∙ (put.size ∙ made.size);
       writes = λ begin end low high.
-          writes_on _ (lawful g) begin end _ _ _ _ _ (made.writes begin end low (room_before _ _ end high))
+          writes_on (lawful g) (made.writes begin end low (room_before _ _ end high))
           (record { within = flushed.within begin end (low_as begin o.at _ _ low made.at put.at) (subst (λ n. n ≤ end) (sym place) high); kept = flushed.kept });
     }

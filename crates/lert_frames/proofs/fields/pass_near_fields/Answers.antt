@@ -42,39 +42,36 @@ near_end place more room near room_is = omega (arith, near, room_is)
 begins : (long len place : ℕ) → long ≡ len - 12 → long ≤ place + len
 begins long len place long_is = omega (arith, long_is)
 
-pub demand-requires-clause-fits : goal.demand-requires-clause-fits
-demand-requires-clause-fits g c =
-    fits c.len-len.result 0 (word_count c.args.head.count) c.len-len.ensures c.requires.near (room_of c.args.window.now) c.requires.room
+pub demand-requires : goal.demand-requires
+demand-requires g c = record {
+  fits = fits c.len-len.result 0 (word_count c.args.head.count) c.len-len.ensures c.requires.near (room_of c.args.window.now) c.requires.room;
+  reach = near_end (place_of c.args.window.now) (fields_len c.args.head) (room_of c.args.window.now) c.requires.reach c.requires.room;
+}
 
-pub demand-requires-clause-reach : goal.demand-requires-clause-reach
-demand-requires-clause-reach g c =
-    near_end (place_of c.args.window.now) (fields_len c.args.head) (room_of c.args.window.now) c.requires.reach c.requires.room
+pub between-words-requires : goal.between-words-requires
+between-words-requires g c = record {
+  order = some_fields c.len-len.result 0 (word_count c.args.head.count) c.len-len.ensures c.requires.near;
+  within = subst (λ n. c.len-len.result ≤ n) (sym c.at_hand.ensures.count) c.in_ok-demand.ensures.enough;
+}
 
-pub between-words-requires-clause-order : goal.between-words-requires-clause-order
-between-words-requires-clause-order g c = some_fields c.len-len.result 0 (word_count c.args.head.count) c.len-len.ensures c.requires.near
-
-pub between-words-requires-clause-within : goal.between-words-requires-clause-within
-between-words-requires-clause-within g c = subst (λ n. c.len-len.result ≤ n) (sym c.at_hand.ensures.count) c.in_ok-demand.ensures.enough
-
-pub run_ends_of-requires-clause-few : goal.run_ends_of-requires-clause-few
-run_ends_of-requires-clause-few g c =
-    few_words c.len-len.result c.words.result (word_count c.args.head.count) c.len-len.ensures c.requires.near c.words.ensures
-
-pub run_ends_of-requires-clause-long : goal.run_ends_of-requires-clause-long
-run_ends_of-requires-clause-long g c =
-    behind_fields c.len-len.result c.words.result (word_count c.args.head.count) c.len-len.ensures c.requires.near (length c.between-words.result.now)
-    c.between-words.ensures.count c.words.ensures
+pub run_ends_of-requires : goal.run_ends_of-requires
+run_ends_of-requires g c = record {
+  few = few_words c.len-len.result c.words.result (word_count c.args.head.count) c.len-len.ensures c.requires.near c.words.ensures;
+  long =
+      behind_fields c.len-len.result c.words.result (word_count c.args.head.count) c.len-len.ensures c.requires.near (length c.between-words.result.now)
+      c.between-words.ensures.count c.words.ensures;
+}
 
 pub left_at_last_word-requires : goal.left_at_last_word-requires
 left_at_last_word-requires g c = subst (λ n. n + fields_len c.args.head < 2 ^ 43) (sym c.in_ok-demand.ensures.ahead.place) c.requires.reach
 
-pub hold-requires-clause-room : goal.hold-requires-clause-room
-hold-requires-clause-room g c =
-    words_fit c.len-len.result 0 (word_count c.args.head.count) c.len-len.ensures c.requires.near
-    (length c.between-words.result.now) (room_of c.args.ends.now) c.between-words.ensures.count c.requires.ends_room
-
-pub hold-requires-clause-begins : goal.hold-requires-clause-begins
-hold-requires-clause-begins g c = begins (length c.between-words.result.now) c.len-len.result c.place.result c.between-words.ensures.count
+pub hold-requires : goal.hold-requires
+hold-requires g c = record {
+  room =
+      words_fit c.len-len.result 0 (word_count c.args.head.count) c.len-len.ensures c.requires.near
+      (length c.between-words.result.now) (room_of c.args.ends.now) c.between-words.ensures.count c.requires.ends_room;
+  begins = begins (length c.between-words.result.now) c.len-len.result c.place.result c.between-words.ensures.count;
+}
 
 pub overflow_add-place : goal.overflow_add-place
 overflow_add-place g c =

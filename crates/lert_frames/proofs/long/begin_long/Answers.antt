@@ -31,23 +31,16 @@ start-requires-2 c =
     let words : c.div_ceil.result ≡ word_count c.args.most = omega (arith, c.div_ceil.ensures) in
     slots_near c.place-begin.result c.div_ceil.result c.args.most _ c.place-begin.ensures c.requires words
 
-pub returns-clause-spilt : goal.returns-clause-spilt
-returns-clause-spilt c width number pieces file block filled = record { ends_out = c.start.ensures.out file; slots_out = c.start-2.ensures.out file; filled = filled }
-
-pub returns-clause-begin : goal.returns-clause-begin
-returns-clause-begin c = c.place-begin.ensures
-
-pub returns-clause-words : goal.returns-clause-words
-returns-clause-words c = refl
-
-pub returns-clause-reach : goal.returns-clause-reach
-returns-clause-reach c end fits =
+pub returns : goal.returns
+returns c =
     let words : c.div_ceil.result ≡ word_count c.args.most = omega (arith, c.div_ceil.ensures) in
-    reaches_begun c.place-begin.result c.div_ceil.result c.args.most end c.start.new.self c.start-2.new.self words
-    (subst (λ n. n + block_bytes c.args.most ≤ end) (sym c.place-begin.ensures) fits) c.start.ensures.at c.start.ensures.place c.start-2.ensures.at c.start-2.ensures.place
-
-pub returns-clause-size : goal.returns-clause-size
-returns-clause-size c = c.start-2.ensures.size
-
-pub returns-clause-ends_size : goal.returns-clause-ends_size
-returns-clause-ends_size c = c.start.ensures.size
+    record {
+      spilt = λ width number pieces file block filled. record { ends_out = c.start.ensures.out file; slots_out = c.start-2.ensures.out file; filled = filled };
+      begin = c.place-begin.ensures;
+      words = refl;
+      reach = λ end fits.
+          reaches_begun c.place-begin.result c.div_ceil.result c.args.most end c.start.new.self c.start-2.new.self words
+          (subst (λ n. n + block_bytes c.args.most ≤ end) (sym c.place-begin.ensures) fits) c.start.ensures.at c.start.ensures.place c.start-2.ensures.at c.start-2.ensures.place;
+      size = c.start-2.ensures.size;
+      ends_size = c.start.ensures.size;
+    }

@@ -153,7 +153,7 @@ returns-in_err-make_room g c =
       size = one.size ∙ c.requires.size;
       ends_size = c.requires.ends_size;
       writes = λ begin end low high.
-          writes_as _ (lawful g) begin end _ _ _ _ (λ _. refl) (one.writes begin end (begin_first l c.args.block.now.len (2 ^ 62) e o c.requires.reach begin low).1 high);
+          writes_as (lawful g) (λ _. refl) (one.writes begin end (begin_first l c.args.block.now.len (2 ^ 62) e o c.requires.reach begin low).1 high);
     })
 
 pub returns-in_err-make_room-2 : goal.returns-in_err-make_room-2
@@ -177,8 +177,8 @@ returns-in_err-make_room-2 g c =
       ends_size = two.size ∙ c.requires.ends_size;
       writes = λ begin end low high.
           let first = begin_first l c.args.block.now.len (2 ^ 62) e o c.requires.reach begin low in
-          writes_on _ (lawful g) begin end _ _ _ _ _ (one.writes begin end first.1 high)
-          (writes_as _ (lawful g) begin end _ _ _ _ (λ _. refl) (two.writes begin end first.0 (ends_last l c.args.block.now.len (2 ^ 62) e o c.requires.reach end high)));
+          writes_on (lawful g) (one.writes begin end first.1 high)
+          (writes_as (lawful g) (λ _. refl) (two.writes begin end first.0 (ends_last l c.args.block.now.len (2 ^ 62) e o c.requires.reach end high)));
     })
 
 pub returns : goal.returns
@@ -208,7 +208,7 @@ returns g c =
           let fits = ends_fit l b.len (2 ^ 62) e o c.requires.reach in
           let wrote_slots = one.writes l.slots (next_place o) c.requires.reach.slots_at (here (next_place o)) in
           let wrote_ends = two.writes (l.begin + 12) l.slots c.requires.reach.ends_at fits.0 in
-          let mid = told_then _ l.slots (next_place o) _ _ seen wrote_slots.within told in
+          let mid = told_then wrote_slots.within told in
           let slots_mid = one.out seen told mid.0 mid.1 l.slots _ spilt.slots_out in
           let slots_later = out_within _ (l.begin + 12) l.slots l.slots _ c.make_room.new.self _ _ mid.0 later mid.1 told_later wrote_ends.within fits.2 (inr (here l.slots)) slots_mid in
           let ends_mid = out_within _ l.slots (next_place o) (l.begin + 12) _ e _ _ seen mid.0 told mid.1 wrote_slots.within fits.3 (inl fits.1) spilt.ends_out in
@@ -238,6 +238,6 @@ returns g c =
       ends_size = put_ends.size ∙ (two.size ∙ c.requires.ends_size);
       writes = λ begin end low high.
           let first = begin_first l b.len (2 ^ 62) e o c.requires.reach begin low in
-          writes_on _ (lawful g) begin end _ _ _ _ _ (one.writes begin end first.1 high)
-          (writes_as _ (lawful g) begin end _ _ _ _ (λ is. is) (two.writes begin end first.0 (ends_last l b.len (2 ^ 62) e o c.requires.reach end high)));
+          writes_on (lawful g) (one.writes begin end first.1 high)
+          (writes_as (lawful g) (λ is. is) (two.writes begin end first.0 (ends_last l b.len (2 ^ 62) e o c.requires.reach end high)));
     }

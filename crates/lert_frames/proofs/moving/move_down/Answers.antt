@@ -26,16 +26,9 @@ returns-in_err-move_part g c =
       place = tt;
       size = step.size ∙ inv.size;
       writes = λ begin end low high.
-          writes_on _ (lawful g) begin end _ _ _ _ _
-          (writes_wider _ c.args.to (c.args.to + c.loop-moved.moved) begin end _ _ _ low (omega arith) (omega (arith, inv.some, high)) inv.writes)
-          (writes_as _ (lawful g) begin end _ _ _ _ (λ _. refl) (step.writes begin end (omega (arith, inv.place)) (omega (arith, inv.place))));
+          writes_on (lawful g) (writes_wider inv.writes low (omega arith) (omega (arith, inv.some, high)))
+          (writes_as (lawful g) (λ _. refl) (step.writes begin end (omega (arith, inv.place)) (omega (arith, inv.place))));
     })
-
-pub returns-clause-empty : goal.returns-clause-empty
-returns-clause-empty g c = c.loop-moved.invariant.empty
-
-pub returns-clause-size : goal.returns-clause-size
-returns-clause-size g c = c.loop-moved.invariant.size
 
 pub loop-moved-preserved : goal.loop-moved-preserved
 loop-moved-preserved g c =
@@ -51,12 +44,11 @@ loop-moved-preserved g c =
       empty = step.empty;
       place = omega (arith, step.place, inv.place);
       size = step.size ∙ inv.size;
-      writes = writes_on _ (lawful g) to (to + (moved + more)) _ _ _ _ _
-          (writes_wider _ to (to + moved) to (to + (moved + more)) _ _ _ (omega arith) (omega arith) (omega arith) inv.writes)
-          (writes_as _ (lawful g) to (to + (moved + more)) _ _ _ _ (λ never. absurd never) (step.writes to (to + (moved + more)) (omega (arith, inv.place)) (omega (arith, inv.place))));
+      writes = writes_on (lawful g) (writes_wider inv.writes (omega arith) (omega arith) (omega arith))
+          (writes_as (lawful g) (λ never. absurd never) (step.writes to (to + (moved + more)) (omega (arith, inv.place)) (omega (arith, inv.place))));
       out = λ seen told later told_later within.
-          let mid = told_then _ to (to + moved) _ _ seen inv.writes.within told in
-          let longer = no_shorter _ to (to + moved) _ _ seen mid.0 inv.writes.within told mid.1 in
+          let mid = told_then inv.writes.within told in
+          let longer = no_shorter inv.writes.within told mid.1 in
           let there = step.out mid.0 mid.1 later told_later (omega (arith, within, longer, few)) to _ (inv.out seen told mid.0 mid.1 within) in
           let same = part_within _ to (to + moved) _ _ seen mid.0 told mid.1 inv.writes.within (from + moved) (from + moved + more) (omega (arith, within, few)) (omega arith)
           (inr (omega (arith, c.requires.order))) in
@@ -67,14 +59,6 @@ loop-moved-preserved g c =
           subst (λ (bytes : List ℕ). IsOut to bytes (later FRAMES) c.move_part.new.outlet) whole there;
     }
 
-pub returns-clause-moved : goal.returns-clause-moved
-returns-clause-moved g c seen told later told_later within =
-    let inv = c.loop-moved.invariant in
-    let all : c.loop-moved.moved ≡ c.args.count = omega (arith, inv.some) in
-    let out = inv.out seen told later told_later within in
-    let place : c.args.to + c.args.count ≡ c.loop-moved.outlet.at = omega (arith, inv.place, all) in
-    ap (part (later FRAMES) c.args.to) place ∙ (out_all c.args.to _ (later FRAMES) c.loop-moved.outlet out inv.empty ∙ ap (λ n. part (seen FRAMES) c.args.from (c.args.from + n)) all)
-
 pub loop-moved-init : goal.loop-moved-init
 loop-moved-init g c =
     let e = c.start.ensures in
@@ -83,19 +67,25 @@ loop-moved-init g c =
       empty = omega (arith, e.place, e.at);
       place = omega (arith, e.at);
       size = e.size ∙ c.requires.size;
-      writes = writes_none _ (lawful g) c.args.to (c.args.to + 0) c.args.bay.now ⊥ (λ never. never);
+      writes = writes_none (lawful g) (λ never. never);
       out = λ seen told later told_later within.
           let none = part_is (seen FRAMES) c.args.from 0 (c.args.from + 0) refl in
           subst (λ (bytes : List ℕ). IsOut c.args.to bytes (later FRAMES) c.start.new.self) (sym none) (e.out (later FRAMES));
     }
 
-pub returns-clause-place : goal.returns-clause-place
-returns-clause-place g c = omega (arith, c.loop-moved.invariant.place, c.loop-moved.invariant.some, c.loop-moved-test.false)
-
-pub returns-clause-writes : goal.returns-clause-writes
-returns-clause-writes g c begin end low high =
+pub returns : goal.returns
+returns g c =
     let inv = c.loop-moved.invariant in
+    let all : c.loop-moved.moved ≡ c.args.count = omega (arith, inv.some) in
+    let place : c.args.to + c.args.count ≡ c.loop-moved.outlet.at = omega (arith, inv.place, all) in
     let to = c.args.to in
-    writes_as _ (lawful g) begin end c.args.bay.now c.loop-moved.bay ⊥ _ (λ failed. cc)
-    (writes_wider _ to (to + c.loop-moved.moved) begin end c.args.bay.now c.loop-moved.bay ⊥ low (omega arith)
-    (omega (arith, inv.some, high)) inv.writes)
+    record {
+      empty = c.loop-moved.invariant.empty;
+      size = c.loop-moved.invariant.size;
+      moved = λ seen told later told_later within.
+          let out = inv.out seen told later told_later within in
+          ap (part (later FRAMES) c.args.to) place ∙ (out_all c.args.to _ (later FRAMES) c.loop-moved.outlet out inv.empty ∙ ap (λ n. part (seen FRAMES) c.args.from (c.args.from + n)) all);
+      place = omega (arith, c.loop-moved.invariant.place, c.loop-moved.invariant.some, c.loop-moved-test.false);
+      writes = λ begin end low high.
+          writes_as (lawful g) (λ failed. cc) (writes_wider inv.writes low (omega arith) (omega (arith, inv.some, high)));
+    }

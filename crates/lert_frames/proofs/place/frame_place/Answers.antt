@@ -60,14 +60,12 @@ overflow_mul-result-2 c = omega (arith, ends c, second_is c)
 pub overflow_add-result : goal.overflow_add-result
 overflow_add-result c = omega (arith, ends c, place_is c)
 
-pub returns-clause-value : goal.returns-clause-value
-returns-clause-value c = place_is c
-
-pub returns-clause-end : goal.returns-clause-end
-returns-clause-end c = omega (arith, ends c, place_is c)
-
-pub returns-clause-apart : goal.returns-clause-apart
-returns-clause-apart c other_level other from within differ =
-    subst (λ (n : ℕ). (frame_place c.args.settings.now other_level other + frame_len c.args.settings.now other_level ≤ n) ⊎
-    (n + frame_len c.args.settings.now c.args.level ≤ frame_place c.args.settings.now other_level other)) (sym (place_is c))
-    (places_apart c.args.settings.now c.args.level c.args.frame other_level other c.requires.first c.requires.frame from within differ)
+pub returns : goal.returns
+returns c = record {
+  value = place_is c;
+  end = omega (arith, ends c, place_is c);
+  apart = λ other_level other from within differ.
+      subst (λ (n : ℕ). (frame_place c.args.settings.now other_level other + frame_len c.args.settings.now other_level ≤ n) ⊎
+      (n + frame_len c.args.settings.now c.args.level ≤ frame_place c.args.settings.now other_level other)) (sym (place_is c))
+      (places_apart c.args.settings.now c.args.level c.args.frame other_level other c.requires.first c.requires.frame from within differ);
+}

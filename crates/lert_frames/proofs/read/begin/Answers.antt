@@ -39,26 +39,6 @@ start-requires-clause-reach c =
     subst (λ blocks. c.frame_place-place.result + 20 * blocks + 9 * (2 * c.span-most.result) < 2 ^ 43) (sym c.block_count.ensures.value)
     (reach_of c.frame_place-place.result (block_count s level) (span s level) (2 * c.span-most.result) c.frame_place-place.ensures.end (ap (λ n. 2 * n) c.span-most.ensures.value))
 
-pub returns-clause-valid : goal.returns-clause-valid
-returns-clause-valid c = subst IsValid c.numbers-valid.ensures.value c.numbers-valid.ensures.valid
-
-pub returns-clause-place : goal.returns-clause-place
-returns-clause-place c = c.frame_place-place.ensures.value
-
-pub returns-clause-floor : goal.returns-clause-floor
-returns-clause-floor c = c.start.ensures.floor
-
-pub returns-clause-read : goal.returns-clause-read
-returns-clause-read c = c.start.ensures.read
-
-pub returns-clause-from : goal.returns-clause-from
-returns-clause-from c = c.start.ensures.place
-
-pub returns-clause-end : goal.returns-clause-end
-returns-clause-end c file =
-    let place = c.frame_place-place.result in
-    c.start.ensures.end file ∙ ap (λ blocks. place + blocks_len blocks (drop place file)) c.block_count.ensures.value
-
 pub start-requires-clause-tails : goal.start-requires-clause-tails
 start-requires-clause-tails c =
     let few = pow-le-pow_right {n = 2} (lit< tt) {i = 64 - c.args.settings.now.cone_bits} {j = 64} (omega arith) in omega (arith, few, all_tails c)
@@ -66,23 +46,27 @@ start-requires-clause-tails c =
 pub start-requires-clause-most : goal.start-requires-clause-most
 start-requires-clause-most c = let half = span_half c.args.settings.now (valid c) c.args.level c.requires.last in omega (arith, half, c.span-most.ensures.value)
 
-pub returns-clause-found : goal.returns-clause-found
-returns-clause-found c file =
-    c.start.ensures.found file
-    ∙ (λ i. blocks_found (c.block_count.ensures.value i) (c.width-width.ensures.value i) 0 (2 * c.span-most.ensures.value i) (c.frame_place-place.ensures.value i)
-    (length file) (drop (c.frame_place-place.ensures.value i) file))
-
-pub returns-clause-limit : goal.returns-clause-limit
-returns-clause-limit c =
-    c.start.ensures.limit
-    ∙ (ap₂ (λ blocks width. 64 * blocks * 2 ^ width) c.block_count.ensures.value c.width-width.ensures.value
-    ∙ tails_are c.args.settings.now (subst IsValid c.numbers-valid.ensures.value c.numbers-valid.ensures.valid) c.args.level c.requires.last)
-
 -- two slots for each event of the bin: their bytes fill the frame's place
-pub returns-clause-stands : goal.returns-clause-stands
-returns-clause-stands c =
-    let s = c.args.settings.now in
+pub returns : goal.returns
+returns c =
     let place = c.frame_place-place.result in
+    let s = c.args.settings.now in
     let fills : place + blocks_bytes c.block_count.result (2 * c.span-most.result) ≡ place + frame_len s c.args.level =
     omega (arith, c.block_count.ensures.value, c.span-most.ensures.value) in
-    stands_as s c.args.level place c.start.new.self (subst (λ (end : ℕ). IsBetween place end c.start.new.self) fills c.start.ensures.between)
+    record {
+      valid = subst IsValid c.numbers-valid.ensures.value c.numbers-valid.ensures.valid;
+      place = c.frame_place-place.ensures.value;
+      floor = c.start.ensures.floor;
+      read = c.start.ensures.read;
+      from = c.start.ensures.place;
+      end = λ file. c.start.ensures.end file ∙ ap (λ blocks. place + blocks_len blocks (drop place file)) c.block_count.ensures.value;
+      found = λ file.
+          c.start.ensures.found file
+          ∙ (λ i. blocks_found (c.block_count.ensures.value i) (c.width-width.ensures.value i) 0 (2 * c.span-most.ensures.value i) (c.frame_place-place.ensures.value i)
+          (length file) (drop (c.frame_place-place.ensures.value i) file));
+      limit =
+          c.start.ensures.limit
+          ∙ (ap₂ (λ blocks width. 64 * blocks * 2 ^ width) c.block_count.ensures.value c.width-width.ensures.value
+          ∙ tails_are c.args.settings.now (subst IsValid c.numbers-valid.ensures.value c.numbers-valid.ensures.valid) c.args.level c.requires.last);
+      stands = stands_as s c.args.level place c.start.new.self (subst (λ (end : ℕ). IsBetween place end c.start.new.self) fills c.start.ensures.between);
+    }

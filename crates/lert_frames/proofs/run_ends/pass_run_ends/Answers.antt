@@ -18,11 +18,11 @@ loop-word-init g c = record {
   reads = reads_none _ (lawful g) c.args.bay.now ⊥ (λ never. never);
 }
 
-pub pass_word-requires-clause-room : goal.pass_word-requires-clause-room
-pass_word-requires-clause-room g c = c.loop-word.invariant.passes.room ∙ c.requires.room
-
-pub pass_word-requires-clause-reach : goal.pass_word-requires-clause-reach
-pass_word-requires-clause-reach g c = omega (arith, c.loop-word.invariant.passes.place, c.requires.reach)
+pub pass_word-requires : goal.pass_word-requires
+pass_word-requires g c = record {
+  room = c.loop-word.invariant.passes.room ∙ c.requires.room;
+  reach = omega (arith, c.loop-word.invariant.passes.place, c.requires.reach);
+}
 
 pub with-found-requires : goal.with-found-requires
 with-found-requires g c = omega (arith, c.loop-word.invariant.passes.few, c.requires.few)

@@ -39,34 +39,24 @@ none_more xs rest ys all same = drop_all 0 rest (omega (arith, ap (λ (zs : List
 wanted : (some bytes had words : ℕ) → bytes < 8 * min 2 (word_count some) → bytes ≡ had → words ≡ min ((some + 63) / 64) 2 → had < 8 * words
 wanted some bytes had words few is words_are = omega (arith, few, is, words_are)
 
-pub returns-clause-there : goal.returns-clause-there
-returns-clause-there g c seen told =
+pub returns : goal.returns
+returns g c =
     let asked = c.in_ok-need.ensures in
     let w = c.need.new.window in
     let bytes = c.at_hand.result.now in
-    let rest = drop w.at (seen FRAMES) in
-    let all : bytes ++ rest ≡ to_come c.args.ends.now (seen FRAMES) = ap (λ (xs : List ℕ). xs ++ rest) c.at_hand.ensures.value ∙ asked.ahead.come seen told in
-    subst (λ (xs : List ℕ). AreEnds c.args.some xs c.of.result) all
-    (c.of.ensures.there rest (λ few.
-    none_more bytes rest _ all (c.at_hand.ensures.value
-    ∙ asked.ends seen told
-    (off_of c.in_ok-need.field-0 _ (count_of w) asked.enough (wanted c.args.some (length bytes) (count_of w) c.min-words.result few c.at_hand.ensures.count c.min-words.ensures)))))
-
-pub returns-clause-hand : goal.returns-clause-hand
-returns-clause-hand g c = subst (λ n. 8 * c.of.result.words ≤ n) c.at_hand.ensures.count c.of.ensures.hand
-
-pub returns-clause-few : goal.returns-clause-few
-returns-clause-few g c = c.of.ensures.few
-
-pub returns-clause-one : goal.returns-clause-one
-returns-clause-one g c some = c.of.ensures.one (at_hand_too _ _ _ c.in_ok-need.ensures.ahead.grows c.at_hand.ensures.count some)
-
-pub returns-clause-ahead : goal.returns-clause-ahead
-returns-clause-ahead g c = c.in_ok-need.ensures.ahead
-
-pub returns-clause-failed : goal.returns-clause-failed
-returns-clause-failed g c = tt
-
-pub returns-clause-only_reads : goal.returns-clause-only_reads
-returns-clause-only_reads g c =
-    reads_as _ (lawful g) c.args.bay.now c.need.new.bay _ _ (λ is. absurd (not_err _ _ is)) c.in_ok-need.ensures.only_reads
+    record {
+      there = λ seen told.
+          let rest = drop w.at (seen FRAMES) in
+          let all : bytes ++ rest ≡ to_come c.args.ends.now (seen FRAMES) = ap (λ (xs : List ℕ). xs ++ rest) c.at_hand.ensures.value ∙ asked.ahead.come seen told in
+          subst (λ (xs : List ℕ). AreEnds c.args.some xs c.of.result) all
+          (c.of.ensures.there rest (λ few.
+          none_more bytes rest _ all (c.at_hand.ensures.value
+          ∙ asked.ends seen told
+          (off_of c.in_ok-need.field-0 _ (count_of w) asked.enough (wanted c.args.some (length bytes) (count_of w) c.min-words.result few c.at_hand.ensures.count c.min-words.ensures)))));
+      hand = subst (λ n. 8 * c.of.result.words ≤ n) c.at_hand.ensures.count c.of.ensures.hand;
+      few = c.of.ensures.few;
+      one = λ some. c.of.ensures.one (at_hand_too _ _ _ c.in_ok-need.ensures.ahead.grows c.at_hand.ensures.count some);
+      ahead = c.in_ok-need.ensures.ahead;
+      failed = tt;
+      only_reads = reads_as _ (lawful g) c.args.bay.now c.need.new.bay _ _ (λ is. absurd (not_err _ _ is)) c.in_ok-need.ensures.only_reads;
+    }

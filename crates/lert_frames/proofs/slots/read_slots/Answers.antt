@@ -26,33 +26,23 @@ returns-in_err-need g c =
       only_reads = reads_as _ (lawful g) c.args.bay.now c.need.new.bay _ _ (λ is. same_err _ _ is) asked.only_reads;
     })
 
-pub returns-clause-ahead : goal.returns-clause-ahead
-returns-clause-ahead g c = c.in_ok-need.ensures.ahead
-
-pub returns-clause-failed : goal.returns-clause-failed
-returns-clause-failed g c = tt
-
-pub returns-clause-only_reads : goal.returns-clause-only_reads
-returns-clause-only_reads g c =
-    reads_as _ (lawful g) c.args.bay.now c.need.new.bay _ _ (λ is. absurd (not_err _ _ is)) c.in_ok-need.ensures.only_reads
-
-pub returns-clause-count : goal.returns-clause-count
-returns-clause-count g c =
-    let most = c.min-most.ensures ∙ ap (λ n. min n (64 * c.args.words)) c.min.ensures in
-    c.read_numbers.ensures.count ∙ ap₂ (λ most long. min most (long / 8)) most c.at_hand.ensures.count
-
-pub returns-clause-slots : goal.returns-clause-slots
-returns-clause-slots g c = c.read_numbers.ensures.numbers ∙ ap (numbers_in c.read_numbers.result) c.at_hand.ensures.value
-
 -- fewer were read than wanted
 short_of : (count most wanted long had : ℕ) → count ≡ min most (long / 8) → most ≡ wanted → long ≡ had → count < wanted → had < 8 * most
 short_of count most wanted long had count_is most_is long_is few = omega (arith, count_is, most_is, long_is, few)
 
-pub returns-clause-all : goal.returns-clause-all
-returns-clause-all g c seen told few =
+pub returns : goal.returns
+returns g c =
+    let most = c.min-most.ensures ∙ ap (λ n. min n (64 * c.args.words)) c.min.ensures in
     let asked = c.in_ok-need.ensures in
     let had = count_of c.need.new.window in
-    let most = c.min-most.ensures ∙ ap (λ n. min n (64 * c.args.words)) c.min.ensures in
-    let short =
-    short_of c.read_numbers.result c.min-most.result _ (length c.at_hand.result.now) had c.read_numbers.ensures.count most c.at_hand.ensures.count few in
-    asked.ends seen told (off_of c.in_ok-need.field-0 (8 * c.min-most.result) had asked.enough short)
+    record {
+      ahead = c.in_ok-need.ensures.ahead;
+      failed = tt;
+      only_reads = reads_as _ (lawful g) c.args.bay.now c.need.new.bay _ _ (λ is. absurd (not_err _ _ is)) c.in_ok-need.ensures.only_reads;
+      count = c.read_numbers.ensures.count ∙ ap₂ (λ most long. min most (long / 8)) most c.at_hand.ensures.count;
+      slots = c.read_numbers.ensures.numbers ∙ ap (numbers_in c.read_numbers.result) c.at_hand.ensures.value;
+      all = λ seen told few.
+          let short =
+          short_of c.read_numbers.result c.min-most.result _ (length c.at_hand.result.now) had c.read_numbers.ensures.count most c.at_hand.ensures.count few in
+          asked.ends seen told (off_of c.in_ok-need.field-0 (8 * c.min-most.result) had asked.enough short);
+    }

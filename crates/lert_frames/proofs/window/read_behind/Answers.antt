@@ -14,13 +14,6 @@ use Rattle.lert_frames.proofs.window.read_behind.Goals as goal
 lawful : (g : given.Over) → IsLawful (bays_of g.B.Faulty g.B.Bay)
 lawful g = record { as_read = g.met.B.Bay.as_read; since_now = g.met.B.Bay.since_now; only_now = g.met.B.Bay.only_now; since_earlier = g.met.B.Bay.since_earlier }
 
--- the file of frames is read, and no other
-pub returns-clause-only_reads : goal.returns-clause-only_reads
-returns-clause-only_reads g c =
-    let read = c.read_at.ensures in
-    reads_call _ (lawful g) c.args.bay.now c.read_at.new.self _ read.time read.cause.never_falls read.cause.failed read.mark read.seen read.images
-    (read.handed.others JOURNAL apart_from_frames)
-
 here : (from : ℕ) (old : List ℕ) → length (drop from old) ≤ length old - from
 here from old = omega (arith, length-drop from old)
 
@@ -42,23 +35,22 @@ module _ (from : ℕ) (old new : List ℕ) (within : from ≤ length old) where
   long : from + length new ≤ length (put_mid from (length old - from) old new)
   long = omega (arith, length-append (take from old) (new ++ drop (length old - from) (drop from old)), length-append new (drop (length old - from) (drop from old)), front_long)
 
-pub returns-clause-front : goal.returns-clause-front
-returns-clause-front g c =
+-- the file of frames is read, and no other
+pub returns : goal.returns
+returns g c =
+    let read = c.read_at.ensures in
     let old = c.args.into.now in
-    take_at (take c.args.from old) (c.read_at.new.into ++ drop (length old - c.args.from) (drop c.args.from old)) c.args.from (front_long c.args.from old c.read_at.new.into c.requires)
-
-pub returns-clause-small : goal.returns-clause-small
-returns-clause-small g c =
-    let old = c.args.into.now in
-    All-from_get_or (λ byte. byte < 256) (put_mid c.args.from (length old - c.args.from) old c.read_at.new.into) 0
-    (λ k below. (c.type_inv.into k).fits)
-
-pub returns-clause-within : goal.returns-clause-within
-returns-clause-within g c =
-    IfOk-weaker c.read_at.result _ _ (λ read few. at_most c.args.from read (length c.read_at.new.into) _ few (long c.args.from c.args.into.now c.read_at.new.into c.requires)) c.read_at.ensures.within
-
-pub returns-clause-told : goal.returns-clause-told
-returns-clause-told g c seen told =
-    IfOk-weaker c.read_at.result _ _
-    (λ read copies. subst (λ (bytes : List ℕ). CopiesFrom c.args.at read bytes (seen FRAMES)) (sym (end_is c.args.from c.args.into.now c.read_at.new.into c.requires)) copies)
-    (c.read_at.ensures.told seen told)
+    record {
+      only_reads =
+          reads_call _ (lawful g) c.args.bay.now c.read_at.new.self _ read.time read.cause.never_falls read.cause.failed read.mark read.seen read.images
+          (read.handed.others JOURNAL apart_from_frames);
+      front = take_at (take c.args.from old) (c.read_at.new.into ++ drop (length old - c.args.from) (drop c.args.from old)) c.args.from (front_long c.args.from old c.read_at.new.into c.requires);
+      small =
+          All-from_get_or (λ byte. byte < 256) (put_mid c.args.from (length old - c.args.from) old c.read_at.new.into) 0
+          (λ k below. (c.type_inv.into k).fits);
+      within = IfOk-weaker c.read_at.result _ _ (λ read few. at_most c.args.from read (length c.read_at.new.into) _ few (long c.args.from c.args.into.now c.read_at.new.into c.requires)) c.read_at.ensures.within;
+      told = λ seen told.
+          IfOk-weaker c.read_at.result _ _
+          (λ read copies. subst (λ (bytes : List ℕ). CopiesFrom c.args.at read bytes (seen FRAMES)) (sym (end_is c.args.from c.args.into.now c.read_at.new.into c.requires)) copies)
+          (c.read_at.ensures.told seen told);
+    }

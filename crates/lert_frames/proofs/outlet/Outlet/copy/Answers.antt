@@ -25,21 +25,16 @@ returns-in_err-read_into g c =
       only_reads = reads_as _ (lawful g) c.args.bay.now c.read_into.new.bay _ _ (λ _. refl) c.in_err-read_into.ensures.only_reads;
     })
 
-pub returns-clause-place : goal.returns-clause-place
-returns-clause-place g c = place_behind c.args.self.now.at c.args.self.now.len c.args.count
-
-pub returns-clause-size : goal.returns-clause-size
-returns-clause-size g c = refl
-
-pub returns-clause-at : goal.returns-clause-at
-returns-clause-at g c = refl
-
-pub returns-clause-only_reads : goal.returns-clause-only_reads
-returns-clause-only_reads g c = c.in_ok-read_into.ensures.only_reads
-
-pub returns-clause-out : goal.returns-clause-out
-returns-clause-out g c seen told within begin text out =
+pub returns : goal.returns
+returns g c =
     let from = c.args.from in
-    out_laid begin text (seen FRAMES) c.args.self.now out (part (seen FRAMES) from (from + c.args.count)) c.deref_mut.result.now c.read_into.new.into
-    c.args.count _ c.deref_mut.ensures.value (c.read_into.auto.into ∙ c.deref_mut.ensures.len)
-    (c.in_ok-read_into.ensures.told seen told within) refl refl
+    record {
+      place = place_behind c.args.self.now.at c.args.self.now.len c.args.count;
+      size = refl;
+      at = refl;
+      only_reads = c.in_ok-read_into.ensures.only_reads;
+      out = λ seen told within begin text out.
+          out_laid begin text (seen FRAMES) c.args.self.now out (part (seen FRAMES) from (from + c.args.count)) c.deref_mut.result.now c.read_into.new.into
+          c.args.count _ c.deref_mut.ensures.value (c.read_into.auto.into ∙ c.deref_mut.ensures.len)
+          (c.in_ok-read_into.ensures.told seen told within) refl refl;
+    }

@@ -18,7 +18,7 @@ returns-then-count-room-clause-out g c seen told later told_later begin text out
     subst (λ (files : Files). IsOut begin text (files FRAMES) c.args.self.now) (same_files seen later (sym told ∙ told_later)) out
 
 pub returns-then-count-room-clause-writes : goal.returns-then-count-room-clause-writes
-returns-then-count-room-clause-writes g c begin end low high = writes_none _ (lawful g) begin end c.args.bay.now _ (λ is. absurd (false≢true is))
+returns-then-count-room-clause-writes g c begin end low high = writes_none (lawful g) (λ is. absurd (false≢true is))
 
 -- an outlet that has written all has room for what its buffer holds
 room_behind : (count size was len : ℕ) → count ≤ was → size ≡ was → len ≡ 0 → count ≤ size - len

@@ -27,7 +27,7 @@ returns-in-Err-clause-proceeds g c =
     let w = c.args.self.now in
     record {
       same = record { settings = refl; level = refl; frame = refl; width = refl; place = refl; put = refl; left = refl };
-      writes = writes_as _ (lawful g) w.place (end_of w) _ _ _ _ (λ _. refl) (c.in-Err.ensures.writes w.place (end_of w) (first_within w.growing w.holding) (last_within w.growing w.holding));
+      writes = writes_as (lawful g) (λ _. refl) (c.in-Err.ensures.writes w.place (end_of w) (first_within w.growing w.holding) (last_within w.growing w.holding));
     }
 
 pub invariant_of-self-2-clause-holding : goal.invariant_of-self-2-clause-holding
@@ -41,7 +41,7 @@ returns-clause-proceeds g c =
     let w = c.args.self.now in
     record {
       same = record { settings = refl; level = refl; frame = refl; width = refl; place = refl; put = refl; left = refl };
-      writes = writes_as _ (lawful g) w.place (end_of w) _ _ _ _ (λ never. never) (c.in_default.ensures.writes w.place (end_of w) (first_within w.growing w.holding) (last_within w.growing w.holding));
+      writes = writes_as (lawful g) (λ never. never) (c.in_default.ensures.writes w.place (end_of w) (first_within w.growing w.holding) (last_within w.growing w.holding));
     }
 
 pub returns-clause-stays : goal.returns-clause-stays

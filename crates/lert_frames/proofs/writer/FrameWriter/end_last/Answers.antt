@@ -27,7 +27,7 @@ returns-in-Err-clause-proceeds g c =
     let w = c.args.self.now in
     record {
       same = record { settings = refl; level = refl; frame = refl; width = refl; place = refl; put = refl; left = refl };
-      writes = writes_as _ (lawful g) w.place (end_of w) _ _ _ _ (λ _. refl)
+      writes = writes_as (lawful g) (λ _. refl)
           (c.in-Err.ensures.writes w.place (end_of w) (first_within w.growing w.holding) (last_within w.growing w.holding) (closed_within w.growing w.holding));
     }
 
@@ -37,18 +37,18 @@ invariant_of-self-2-clause-holding g c =
     growing_again w.growing w.holding c.restart-2.new.outlet c.close_last.new.ends c.restart-2.new.block.len (omega (arith, c.restart-2.ensures.size, c.in_default.ensures.size)) c.in_default.ensures.ends_size
     c.restart-2.ensures.len c.restart-2.ensures.place (omega (arith, c.restart-2.ensures.at))
 
-pub returns-clause-proceeds : goal.returns-clause-proceeds
-returns-clause-proceeds g c =
+pub returns : goal.returns
+returns g c =
     let w = c.args.self.now in
     record {
-      same = record { settings = refl; level = refl; frame = refl; width = refl; place = refl; put = refl; left = refl };
-      writes = writes_as _ (lawful g) w.place (end_of w) _ _ _ _ (λ never. never)
-          (c.in_default.ensures.writes w.place (end_of w) (first_within w.growing w.holding) (last_within w.growing w.holding) (closed_within w.growing w.holding));
+      proceeds =
+          record {
+            same = record { settings = refl; level = refl; frame = refl; width = refl; place = refl; put = refl; left = refl };
+            writes = writes_as (lawful g) (λ never. never)
+                (c.in_default.ensures.writes w.place (end_of w) (first_within w.growing w.holding) (last_within w.growing w.holding) (closed_within w.growing w.holding));
+          };
+      stands = λ seen told later told_later at.
+          holds_frame w.settings w.level w.frame w.width w.place w.number w.put (later FRAMES) w.growing.width_is w.growing.place_is c.requires
+          (c.in_default.ensures.there seen told later told_later w.place w.width w.number _ (blocks_text w.width 0 w.number w.put) (pieces_in w.width w.number w.put)
+          (in_block-ascend w.width w.number 0 _ w.put at.passed) at.stands);
     }
-
-pub returns-clause-stands : goal.returns-clause-stands
-returns-clause-stands g c seen told later told_later at =
-    let w = c.args.self.now in
-    holds_frame w.settings w.level w.frame w.width w.place w.number w.put (later FRAMES) w.growing.width_is w.growing.place_is c.requires
-    (c.in_default.ensures.there seen told later told_later w.place w.width w.number _ (blocks_text w.width 0 w.number w.put) (pieces_in w.width w.number w.put)
-    (in_block-ascend w.width w.number 0 _ w.put at.passed) at.stands)

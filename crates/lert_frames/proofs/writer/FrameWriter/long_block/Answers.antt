@@ -23,7 +23,7 @@ pub returns-in-Some : goal.returns-in-Some
 returns-in-Some g c =
     let w = c.args.self.now in
     record {
-      proceeds = proceeds_none _ (lawful g) w w _ _ (record { settings = refl; level = refl; frame = refl; width = refl; place = refl; put = refl; left = refl })
+      proceeds = proceeds_none (lawful g) (record { settings = refl; level = refl; frame = refl; width = refl; place = refl; put = refl; left = refl })
           (λ e. absurd (false≢true e));
       stays = stays_none (bays_of g.B.Faulty g.B.Bay) w c.args.bay.now;
       number = refl;
@@ -68,15 +68,6 @@ returns-in_err-flush g c =
       long = tt;
     })
 
-pub returns-clause-number : goal.returns-clause-number
-returns-clause-number g c = refl
-
-pub returns-clause-block : goal.returns-clause-block
-returns-clause-block g c = refl
-
-pub returns-clause-long : goal.returns-clause-long
-returns-clause-long g c = refl
-
 pub invariant_of-self-2-clause-holding : goal.invariant_of-self-2-clause-holding
 invariant_of-self-2-clause-holding g c =
     let w = c.args.self.now in
@@ -91,28 +82,31 @@ invariant_of-self-2-clause-holding g c =
     (begun.size ∙ (flushed.size ∙ w.holding.size)) (begun.ends_size ∙ w.holding.ends_size) (begun.begin ∙ flushed.place) begun.words
     (subst (λ n. Reaches c.begin_long-long.result n (end_of w) c.begin_long-long.new.ends c.begin_long-long.new.outlet) most (begun.reach (end_of w) fits))
 
-pub returns-clause-proceeds : goal.returns-clause-proceeds
-returns-clause-proceeds g c =
+pub returns : goal.returns
+returns g c =
     let w = c.args.self.now in
     let short = w.holding.short c.in_default.is in
-    record {
-      same = record { settings = refl; level = refl; frame = refl; width = refl; place = refl; put = refl; left = refl };
-      writes = record {
-        within = c.in_ok-flush.ensures.within w.place (end_of w) short.at (omega (arith, long_fits w.growing w.holding c.in_default.is));
-        kept = c.in_ok-flush.ensures.kept;
-      };
-    }
-
-pub returns-clause-stays : goal.returns-clause-stays
-returns-clause-stays g c seen told later told_later at =
-    let w = c.args.self.now in
     let text = blocks_text w.width 0 w.number w.put in
     let pieces = pieces_in w.width w.number w.put in
     let flushed = c.in_ok-flush.ensures in
     let begun = c.begin_long-long.ensures in
     record {
-      passed = at.passed;
-      stands = behind_long w.long c.begin_long-long.result w.place text w.width w.number pieces (later FRAMES) c.flush.new.self c.begin_long-long.new.ends c.begin_long-long.new.outlet w.block
-          (flushed.out seen told later told_later w.place text (at.stands.out c.in_default.is)) flushed.written begun.begin
-          (begun.spilt w.width w.number pieces (later FRAMES) w.block (at.stands.filled c.in_default.is));
+      number = refl;
+      block = refl;
+      long = refl;
+      proceeds =
+          record {
+            same = record { settings = refl; level = refl; frame = refl; width = refl; place = refl; put = refl; left = refl };
+            writes = record {
+              within = c.in_ok-flush.ensures.within w.place (end_of w) short.at (omega (arith, long_fits w.growing w.holding c.in_default.is));
+              kept = c.in_ok-flush.ensures.kept;
+            };
+          };
+      stays = λ seen told later told_later at.
+          record {
+            passed = at.passed;
+            stands = behind_long w.long c.begin_long-long.result w.place text w.width w.number pieces (later FRAMES) c.flush.new.self c.begin_long-long.new.ends c.begin_long-long.new.outlet w.block
+                (flushed.out seen told later told_later w.place text (at.stands.out c.in_default.is)) flushed.written begun.begin
+                (begun.spilt w.width w.number pieces (later FRAMES) w.block (at.stands.filled c.in_default.is));
+          };
     }

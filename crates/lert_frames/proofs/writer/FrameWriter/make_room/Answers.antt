@@ -13,7 +13,7 @@ lawful g = record { as_read = g.met.B.Bay.as_read; since_now = g.met.B.Bay.since
 pub returns-then-has_room-clause-proceeds : goal.returns-then-has_room-clause-proceeds
 returns-then-has_room-clause-proceeds g c =
     let w = c.args.self.now in
-    proceeds_none _ (lawful g) w w _ _ (record { settings = refl; level = refl; frame = refl; width = refl; place = refl; put = refl; left = refl }) (λ e. absurd (false≢true e))
+    proceeds_none (lawful g) (record { settings = refl; level = refl; frame = refl; width = refl; place = refl; put = refl; left = refl }) (λ e. absurd (false≢true e))
 
 pub returns-then-has_room-clause-stays : goal.returns-then-has_room-clause-stays
 returns-then-has_room-clause-stays g c = stays_none (bays_of g.B.Faulty g.B.Bay) c.args.self.now c.args.bay.now

@@ -19,14 +19,14 @@ end_block-requires g c =
 
 pub returns-in_err-end_block-clause-proceeds : goal.returns-in_err-end_block-clause-proceeds
 returns-in_err-end_block-clause-proceeds g c =
-    proceeds_on _ (lawful g) c.args.self.now c.loop-self.self _ _ _ _ _ _ c.loop-self.invariant.proceeds
-    (proceeds_as _ (lawful g) c.loop-self.self _ _ _ _ _ (λ _. refl) c.in_err-end_block.ensures.proceeds)
+    proceeds_on (lawful g) c.loop-self.invariant.proceeds
+    (proceeds_as (lawful g) (λ _. refl) c.in_err-end_block.ensures.proceeds)
 
 pub loop-self-init : goal.loop-self-init
 loop-self-init g c =
     let w = c.args.self.now in
     record {
-      proceeds = proceeds_none _ (lawful g) w w _ _ (record { settings = refl; level = refl; frame = refl; width = refl; place = refl; put = refl; left = refl }) (λ never. never);
+      proceeds = proceeds_none (lawful g) (record { settings = refl; level = refl; frame = refl; width = refl; place = refl; put = refl; left = refl }) (λ never. never);
       stays = stays_none (bays_of g.B.Faulty g.B.Bay) w c.args.bay.now;
       from = omega arith;
       upto = omega arith;
@@ -37,16 +37,16 @@ loop-self-preserved g c =
     let inv = c.loop-self.invariant in
     let step = c.in_ok-end_block.ensures in
     record {
-      proceeds = proceeds_on _ (lawful g) c.args.self.now c.loop-self.self _ _ _ _ _ _ inv.proceeds
-          (proceeds_as _ (lawful g) c.loop-self.self _ _ _ _ _ (λ never. absurd never) step.proceeds);
-      stays = stays_on _ (lawful g) c.args.self.now c.loop-self.self _ _ _ _ _ inv.proceeds inv.stays step.stays;
+      proceeds = proceeds_on (lawful g) inv.proceeds
+          (proceeds_as (lawful g) (λ never. absurd never) step.proceeds);
+      stays = stays_on (lawful g) inv.proceeds inv.stays step.stays;
       from = omega (arith, inv.from, step.number);
       upto = omega (arith, inv.upto, step.number);
     }
 
 pub returns-clause-proceeds : goal.returns-clause-proceeds
 returns-clause-proceeds g c =
-    proceeds_as _ (lawful g) c.args.self.now c.loop-self.self _ _ _ _ (λ e. absurd (false≢true e)) c.loop-self.invariant.proceeds
+    proceeds_as (lawful g) (λ e. absurd (false≢true e)) c.loop-self.invariant.proceeds
 
 pub returns-clause-stays : goal.returns-clause-stays
 returns-clause-stays g c = c.loop-self.invariant.stays

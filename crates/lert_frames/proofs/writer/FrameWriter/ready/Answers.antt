@@ -32,24 +32,18 @@ pub returns-in_err-reach : goal.returns-in_err-reach
 returns-in_err-reach g c =
     let p = err_from_is_err_and c.from_residual.result c.from_residual.ensures.1 in
     rw p.1 (record {
-      proceeds = proceeds_as _ (lawful g) c.args.self.now c.reach.new.self _ _ _ _ (λ _. refl) c.in_err-reach.ensures.proceeds;
+      proceeds = proceeds_as (lawful g) (λ _. refl) c.in_err-reach.ensures.proceeds;
       stays = tt;
       number = tt;
       room = tt;
     })
 
-pub returns-clause-room : goal.returns-clause-room
-returns-clause-room g c = c.make_room.ensures.room
-
-pub returns-clause-proceeds : goal.returns-clause-proceeds
-returns-clause-proceeds g c =
-    proceeds_on _ (lawful g) c.args.self.now c.reach.new.self _ _ _ _ _ _ c.in_ok-reach.ensures.proceeds c.make_room.ensures.proceeds
-
-pub returns-clause-stays : goal.returns-clause-stays
-returns-clause-stays g c =
-    on_ok _ _ c.make_room.result c.make_room.ensures.stays
-    (λ stays. stays_on _ (lawful g) c.args.self.now c.reach.new.self _ _ _ _ _ c.in_ok-reach.ensures.proceeds c.in_ok-reach.ensures.stays stays)
-
-pub returns-clause-number : goal.returns-clause-number
-returns-clause-number g c =
-    on_ok _ _ c.make_room.result c.make_room.ensures.stays (λ _ low. omega (arith, c.make_room.ensures.number, c.in_ok-reach.ensures.number, low))
+pub returns : goal.returns
+returns g c = record {
+  room = c.make_room.ensures.room;
+  proceeds = proceeds_on (lawful g) c.in_ok-reach.ensures.proceeds c.make_room.ensures.proceeds;
+  stays =
+      on_ok _ _ c.make_room.result c.make_room.ensures.stays
+      (λ stays. stays_on (lawful g) c.in_ok-reach.ensures.proceeds c.in_ok-reach.ensures.stays stays);
+  number = on_ok _ _ c.make_room.result c.make_room.ensures.stays (λ _ low. omega (arith, c.make_room.ensures.number, c.in_ok-reach.ensures.number, low));
+}
