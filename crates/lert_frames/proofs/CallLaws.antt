@@ -3,28 +3,38 @@ use Rattle.std.proofs.Common.{◌≡◌, ℕ, ◌-◌, ◌≤◌, Option, Some, 
 use Rattle.std.specs.Prelude.{Ok, Err, OnOk}
 use Rattle.lert_bay.specs.Files.{Files, Changes, LeftByFailure}
 use Rattle.lert_bay.specs.declared.bay.TheConstants.{FRAMES}
-use Rattle.lert_bay.specs.Kept.{Bays, OnlyReads}
-use Rattle.lert_bay.proofs.KeptLaws.{IsLawful, keeps_none, keeps_on, keeps_as}
+use Rattle.lert_bay.specs.Kept.{Bays, KeepsBay, OnlyReads}
+use Rattle.lert_bay.proofs.KeptLaws.{IsLawful, keeps_none, keeps_on}
 use Rattle.lert_frames.specs.Calls.{Writes}
 use Rattle.lert_frames.specs.Kept.{WritesWithin}
 use Rattle.lert_frames.proofs.WithinLaws.{within_same, within_reads, within_on, within_wider, turns_to}
+
+-- ---- calls, seen as failed in other words
+
+module _ {B : Type 0} {bays : Bays B} {before after : B} {First Failed : Type 0} (turned : Failed → First) where
+  pub keeps_turned : KeepsBay bays before after First → KeepsBay bays before after Failed
+  keeps_turned one = record { time = one.time; never_falls = one.never_falls; failed = λ is. one.failed (turned is); mark = one.mark; journal = one.journal }
+
+  pub reads_turned : OnlyReads bays before after First → OnlyReads bays before after Failed
+  reads_turned one = record { kept = keeps_turned one.kept; seen = one.seen; images = one.images; moments = one.moments }
+
+  pub writes_as : {begin end : ℕ} → Writes bays begin end before after First → Writes bays begin end before after Failed
+  writes_as one = record { within = one.within; kept = keeps_turned one.kept }
+
+-- ---- calls in turn
+
+-- calls that read alone
+pub writes_reads : {B : Type 0} {bays : Bays B} {begin end : ℕ} {before after : B} {Failed : Type 0} → OnlyReads bays before after Failed → Writes bays begin end before after Failed
+writes_reads {bays = bays} {begin} {end} reads = record { within = within_reads bays begin end _ _ _ reads; kept = reads.kept }
 
 module _ {B : Type 0} {bays : Bays B} (lawful : IsLawful bays) {begin end : ℕ} where
   pub writes_none : {bay : B} {Failed : Type 0} → (Failed → ⊥) → Writes bays begin end bay bay Failed
   writes_none {bay} {Failed} never = record { within = within_same bays begin end lawful bay; kept = keeps_none bays lawful bay Failed never }
 
-  -- calls that read alone
-  pub writes_reads : {before after : B} {Failed : Type 0} → OnlyReads bays before after Failed → Writes bays begin end before after Failed
-  writes_reads reads = record { within = within_reads bays begin end _ _ _ reads; kept = reads.kept }
-
   -- calls behind others, of which the last one failed, if any did
   pub writes_on : {before between after : B} {First Failed : Type 0} → Writes bays begin end before between First → Writes bays begin end between after Failed →
       Writes bays begin end before after Failed
   writes_on one two = record { within = within_on bays begin end _ _ _ _ _ one.kept two.kept one.within two.within; kept = keeps_on bays lawful _ _ _ _ _ one.kept two.kept }
-
-  -- the same calls, seen as failed in other words
-  pub writes_as : {before after : B} {First Failed : Type 0} → (Failed → First) → Writes bays begin end before after First → Writes bays begin end before after Failed
-  writes_as turned one = record { within = one.within; kept = keeps_as bays lawful _ _ _ _ turned one.kept }
 
 -- a bay tells the same files each time
 pub same_files : (seen later : Files) → ◌≡◌ {A = Option Files} (Some seen) (Some later) → seen ≡ later

@@ -40,13 +40,13 @@ module _ {B : Type 0} {bays : Bays B} (lawful : IsLawful bays) where
         (subst (λ end. Writes bays a.place end y z Failed) (same_end a b one.same) (subst (λ begin. Writes bays begin (end_of b) y z Failed) one.same.place two.writes));
   }
 
-  pub proceeds_as : {a b : FrameWriter} {x y : B} {First Failed : Type 0} → (Failed → First) → Proceeds bays a b x y First → Proceeds bays a b x y Failed
-  proceeds_as turned one = record { same = one.same; writes = writes_as lawful turned one.writes }
+pub proceeds_as : {B : Type 0} {bays : Bays B} {a b : FrameWriter} {x y : B} {First Failed : Type 0} → (Failed → First) → Proceeds bays a b x y First → Proceeds bays a b x y Failed
+proceeds_as turned one = record { same = one.same; writes = writes_as turned one.writes }
 
-  pub stays_on : {a b c : FrameWriter} {x y z : B} {First : Type 0} → Proceeds bays a b x y First → Stays bays a b x y → Stays bays b c y z → Stays bays a c x z
-  stays_on one first second seen told later told_later at =
-      let mid = told_then one.writes.within told in
-      second mid.0 mid.1 later told_later (first seen told mid.0 mid.1 at)
+pub stays_on : {B : Type 0} {bays : Bays B} {a b c : FrameWriter} {x y z : B} {First : Type 0} → Proceeds bays a b x y First → Stays bays a b x y → Stays bays b c y z → Stays bays a c x z
+stays_on one first second seen told later told_later at =
+    let mid = told_then one.writes.within told in
+    second mid.0 mid.1 later told_later (first seen told mid.0 mid.1 at)
 
 pub stays_none : {B : Type 0} (bays : Bays B) (a : FrameWriter) (x : B) → Stays bays a a x x
 stays_none bays a x seen told later told_later at =

@@ -25,7 +25,7 @@ returns-in_err-close g c =
       there = λ seen told later told_later place width number limit text pieces up behind. tt;
       size = closed.size;
       ends_size = closed.ends_size;
-      writes = λ begin end low high last. writes_as (lawful g) (λ _. refl) (closed.writes begin end low high);
+      writes = λ begin end low high last. writes_as (λ _. refl) (closed.writes begin end low high);
     })
 
 pub returns : goal.returns

@@ -166,7 +166,7 @@ returns-in_err-write_numbers g c =
       ends_size = one.size ∙ c.requires.ends_size;
       writes = λ begin end low high.
           let first = begin_first l b.len (2 ^ 62) e o c.requires.reach begin low in
-          writes_as (lawful g) (λ _. refl) (one.writes begin end first.0 (wrote_ends l b e o c.requires.reach c.ends.result.now c.ends.ensures.value end high));
+          writes_as (λ _. refl) (one.writes begin end first.0 (wrote_ends l b e o c.requires.reach c.ends.result.now c.ends.ensures.value end high));
     })
 
 pub returns-in_err-write_numbers-2 : goal.returns-in_err-write_numbers-2
@@ -187,7 +187,7 @@ returns-in_err-write_numbers-2 g c =
       writes = λ begin end low high.
           let first = begin_first l b.len (2 ^ 62) e o c.requires.reach begin low in
           writes_on (lawful g) (one.writes begin end first.0 (wrote_ends l b e o c.requires.reach c.ends.result.now c.ends.ensures.value end high))
-          (writes_as (lawful g) (λ _. refl) (two.writes begin end first.1 (wrote_slots l b e o c.requires.reach c.slots.result.now c.slots.ensures end high)));
+          (writes_as (λ _. refl) (two.writes begin end first.1 (wrote_slots l b e o c.requires.reach c.slots.result.now c.slots.ensures end high)));
     })
 
 pub returns-in_err-move_down : goal.returns-in_err-move_down
@@ -215,7 +215,7 @@ returns-in_err-move_down g c =
           writes_on (lawful g)
           (writes_on (lawful g) (one.writes begin end first.0 (wrote_ends l b e o reach c.ends.result.now c.ends.ensures.value end high))
           (two.writes begin end first.1 (wrote_slots l b e o reach c.slots.result.now c.slots.ensures end high)))
-          (writes_as (lawful g) (λ _. refl) (three.writes begin end (low_as low c.div_ceil.result refl) (at_least moved.1 high)));
+          (writes_as (λ _. refl) (three.writes begin end (low_as low c.div_ceil.result refl) (at_least moved.1 high)));
     })
 
 pub returns : goal.returns

@@ -1,15 +1,9 @@
 use Rattle.std.proofs.Common.{◌∙◌, ◌+◌, ◌≤◌, ap, refl, sym, subst}
 use Rattle.std.proofs.lemmas.Result.{err_from_is_err_and}
 use Rattle.lert_bay.specs.declared.bay.TheConstants.{FRAMES}
-use Rattle.lert_bay.proofs.KeptLaws.{IsLawful}
 use Rattle.lert_frames.specs.Laid.{laid_len}
 use Rattle.lert_frames.proofs.CallLaws.{writes_as}
-use Rattle.lert_frames.specs.Calls.{bays_of}
-use Rattle.lert_frames.proofs.closing.close_short.Given as given
 use Rattle.lert_frames.proofs.closing.close_short.Goals as goal
-
-lawful : (g : given.Over) → IsLawful (bays_of g.B.Faulty g.B.Bay)
-lawful g = record { as_read = g.met.B.Bay.as_read; since_now = g.met.B.Bay.since_now; only_now = g.met.B.Bay.only_now; since_earlier = g.met.B.Bay.since_earlier }
 
 pub returns-in_err-make_room : goal.returns-in_err-make_room
 returns-in_err-make_room g c =
@@ -20,7 +14,7 @@ returns-in_err-make_room g c =
       place = tt;
       at = made.at;
       size = made.size ∙ c.requires.size;
-      writes = λ begin end low high. writes_as (lawful g) (λ _. refl) (made.writes begin end low high);
+      writes = λ begin end low high. writes_as (λ _. refl) (made.writes begin end low high);
     })
 
 pub returns : goal.returns
@@ -33,5 +27,5 @@ returns g c =
       place = put.place ∙ ap (λ n. n + laid_len c.args.block.now) made.place;
       at = subst (λ n. c.args.outlet.now.at ≤ n) (sym put.at) made.at;
       size = put.size ∙ (made.size ∙ c.requires.size);
-      writes = λ begin end low high. writes_as (lawful g) (λ is. is) (made.writes begin end low high);
+      writes = λ begin end low high. writes_as (λ is. is) (made.writes begin end low high);
     }

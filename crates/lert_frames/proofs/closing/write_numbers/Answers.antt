@@ -43,7 +43,7 @@ returns-in_err-make_room g c =
       empty = tt;
       place = tt;
       size = made.size;
-      writes = λ begin end low high. writes_as (lawful g) (λ _. refl) (made.writes begin end low (room_before _ _ end high));
+      writes = λ begin end low high. writes_as (λ _. refl) (made.writes begin end low (room_before _ _ end high));
     })
 
 pub returns : goal.returns

@@ -2,12 +2,13 @@ use Rattle.std.proofs.Common.{◌≡◌, ℕ, ◌<◌, ◌≤◌, ◌∙◌, Boo
 use Rattle.std.specs.Prelude.{◌↔◌, IsTrue}
 use Rattle.std.proofs.lemmas.Bool.{cases_lt, false≢true}
 use Rattle.std.proofs.lemmas.Result.{err_from_is_err_and}
-use Rattle.lert_bay.proofs.KeptLaws.{IsLawful, reads_as, reads_on}
+use Rattle.lert_bay.proofs.KeptLaws.{IsLawful, reads_on}
 use Rattle.lert_frames.specs.Window.{count_of}
 use Rattle.lert_frames.proofs.FaultLaws.{fault_is, no_place, not_err}
 use Rattle.lert_frames.proofs.FieldLaws.{length_hand}
 use Rattle.lert_frames.proofs.WriteLaws.{same_err}
 use Rattle.lert_frames.specs.Calls.{bays_of}
+use Rattle.lert_frames.proofs.CallLaws.{reads_turned}
 use Rattle.lert_frames.proofs.ending.demand.Given as given
 use Rattle.lert_frames.proofs.ending.demand.Goals as goal
 
@@ -23,7 +24,7 @@ returns-in_err-need g c =
       short = λ seen told at is. absurd (no_place at _ asked.failed (fault_is _ _ is));
       end = λ seen told at is. absurd (no_place at _ asked.failed (fault_is _ _ is));
       ahead = asked.ahead;
-      only_reads = reads_as _ (lawful g) c.args.bay.now c.need.new.bay _ _ (λ is. same_err _ _ is) asked.only_reads;
+      only_reads = reads_turned (λ is. same_err _ _ is) asked.only_reads;
     })
 
 -- what isn't at hand is missing
@@ -41,7 +42,7 @@ returns-then-branch g c =
       short = λ seen told at is. absurd (not_err _ _ is);
       end = λ seen told at is. absurd (not_err _ _ is);
       ahead = asked.ahead;
-      only_reads = reads_as _ (lawful g) c.args.bay.now c.need.new.bay _ _ (λ is. absurd (not_err _ _ is)) asked.only_reads;
+      only_reads = reads_turned (λ is. absurd (not_err _ _ is)) asked.only_reads;
     }
 
 pub returns : goal.returns
@@ -58,5 +59,5 @@ returns g c =
       end = λ seen told at is. c.file_end.ensures.told seen (asked.only_reads.seen ∙ told) at (fault_is _ _ is);
       ahead = asked.ahead;
       only_reads = reads_on _ (lawful g) before between c.file_end.new.bay _ _ asked.only_reads
-          (reads_as _ (lawful g) between c.file_end.new.bay _ _ (λ is. fault_is _ _ is) c.file_end.ensures.only_reads);
+          (reads_turned (λ is. fault_is _ _ is) c.file_end.ensures.only_reads);
     }

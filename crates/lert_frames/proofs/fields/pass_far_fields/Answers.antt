@@ -1,7 +1,6 @@
 use Rattle.std.proofs.Common.{◌≡◌, ℕ, ◌+◌, ◌*◌, ◌-◌, ◌^◌, ◌<◌, ◌≤◌, ◌∙◌, Some, length, drop, ap, ap₂, sym, subst, refl, arith, true, false}
 use Rattle.std.proofs.lemmas.Result.{err_from_is_err_and}
 use Rattle.lert_bay.specs.declared.bay.TheConstants.{FRAMES}
-use Rattle.lert_bay.proofs.KeptLaws.{IsLawful, reads_as}
 use Rattle.lert_blocks.specs.Frame.{ends_agree}
 use Rattle.lert_blocks.specs.Text.{word_count}
 use Rattle.lert_frames.specs.declared.fields.Head.{Head}
@@ -11,12 +10,8 @@ use Rattle.lert_frames.proofs.FaultLaws.{not_err, not_failed, fault_is, same_pla
 use Rattle.lert_frames.proofs.FieldLaws.{fields_told, length_hand, come_far, run_ends_short, run_ends_agree, run_ends_differ}
 use Rattle.lert_frames.proofs.NearLaws.{agrees_as, block_words, far_short, far_long, far_words, far_held, far_read}
 use Rattle.lert_frames.proofs.WriteLaws.{same_err}
-use Rattle.lert_frames.specs.Calls.{bays_of}
-use Rattle.lert_frames.proofs.fields.pass_far_fields.Given as given
+use Rattle.lert_frames.proofs.CallLaws.{reads_turned}
 use Rattle.lert_frames.proofs.fields.pass_far_fields.Goals as goal
-
-lawful : (g : given.Over) → IsLawful (bays_of g.B.Faulty g.B.Bay)
-lawful g = record { as_read = g.met.B.Bay.as_read; since_now = g.met.B.Bay.since_now; only_now = g.met.B.Bay.only_now; since_earlier = g.met.B.Bay.since_earlier }
 
 near_place : (place len : ℕ) → place + len < 2 ^ 43 → place < 2 ^ 43
 near_place place len reach = omega (arith, reach)
@@ -71,7 +66,7 @@ returns-in_err-found g c =
       ahead = record { place = refl; room = refl; grows = omega arith; later = omega arith; come = λ seen told. refl; read = λ seen told from near is. is };
       ends_within = λ near. omega (arith, passed.within, c.hold_behind.ensures.place, c.words.ensures, c.requires.reach);
       ends_room = passed.room ∙ c.hold_behind.ensures.room;
-      only_reads = reads_as _ (lawful g) c.args.bay.now c.pass_run_ends.new.bay _ _ (λ is. same_err _ _ is) passed.only_reads;
+      only_reads = reads_turned (λ is. same_err _ _ is) passed.only_reads;
     })
 
 pub returns-then-not-agree : goal.returns-then-not-agree
@@ -97,7 +92,7 @@ returns-then-not-agree g c =
       ahead = record { place = refl; room = refl; grows = omega arith; later = omega arith; come = λ seen told. refl; read = λ seen told from near is. is };
       ends_within = λ near. omega (arith, passed.within, c.hold_behind.ensures.place, c.words.ensures, c.requires.reach);
       ends_room = passed.room ∙ c.hold_behind.ensures.room;
-      only_reads = reads_as _ (lawful g) c.args.bay.now c.pass_run_ends.new.bay _ _ (λ is. absurd (not_failed _ _ c.left_at_last_word.ensures is)) passed.only_reads;
+      only_reads = reads_turned (λ is. absurd (not_failed _ _ c.left_at_last_word.ensures is)) passed.only_reads;
     }
 
 pub returns : goal.returns
@@ -134,5 +129,5 @@ returns g c =
       ahead = tt;
       ends_within = λ near. omega (arith, held.place, c.requires.reach);
       ends_room = held.room ∙ (passed.room ∙ begun.room);
-      only_reads = reads_as _ (lawful g) c.args.bay.now c.pass_run_ends.new.bay _ _ (λ is. absurd (not_err _ _ is)) passed.only_reads;
+      only_reads = reads_turned (λ is. absurd (not_err _ _ is)) passed.only_reads;
     }

@@ -1,7 +1,6 @@
 use Rattle.std.proofs.Common.{◌≡◌, ℕ, ◌+◌, ◌-◌, ◌*◌, ◌^◌, ◌<◌, ◌≤◌, ◌∙◌, Some, length, drop, ap, sym, refl, subst, arith, true, false}
 use Rattle.std.proofs.lemmas.Result.{err_from_is_err_and}
 use Rattle.lert_bay.specs.declared.bay.TheConstants.{FRAMES}
-use Rattle.lert_bay.proofs.KeptLaws.{IsLawful, reads_as}
 use Rattle.lert_blocks.specs.Frame.{ends_agree}
 use Rattle.lert_blocks.specs.Text.{word_count}
 use Rattle.lert_frames.specs.Steps.{fields_len}
@@ -10,12 +9,8 @@ use Rattle.lert_frames.proofs.FaultLaws.{not_err, not_failed, fault_is, same_pla
 use Rattle.lert_frames.proofs.FieldLaws.{fields_told, end_of, run_ends_short, run_ends_agree, run_ends_differ}
 use Rattle.lert_frames.proofs.NearLaws.{agrees_as, block_words, near_long, near_words, near_held}
 use Rattle.lert_frames.proofs.WriteLaws.{same_err}
-use Rattle.lert_frames.specs.Calls.{bays_of}
-use Rattle.lert_frames.proofs.fields.pass_near_fields.Given as given
+use Rattle.lert_frames.proofs.CallLaws.{reads_turned}
 use Rattle.lert_frames.proofs.fields.pass_near_fields.Goals as goal
-
-lawful : (g : given.Over) → IsLawful (bays_of g.B.Faulty g.B.Bay)
-lawful g = record { as_read = g.met.B.Bay.as_read; since_now = g.met.B.Bay.since_now; only_now = g.met.B.Bay.only_now; since_earlier = g.met.B.Bay.since_earlier }
 
 -- ---- what calls want
 
@@ -102,7 +97,7 @@ returns-in_err-demand g c =
       ahead = asked.ahead;
       ends_within = λ near. near;
       ends_room = refl;
-      only_reads = reads_as _ (lawful g) c.args.bay.now c.demand.new.bay _ _ (λ is. same_err _ _ is) asked.only_reads;
+      only_reads = reads_turned (λ is. same_err _ _ is) asked.only_reads;
     })
 
 pub returns-then-not-agree : goal.returns-then-not-agree
@@ -129,7 +124,7 @@ returns-then-not-agree g c =
       ahead = asked.ahead;
       ends_within = λ near. near;
       ends_room = refl;
-      only_reads = reads_as _ (lawful g) c.args.bay.now c.demand.new.bay _ _ (λ is. absurd (not_failed _ _ c.left_at_last_word.ensures is)) asked.only_reads;
+      only_reads = reads_turned (λ is. absurd (not_failed _ _ c.left_at_last_word.ensures is)) asked.only_reads;
     }
 
 pub returns : goal.returns
@@ -165,5 +160,5 @@ returns g c =
       ahead = tt;
       ends_within = λ near. omega (arith, held.place, c.between-words.ensures.count, c.place.ensures, asked.ahead.place, len_is, c.requires.reach);
       ends_room = held.room;
-      only_reads = reads_as _ (lawful g) c.args.bay.now c.demand.new.bay _ _ (λ is. absurd (not_err _ _ is)) asked.only_reads;
+      only_reads = reads_turned (λ is. absurd (not_err _ _ is)) asked.only_reads;
     }

@@ -1,18 +1,13 @@
 use Rattle.std.proofs.Common.{◌+◌, ◌∙◌, ℕ, List, Some, length, ap, refl, sym, subst}
 use Rattle.std.proofs.lemmas.Result.{err_from_is_err_and}
 use Rattle.lert_bay.specs.declared.bay.TheConstants.{FRAMES}
-use Rattle.lert_bay.proofs.KeptLaws.{IsLawful, reads_as}
 use Rattle.lert_frames.specs.Steps.{AreFields}
 use Rattle.lert_frames.specs.Window.{place_of, to_come}
 use Rattle.lert_frames.proofs.FaultLaws.{not_err, not_failed, place_is}
 use Rattle.lert_frames.proofs.FieldLaws.{fields_told, head_short, head_unfit}
 use Rattle.lert_frames.proofs.WriteLaws.{same_err}
-use Rattle.lert_frames.specs.Calls.{bays_of}
-use Rattle.lert_frames.proofs.fields.read_head.Given as given
+use Rattle.lert_frames.proofs.CallLaws.{reads_turned}
 use Rattle.lert_frames.proofs.fields.read_head.Goals as goal
-
-lawful : (g : given.Over) → IsLawful (bays_of g.B.Faulty g.B.Bay)
-lawful g = record { as_read = g.met.B.Bay.as_read; since_now = g.met.B.Bay.since_now; only_now = g.met.B.Bay.only_now; since_earlier = g.met.B.Bay.since_earlier }
 
 pub returns-in_err-demand : goal.returns-in_err-demand
 returns-in_err-demand g c =
@@ -26,7 +21,7 @@ returns-in_err-demand g c =
           head_short c.args.most (place_of c.args.window.now) (length (seen FRAMES)) (to_come c.args.window.now (seen FRAMES)) (asked.short seen told at (same_err _ _ is))
           ∙ ap Some (sym (asked.end seen told at (same_err _ _ is)));
       ahead = asked.ahead;
-      only_reads = reads_as _ (lawful g) c.args.bay.now c.demand.new.bay _ _ (λ is. same_err _ _ is) asked.only_reads;
+      only_reads = reads_turned (λ is. same_err _ _ is) asked.only_reads;
     })
 
 pub returns-then-not-is_fitting : goal.returns-then-not-is_fitting
@@ -43,7 +38,7 @@ returns-then-not-is_fitting g c =
           (c.is_fitting.ensures.not c.if-not-is_fitting.true)
           ∙ ap Some (ap (λ n. n + 8) (sym (c.place.ensures ∙ asked.ahead.place)) ∙ place_is (c.place.result + 8) at is);
       ahead = asked.ahead;
-      only_reads = reads_as _ (lawful g) c.args.bay.now c.demand.new.bay _ _ (λ is. absurd (not_failed (c.place.result + 8) _ refl is)) asked.only_reads;
+      only_reads = reads_turned (λ is. absurd (not_failed (c.place.result + 8) _ refl is)) asked.only_reads;
     }
 
 pub returns : goal.returns
@@ -55,5 +50,5 @@ returns g c =
       small = c.of-head.ensures.small;
       malformed = λ seen told at is. absurd (not_err _ _ is);
       ahead = asked.ahead;
-      only_reads = reads_as _ (lawful g) c.args.bay.now c.demand.new.bay _ _ (λ is. absurd (not_err _ _ is)) asked.only_reads;
+      only_reads = reads_turned (λ is. absurd (not_err _ _ is)) asked.only_reads;
     }

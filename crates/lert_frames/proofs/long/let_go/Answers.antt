@@ -153,7 +153,7 @@ returns-in_err-make_room g c =
       size = one.size ∙ c.requires.size;
       ends_size = c.requires.ends_size;
       writes = λ begin end low high.
-          writes_as (lawful g) (λ _. refl) (one.writes begin end (begin_first l c.args.block.now.len (2 ^ 62) e o c.requires.reach begin low).1 high);
+          writes_as (λ _. refl) (one.writes begin end (begin_first l c.args.block.now.len (2 ^ 62) e o c.requires.reach begin low).1 high);
     })
 
 pub returns-in_err-make_room-2 : goal.returns-in_err-make_room-2
@@ -178,7 +178,7 @@ returns-in_err-make_room-2 g c =
       writes = λ begin end low high.
           let first = begin_first l c.args.block.now.len (2 ^ 62) e o c.requires.reach begin low in
           writes_on (lawful g) (one.writes begin end first.1 high)
-          (writes_as (lawful g) (λ _. refl) (two.writes begin end first.0 (ends_last l c.args.block.now.len (2 ^ 62) e o c.requires.reach end high)));
+          (writes_as (λ _. refl) (two.writes begin end first.0 (ends_last l c.args.block.now.len (2 ^ 62) e o c.requires.reach end high)));
     })
 
 pub returns : goal.returns
@@ -239,5 +239,5 @@ returns g c =
       writes = λ begin end low high.
           let first = begin_first l b.len (2 ^ 62) e o c.requires.reach begin low in
           writes_on (lawful g) (one.writes begin end first.1 high)
-          (writes_as (lawful g) (λ is. is) (two.writes begin end first.0 (ends_last l b.len (2 ^ 62) e o c.requires.reach end high)));
+          (writes_as (λ is. is) (two.writes begin end first.0 (ends_last l b.len (2 ^ 62) e o c.requires.reach end high)));
     }

@@ -27,7 +27,7 @@ returns-in_err-move_part g c =
       size = step.size ∙ inv.size;
       writes = λ begin end low high.
           writes_on (lawful g) (writes_wider inv.writes low (omega arith) (omega (arith, inv.some, high)))
-          (writes_as (lawful g) (λ _. refl) (step.writes begin end (omega (arith, inv.place)) (omega (arith, inv.place))));
+          (writes_as (λ _. refl) (step.writes begin end (omega (arith, inv.place)) (omega (arith, inv.place))));
     })
 
 pub loop-moved-preserved : goal.loop-moved-preserved
@@ -45,7 +45,7 @@ loop-moved-preserved g c =
       place = omega (arith, step.place, inv.place);
       size = step.size ∙ inv.size;
       writes = writes_on (lawful g) (writes_wider inv.writes (omega arith) (omega arith) (omega arith))
-          (writes_as (lawful g) (λ never. absurd never) (step.writes to (to + (moved + more)) (omega (arith, inv.place)) (omega (arith, inv.place))));
+          (writes_as (λ never. absurd never) (step.writes to (to + (moved + more)) (omega (arith, inv.place)) (omega (arith, inv.place))));
       out = λ seen told later told_later within.
           let mid = told_then inv.writes.within told in
           let longer = no_shorter inv.writes.within told mid.1 in
@@ -87,5 +87,5 @@ returns g c =
           ap (part (later FRAMES) c.args.to) place ∙ (out_all c.args.to _ (later FRAMES) c.loop-moved.outlet out inv.empty ∙ ap (λ n. part (seen FRAMES) c.args.from (c.args.from + n)) all);
       place = omega (arith, c.loop-moved.invariant.place, c.loop-moved.invariant.some, c.loop-moved-test.false);
       writes = λ begin end low high.
-          writes_as (lawful g) (λ failed. cc) (writes_wider inv.writes low (omega arith) (omega (arith, inv.some, high)));
+          writes_as (λ failed. cc) (writes_wider inv.writes low (omega arith) (omega (arith, inv.some, high)));
     }

@@ -33,7 +33,7 @@ returns-in_err-copy g c =
       empty = tt;
       place = tt;
       size = copied.size;
-      writes = λ begin end low high. writes_as (lawful g) (λ _. refl) (writes_reads (lawful g) copied.only_reads);
+      writes = λ begin end low high. writes_as (λ _. refl) (writes_reads copied.only_reads);
     })
 
 pub returns : goal.returns
@@ -49,7 +49,7 @@ returns g c =
       place = on_ok _ _ c.flush.result flushed.written (λ none. behind c.flush.new.self.at c.flush.new.self.len _ o.at o.len count flushed.place copied.place c.requires.empty none);
       size = flushed.size ∙ copied.size;
       writes = λ begin end low high.
-          writes_on (lawful g) (writes_reads (lawful g) copied.only_reads)
+          writes_on (lawful g) (writes_reads copied.only_reads)
           (record {
             within = flushed.within begin end (subst (λ n. begin ≤ n) (sym copied.at) low) (high_as _ o.at o.len count end copied.place c.requires.empty high);
             kept = flushed.kept;

@@ -1,11 +1,12 @@
 use Rattle.std.proofs.Common.{◌≡◌, ℕ, ◌∙◌, arith, subst}
 use Rattle.std.proofs.lemmas.Result.{err_from_is_err_and}
-use Rattle.lert_bay.proofs.KeptLaws.{IsLawful, reads_as, reads_none, reads_on}
+use Rattle.lert_bay.proofs.KeptLaws.{IsLawful, reads_none, reads_on}
 use Rattle.lert_frames.proofs.PassLaws.{words_none, words_more, words_short}
 use Rattle.lert_frames.specs.Steps.{PassesWords}
 use Rattle.lert_frames.proofs.FaultLaws.{not_err}
 use Rattle.lert_frames.proofs.WriteLaws.{same_err}
 use Rattle.lert_frames.specs.Calls.{bays_of}
+use Rattle.lert_frames.proofs.CallLaws.{reads_turned}
 use Rattle.lert_frames.proofs.run_ends.pass_run_ends.Given as given
 use Rattle.lert_frames.proofs.run_ends.pass_run_ends.Goals as goal
 
@@ -44,7 +45,7 @@ loop-word-preserved g c =
             read = λ seen told. one.bytes seen (now.reads.seen ∙ told);
           }) more.counted more.few;
       reads = reads_on _ (lawful g) c.args.bay.now c.loop-word.bay c.pass_word.new.bay ⊥ ⊥ now.reads
-          (reads_as _ (lawful g) c.loop-word.bay c.pass_word.new.bay _ ⊥ (λ never. absurd never) one.only_reads);
+          (reads_turned (λ never. absurd never) one.only_reads);
     }
 
 pub returns-in_err-pass_word : goal.returns-in_err-pass_word
@@ -60,7 +61,7 @@ returns-in_err-pass_word g c =
       within = omega (arith, one.within, now.passes.place, c.loop-word-test.true);
       room = one.room ∙ now.passes.room;
       only_reads = reads_on _ (lawful g) c.args.bay.now c.loop-word.bay c.pass_word.new.bay ⊥ _ now.reads
-          (reads_as _ (lawful g) c.loop-word.bay c.pass_word.new.bay _ _ (λ is. same_err _ _ is) one.only_reads);
+          (reads_turned (λ is. same_err _ _ is) one.only_reads);
     })
 
 pub returns : goal.returns
@@ -73,5 +74,5 @@ returns g c =
       end = λ seen told at is. absurd (not_err _ _ is);
       within = omega (arith, now.passes.place, c.loop-word.auto);
       room = now.passes.room;
-      only_reads = reads_as _ (lawful g) c.args.bay.now c.loop-word.bay ⊥ _ (λ is. not_err _ _ is) now.reads;
+      only_reads = reads_turned (λ is. not_err _ _ is) now.reads;
     }

@@ -6,15 +6,10 @@ use Rattle.lert_frames.specs.Steps.{AreEnds}
 use Rattle.lert_frames.specs.Window.{count_of, to_come}
 use Rattle.lert_frames.proofs.WindowLaws.{off_of}
 use Rattle.std.proofs.lemmas.Result.{err_from_is_err_and}
-use Rattle.lert_bay.proofs.KeptLaws.{IsLawful, reads_as}
 use Rattle.lert_frames.proofs.FaultLaws.{not_err}
 use Rattle.lert_frames.proofs.WriteLaws.{same_err}
-use Rattle.lert_frames.specs.Calls.{bays_of}
-use Rattle.lert_frames.proofs.slots.read_ends.Given as given
+use Rattle.lert_frames.proofs.CallLaws.{reads_turned}
 use Rattle.lert_frames.proofs.slots.read_ends.Goals as goal
-
-lawful : (g : given.Over) → IsLawful (bays_of g.B.Faulty g.B.Bay)
-lawful g = record { as_read = g.met.B.Bay.as_read; since_now = g.met.B.Bay.since_now; only_now = g.met.B.Bay.only_now; since_earlier = g.met.B.Bay.since_earlier }
 
 at_hand_too : (had now bytes : ℕ) → had ≤ now → bytes ≡ now → 8 ≤ had → 8 ≤ bytes
 at_hand_too had now bytes grows is some = omega (arith, grows, is, some)
@@ -30,7 +25,7 @@ returns-in_err-need g c =
       one = tt;
       ahead = asked.ahead;
       failed = asked.failed;
-      only_reads = reads_as _ (lawful g) c.args.bay.now c.need.new.bay _ _ (λ is. same_err _ _ is) asked.only_reads;
+      only_reads = reads_turned (λ is. same_err _ _ is) asked.only_reads;
     })
 
 none_more : (xs rest ys : List ℕ) → xs ++ rest ≡ ys → xs ≡ ys → rest ≡ []
@@ -58,5 +53,5 @@ returns g c =
       one = λ some. c.of.ensures.one (at_hand_too _ _ _ c.in_ok-need.ensures.ahead.grows c.at_hand.ensures.count some);
       ahead = c.in_ok-need.ensures.ahead;
       failed = tt;
-      only_reads = reads_as _ (lawful g) c.args.bay.now c.need.new.bay _ _ (λ is. absurd (not_err _ _ is)) c.in_ok-need.ensures.only_reads;
+      only_reads = reads_turned (λ is. absurd (not_err _ _ is)) c.in_ok-need.ensures.only_reads;
     }

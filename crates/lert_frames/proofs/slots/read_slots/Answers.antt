@@ -1,17 +1,12 @@
 use Rattle.std.proofs.Common.{◌≡◌, ◌<◌, ◌*◌, ◌/◌, ◌∙◌, ℕ, min, length, ap, ap₂, arith}
 use Rattle.std.proofs.lemmas.Result.{err_from_is_err_and}
-use Rattle.lert_bay.proofs.KeptLaws.{IsLawful, reads_as}
 use Rattle.lert_blocks.specs.Frame.{numbers_in}
 use Rattle.lert_frames.specs.Window.{count_of}
 use Rattle.lert_frames.proofs.FaultLaws.{not_err}
 use Rattle.lert_frames.proofs.WindowLaws.{off_of}
 use Rattle.lert_frames.proofs.WriteLaws.{same_err}
-use Rattle.lert_frames.specs.Calls.{bays_of}
-use Rattle.lert_frames.proofs.slots.read_slots.Given as given
+use Rattle.lert_frames.proofs.CallLaws.{reads_turned}
 use Rattle.lert_frames.proofs.slots.read_slots.Goals as goal
-
-lawful : (g : given.Over) → IsLawful (bays_of g.B.Faulty g.B.Bay)
-lawful g = record { as_read = g.met.B.Bay.as_read; since_now = g.met.B.Bay.since_now; only_now = g.met.B.Bay.only_now; since_earlier = g.met.B.Bay.since_earlier }
 
 pub returns-in_err-need : goal.returns-in_err-need
 returns-in_err-need g c =
@@ -23,7 +18,7 @@ returns-in_err-need g c =
       all = λ seen told. tt;
       ahead = asked.ahead;
       failed = asked.failed;
-      only_reads = reads_as _ (lawful g) c.args.bay.now c.need.new.bay _ _ (λ is. same_err _ _ is) asked.only_reads;
+      only_reads = reads_turned (λ is. same_err _ _ is) asked.only_reads;
     })
 
 -- fewer were read than wanted
@@ -38,7 +33,7 @@ returns g c =
     record {
       ahead = c.in_ok-need.ensures.ahead;
       failed = tt;
-      only_reads = reads_as _ (lawful g) c.args.bay.now c.need.new.bay _ _ (λ is. absurd (not_err _ _ is)) c.in_ok-need.ensures.only_reads;
+      only_reads = reads_turned (λ is. absurd (not_err _ _ is)) c.in_ok-need.ensures.only_reads;
       count = c.read_numbers.ensures.count ∙ ap₂ (λ most long. min most (long / 8)) most c.at_hand.ensures.count;
       slots = c.read_numbers.ensures.numbers ∙ ap (numbers_in c.read_numbers.result) c.at_hand.ensures.value;
       all = λ seen told few.

@@ -3,7 +3,7 @@ use Rattle.std.specs.Vec.{with_items}
 use Rattle.std.proofs.lemmas.List.{with_items_is}
 use Rattle.std.proofs.lemmas.Result.{err_from_is_err_and}
 use Rattle.lert_bay.specs.declared.bay.TheConstants.{FRAMES}
-use Rattle.lert_bay.proofs.KeptLaws.{IsLawful, reads_as, reads_on}
+use Rattle.lert_bay.proofs.KeptLaws.{IsLawful, reads_on}
 use Rattle.lert_frames.specs.Steps.{AreEnds}
 use Rattle.lert_frames.specs.Window.{count_of, to_come}
 use Rattle.lert_frames.proofs.AheadLaws.{ahead_none, ahead_since, standing_ahead, window_near, ends_near}
@@ -12,6 +12,7 @@ use Rattle.lert_frames.proofs.SlotLaws.{hand_from, hand_read}
 use Rattle.lert_frames.proofs.OrderLaws.{here}
 use Rattle.lert_frames.proofs.WriteLaws.{same_err}
 use Rattle.lert_frames.specs.Calls.{bays_of}
+use Rattle.lert_frames.proofs.CallLaws.{reads_turned}
 use Rattle.lert_frames.proofs.decoder.Decoder.read_word.Given as given
 use Rattle.lert_frames.proofs.decoder.Decoder.read_word.Goals as goal
 
@@ -74,7 +75,7 @@ returns-in_err-ends g c =
       hand = tt;
       slots = λ seen told. tt;
       failed = word.failed;
-      only_reads = reads_as _ (lawful g) before c.read_ends.new.bay _ _ (λ is. same_err _ _ is) word.only_reads;
+      only_reads = reads_turned (λ is. same_err _ _ is) word.only_reads;
     })
 
 pub returns-in_err-count : goal.returns-in_err-count
@@ -94,7 +95,7 @@ returns-in_err-count g c =
       hand = tt;
       slots = λ seen told. tt;
       failed = read.failed;
-      only_reads = reads_on _ (lawful g) before between after _ _ word.only_reads (reads_as _ (lawful g) between after _ _ (λ is. same_err _ _ is) read.only_reads);
+      only_reads = reads_on _ (lawful g) before between after _ _ word.only_reads (reads_turned (λ is. same_err _ _ is) read.only_reads);
     })
 
 pub returns : goal.returns
@@ -128,5 +129,5 @@ returns g c =
           (ap (take count) (with_items_is old.slots c.read_slots.new.into (c.read_slots.auto.into ∙ c.deref_mut.ensures.len)) ∙ read.slots)
           (λ few. read.all seen (word.only_reads.seen ∙ told) few ∙ sym (read.ahead.come seen (word.only_reads.seen ∙ told)));
       failed = tt;
-      only_reads = reads_on _ (lawful g) before between after _ _ word.only_reads (reads_as _ (lawful g) between after _ _ (λ is. absurd (not_err _ _ is)) read.only_reads);
+      only_reads = reads_on _ (lawful g) before between after _ _ word.only_reads (reads_turned (λ is. absurd (not_err _ _ is)) read.only_reads);
     }

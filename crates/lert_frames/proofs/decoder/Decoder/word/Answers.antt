@@ -2,7 +2,7 @@ use Rattle.std.proofs.Common.{◌≡◌, ℕ, ◌<◌, ◌≤◌, ◌+◌, ◌*�
 use Rattle.std.proofs.lemmas.List.{length-take-le, take_all}
 use Rattle.std.proofs.lemmas.Result.{err_from_is_err_and}
 use Rattle.lert_bay.specs.declared.bay.TheConstants.{FRAMES}
-use Rattle.lert_bay.proofs.KeptLaws.{IsLawful, reads_as, reads_on}
+use Rattle.lert_bay.proofs.KeptLaws.{IsLawful, reads_on}
 use Rattle.lert_frames.specs.declared.decoder.Decoder.{Decoder}
 use Rattle.lert_frames.specs.declared.decoder.Present.{Present}
 use Rattle.lert_frames.specs.declared.step.Word.{Word}
@@ -20,6 +20,7 @@ use Rattle.lert_frames.proofs.WordStepLaws.{all_decoded, all_left, spot_is, step
 use Rattle.lert_frames.proofs.WriteLaws.{same_err}
 use Rattle.lert_spec.specs.declared.piece.Piece.{Piece}
 use Rattle.lert_frames.specs.Calls.{bays_of}
+use Rattle.lert_frames.proofs.CallLaws.{reads_turned}
 use Rattle.lert_frames.proofs.decoder.Decoder.word.Given as given
 use Rattle.lert_frames.proofs.decoder.Decoder.word.Goals as goal
 
@@ -144,7 +145,7 @@ returns-in_err-word g c =
       steps = steps_refused _ before after c.args.self.now middle read.width _ _ read.block read.ahead read.window (λ _. read.ends.place)
           (λ seen told i. found_by (read.width i) (read.block i) (read.ahead i) (read.window.place i) (length (seen FRAMES)) (read.ends.come seen told i) (read.window.come seen told i))
           (λ seen told at is. absurd (no_place at _ read.failed is))
-          (reads_as _ (lawful g) before after _ _ (λ is. same_err _ _ is) read.only_reads);
+          (reads_turned (λ is. same_err _ _ is) read.only_reads);
       kept = take_all (length items) items (here (length items));
       none = refl;
       few = more_room (length items);
@@ -198,7 +199,7 @@ returns-in-Ok g c =
             decoded = all_decoded middle.width middle.block.first middle.block.from (c.in-Ok.upto - middle.block.from) middle.block.walk there _ (take word.count middle.slots.items) behind
                 (slots_there some ends slots) now_is there_too c.in-Ok.upto c.decode.new.walk _ _ found.0 found.1 found.2;
           })
-          (reads_as _ (lawful g) before after _ _ (λ is. absurd (not_err _ _ is)) read.only_reads));
+          (reads_turned (λ is. absurd (not_err _ _ is)) read.only_reads));
       kept = decoded.kept;
       none = tt;
       few = decoded.few;
@@ -240,7 +241,7 @@ returns-in-Err g c =
           fault.here (λ past n named. fault.end past seen (read.only_reads.seen ∙ told) n named) is)
           (all_left middle.width middle.block.first middle.block.from (c.in-Err.at - middle.block.from) middle.block.walk there _ items behind (slots_there some ends slots) now_is
           (hand_there some ends slots word.ends word.count items hand) found))
-          (reads_on _ (lawful g) before between after _ _ read.only_reads (reads_as _ (lawful g) between after _ _ (λ is. fault_is _ _ is) fault.only_reads)));
+          (reads_on _ (lawful g) before between after _ _ read.only_reads (reads_turned (λ is. fault_is _ _ is) fault.only_reads)));
       kept = kept_same c.truncate.new.self.items c.args.pieces.now.items same;
       none = same;
       few = few_same c.truncate.new.self.items c.args.pieces.now.items same;

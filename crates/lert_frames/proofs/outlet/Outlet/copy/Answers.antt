@@ -2,14 +2,9 @@ use Rattle.std.proofs.Common.{◌≡◌, ◌∙◌, ℕ, ◌+◌, refl, arith}
 use Rattle.std.proofs.lemmas.Result.{err_from_is_err_and}
 use Rattle.lert_bay.specs.declared.bay.TheConstants.{FRAMES}
 use Rattle.lert_bay.specs.Settled.{part}
-use Rattle.lert_bay.proofs.KeptLaws.{IsLawful, reads_as}
 use Rattle.lert_frames.proofs.OutletLaws.{out_laid}
-use Rattle.lert_frames.specs.Calls.{bays_of}
-use Rattle.lert_frames.proofs.outlet.Outlet.copy.Given as given
+use Rattle.lert_frames.proofs.CallLaws.{reads_turned}
 use Rattle.lert_frames.proofs.outlet.Outlet.copy.Goals as goal
-
-lawful : (g : given.Over) → IsLawful (bays_of g.B.Faulty g.B.Bay)
-lawful g = record { as_read = g.met.B.Bay.as_read; since_now = g.met.B.Bay.since_now; only_now = g.met.B.Bay.only_now; since_earlier = g.met.B.Bay.since_earlier }
 
 place_behind : (at len count : ℕ) → at + (len + count) ≡ at + len + count
 place_behind at len count = omega arith
@@ -22,7 +17,7 @@ returns-in_err-read_into g c =
       place = tt;
       size = refl;
       at = refl;
-      only_reads = reads_as _ (lawful g) c.args.bay.now c.read_into.new.bay _ _ (λ _. refl) c.in_err-read_into.ensures.only_reads;
+      only_reads = reads_turned (λ _. refl) c.in_err-read_into.ensures.only_reads;
     })
 
 pub returns : goal.returns

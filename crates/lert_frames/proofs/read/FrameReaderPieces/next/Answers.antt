@@ -3,7 +3,7 @@ use Rattle.std.specs.Prelude.{option_to_list}
 use Rattle.std.proofs.lemmas.Result.{err_from_is_err_and}
 use Rattle.lert_bay.specs.declared.bay.TheConstants.{FRAMES}
 use Rattle.lert_bay.specs.Files.{Files}
-use Rattle.lert_bay.proofs.KeptLaws.{IsLawful, reads_none, reads_as}
+use Rattle.lert_bay.proofs.KeptLaws.{IsLawful, reads_none}
 use Rattle.lert_frames.specs.InOrder.{gave_given}
 use Rattle.lert_frames.specs.Place.{tail_limit}
 use Rattle.lert_spec.specs.declared.piece.Piece.{Piece}
@@ -13,6 +13,7 @@ use Rattle.lert_frames.proofs.ToComeLaws.{same_to_come_on, left_before, told_sta
 use Rattle.lert_frames.proofs.ToComeLaws.{handed_untold, handed_within, handed_none, told_first, told_next, given_within, given_all}
 use Rattle.lert_frames.proofs.WriteLaws.{same_err}
 use Rattle.lert_frames.specs.Calls.{bays_of}
+use Rattle.lert_frames.proofs.CallLaws.{reads_turned}
 use Rattle.lert_frames.proofs.read.FrameReaderPieces.next.Given as given
 use Rattle.lert_frames.proofs.read.FrameReaderPieces.next.Goals as goal
 
@@ -82,7 +83,7 @@ returns-in_err-fill g c =
       breaks = broken_stays files (g.B.Bay.files later) self after e.only_reads.seen same;
       faults = e.only_reads.kept.never_falls;
       mark = e.only_reads.kept.mark;
-      keeps = reads_as _ (lawful g) before later _ ⊥ (λ none. absurd none) e.only_reads;
+      keeps = reads_turned (λ none. absurd none) e.only_reads;
       sum = tt;
       all = λ is. absurd (err_not_ok _ _ is);
       settings = e.frame.settings ∙ none.settings;
@@ -91,7 +92,7 @@ returns-in_err-fill g c =
       wide = e.frame.wide ∙ none.wide;
       within = λ seen told within. tt;
       over = λ is. absurd (err_not_ok _ _ is);
-      only_reads = reads_as _ (lawful g) before later _ _ (λ is. same_err _ _ is) e.only_reads;
+      only_reads = reads_turned (λ is. same_err _ _ is) e.only_reads;
     })
 
 pub returns : goal.returns
@@ -125,7 +126,7 @@ returns g c =
       breaks = λ at. (λ breaks. (broken at).0 ((handed at).0 breaks), λ breaks. (handed at).1 ((broken at).1 breaks));
       faults = e.only_reads.kept.never_falls;
       mark = e.only_reads.kept.mark;
-      keeps = reads_as _ (lawful g) before later _ ⊥ (λ none. absurd none) e.only_reads;
+      keeps = reads_turned (λ none. absurd none) e.only_reads;
       sum = given_within after;
       all = λ is. let end : piece ≡ None = same_ok _ _ is in given_all filled after (ended end) (handed_over filled after (ended end) e.over);
       settings = hands.settings ∙ (e.frame.settings ∙ none.settings);
@@ -134,5 +135,5 @@ returns g c =
       wide = hands.wide ∙ (e.frame.wide ∙ none.wide);
       within = λ seen told within. handed_within filled after piece hands (seen FRAMES) (e.within seen told (handed_within self c.give.new.self None none (seen FRAMES) within));
       over = λ is. let end : piece ≡ None = same_ok _ _ is in handed_over filled after (ended end) e.over;
-      only_reads = reads_as _ (lawful g) before later _ _ (λ is. absurd (not_err _ _ is)) e.only_reads;
+      only_reads = reads_turned (λ is. absurd (not_err _ _ is)) e.only_reads;
     }

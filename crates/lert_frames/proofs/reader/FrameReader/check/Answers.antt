@@ -3,7 +3,7 @@ use Rattle.std.specs.Prelude.{option_to_list}
 use Rattle.std.proofs.lemmas.Result.{err_from_is_err_and}
 use Rattle.lert_bay.specs.declared.bay.TheConstants.{FRAMES}
 use Rattle.lert_bay.specs.Files.{IfTold}
-use Rattle.lert_bay.proofs.KeptLaws.{IsLawful, reads_none, reads_on, reads_as}
+use Rattle.lert_bay.proofs.KeptLaws.{IsLawful, reads_none, reads_on}
 use Rattle.lert_spec.specs.Table.{total, AreGiven}
 use Rattle.lert_frames.specs.Frame.{frame_left}
 use Rattle.lert_frames.specs.Place.{frame_place, tail_limit}
@@ -12,6 +12,7 @@ use Rattle.lert_frames.proofs.CheckLaws.{total_grows, whole_bin, left_started, w
 use Rattle.lert_frames.proofs.FaultLaws.{not_err}
 use Rattle.lert_frames.proofs.WriteLaws.{same_err}
 use Rattle.lert_frames.specs.Calls.{bays_of}
+use Rattle.lert_frames.proofs.CallLaws.{reads_turned}
 use Rattle.lert_frames.proofs.reader.FrameReader.check.Given as given
 use Rattle.lert_frames.proofs.reader.FrameReader.check.Goals as goal
 
@@ -70,7 +71,7 @@ pub returns-in_err-_piece-clause-only_reads : goal.returns-in_err-_piece-clause-
 returns-in_err-_piece-clause-only_reads g c =
     let p = err_from_is_err_and c.from_residual.result c.from_residual.ensures.1 in
     rw (p.1, p.2) (reads_on _ (lawful g) c.args.bay.now c.loop-piece.bay c.next.new.ctx ⊥ _ c.loop-piece.invariant.only_reads
-    (reads_as _ (lawful g) c.loop-piece.bay c.next.new.ctx _ _ (same_err _ _) c.in_err-_piece.ensures.only_reads))
+    (reads_turned (same_err _ _) c.in_err-_piece.ensures.only_reads))
 
 -- ---- at the end
 
@@ -110,4 +111,4 @@ returns-clause-stands g c seen told =
 pub returns-clause-only_reads : goal.returns-clause-only_reads
 returns-clause-only_reads g c =
     reads_on _ (lawful g) c.args.bay.now c.loop-piece.bay c.next.new.ctx ⊥ _ c.loop-piece.invariant.only_reads
-    (reads_as _ (lawful g) c.loop-piece.bay c.next.new.ctx ⊥ _ (λ failed. not_err _ _ failed) c.in_ok-_piece.ensures.keeps)
+    (reads_turned (λ failed. not_err _ _ failed) c.in_ok-_piece.ensures.keeps)

@@ -1,7 +1,7 @@
 use Rattle.std.proofs.Common.{◌∙◌, Some, refl, ap}
 use Rattle.std.proofs.lemmas.Result.{err_from_is_err_and}
 use Rattle.lert_bay.specs.declared.bay.TheConstants.{FRAMES}
-use Rattle.lert_bay.proofs.KeptLaws.{IsLawful, reads_none, reads_on, reads_as}
+use Rattle.lert_bay.proofs.KeptLaws.{IsLawful, reads_none, reads_on}
 use Rattle.lert_frames.specs.Decoded.{decoder_found}
 use Rattle.lert_frames.specs.Reading.{verdict}
 use Rattle.lert_frames.specs.ToCome.{known_or}
@@ -9,6 +9,7 @@ use Rattle.lert_frames.proofs.FaultLaws.{not_failed, place_is}
 use Rattle.lert_frames.proofs.ToComeLaws.{same_frame_on, same_to_come_on, left_before}
 use Rattle.lert_frames.proofs.WriteLaws.{same_err}
 use Rattle.lert_frames.specs.Calls.{bays_of}
+use Rattle.lert_frames.proofs.CallLaws.{reads_turned}
 use Rattle.lert_frames.proofs.reader.FrameReader.fill.Given as given
 use Rattle.lert_frames.proofs.reader.FrameReader.fill.Goals as goal
 
@@ -38,7 +39,7 @@ loop-self-preserved g c =
       to_come = λ seen told. same_to_come_on c.args.self.now c.loop-self.self c.advance.new.self (seen FRAMES) (is.to_come seen told) (e.to_come seen (is.only_reads.seen ∙ told));
       within = λ seen told within. e.within seen (is.only_reads.seen ∙ told) (is.within seen told within);
       only_reads = reads_on _ (lawful g) c.args.bay.now c.loop-self.bay c.advance.new.bay ⊥ ⊥ is.only_reads
-          (reads_as _ (lawful g) c.loop-self.bay c.advance.new.bay _ ⊥ (λ none. absurd none) e.only_reads);
+          (reads_turned (λ none. absurd none) e.only_reads);
     }
 
 pub let_go-requires : goal.let_go-requires
@@ -80,7 +81,7 @@ returns-in_err-advance g c =
       over = tt;
       within = λ seen told within. tt;
       only_reads = reads_on _ (lawful g) c.args.bay.now c.loop-self.bay c.advance.new.bay ⊥ _ is.only_reads
-          (reads_as _ (lawful g) c.loop-self.bay c.advance.new.bay _ _ (λ is. same_err _ _ is) e.only_reads);
+          (reads_turned (λ is. same_err _ _ is) e.only_reads);
     })
 
 -- ---- and at the end
@@ -96,5 +97,5 @@ returns g c =
       malformed = λ seen told at broken. left_before self c.loop-self.self (seen FRAMES) at (is.to_come seen told) (judged.malformed (seen FRAMES) at broken);
       over = judged.over;
       within = λ seen told within. judged.within (seen FRAMES) (is.within seen told within);
-      only_reads = reads_as _ (lawful g) c.args.bay.now c.loop-self.bay ⊥ _ (λ failed. judged.failed failed) is.only_reads;
+      only_reads = reads_turned (λ failed. judged.failed failed) is.only_reads;
     }

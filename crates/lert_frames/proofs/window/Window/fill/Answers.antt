@@ -2,17 +2,12 @@ use Rattle.std.proofs.Common.{◌≡◌, ℕ, ◌≤◌, ◌++◌, ◌∙◌, ta
 use Rattle.std.proofs.lemmas.Result.{err_from_is_err_and}
 use Rattle.lert_bay.specs.declared.bay.TheConstants.{FRAMES}
 use Rattle.lert_bay.specs.Settled.{part}
-use Rattle.lert_bay.proofs.KeptLaws.{IsLawful, reads_as}
 use Rattle.lert_frames.specs.declared.window.Window.{Window}
 use Rattle.lert_frames.specs.Window.{count_of, place_of}
 use Rattle.lert_frames.specs.Bytes.{AreBytes}
 use Rattle.lert_frames.proofs.WindowLaws.{hand_kept, filled_come, filled_all, read_more}
-use Rattle.lert_frames.specs.Calls.{bays_of}
-use Rattle.lert_frames.proofs.window.Window.fill.Given as given
+use Rattle.lert_frames.proofs.CallLaws.{reads_turned}
 use Rattle.lert_frames.proofs.window.Window.fill.Goals as goal
-
-lawful : (g : given.Over) → IsLawful (bays_of g.B.Faulty g.B.Bay)
-lawful g = record { as_read = g.met.B.Bay.as_read; since_now = g.met.B.Bay.since_now; only_now = g.met.B.Bay.only_now; since_earlier = g.met.B.Bay.since_earlier }
 
 -- the place of what is at hand
 module _ (w old : Window) (front : w.from ≡ 0) (count : w.upto ≡ count_of old) (end : w.at ≡ old.at) where
@@ -40,7 +35,7 @@ returns-in_err-read g c =
         come = λ seen told. ap₂ (λ hand at. hand ++ drop at (seen FRAMES)) hand moved.end;
         read = λ seen told from before known. subst (λ (n : ℕ). AreBytes (part (seen FRAMES) from n)) (sym moved.end) known;
       };
-      only_reads = reads_as _ (lawful g) c.args.bay.now c.read_behind.new.bay _ _ (λ _. refl) c.in_err-read.ensures.only_reads;
+      only_reads = reads_turned (λ _. refl) c.in_err-read.ensures.only_reads;
     })
 
 pub returns-clause-full : goal.returns-clause-full

@@ -1,14 +1,9 @@
 use Rattle.std.proofs.Common.{◌<◌, length, refl, arith}
 use Rattle.std.proofs.lemmas.Result.{err_from_is_err_and}
-use Rattle.lert_bay.proofs.KeptLaws.{IsLawful, reads_as}
 use Rattle.lert_frames.specs.Window.{count_of}
 use Rattle.lert_frames.proofs.WindowLaws.{is_enough, too_few}
-use Rattle.lert_frames.specs.Calls.{bays_of}
-use Rattle.lert_frames.proofs.window.Window.need.Given as given
+use Rattle.lert_frames.proofs.CallLaws.{reads_turned}
 use Rattle.lert_frames.proofs.window.Window.need.Goals as goal
-
-lawful : (g : given.Over) → IsLawful (bays_of g.B.Faulty g.B.Bay)
-lawful g = record { as_read = g.met.B.Bay.as_read; since_now = g.met.B.Bay.since_now; only_now = g.met.B.Bay.only_now; since_earlier = g.met.B.Bay.since_earlier }
 
 pub returns-in_err-fill : goal.returns-in_err-fill
 returns-in_err-fill g c =
@@ -18,7 +13,7 @@ returns-in_err-fill g c =
       enough = tt;
       ends = λ seen told. tt;
       ahead = filled.ahead;
-      only_reads = reads_as _ (lawful g) c.args.bay.now c.fill.new.bay _ _ (λ _. refl) filled.only_reads;
+      only_reads = reads_turned (λ _. refl) filled.only_reads;
     })
 
 pub fill-requires : goal.fill-requires

@@ -27,7 +27,7 @@ pub returns-in_err-reach : goal.returns-in_err-reach
 returns-in_err-reach g c =
     let p = err_from_is_err_and c.from_residual.result c.from_residual.ensures.1 in
     let one = c.in_err-reach.ensures.proceeds in
-    let writes = frame_writes (proceeds_as (lawful g) (λ _. refl) one) in
+    let writes = frame_writes (proceeds_as (λ _. refl) one) in
     rw p.1 (record {
       stands = tt;
       settings = one.same.settings;

@@ -5,13 +5,7 @@ use Rattle.lert_frames.specs.Writing.{end_of}
 use Rattle.lert_frames.proofs.CallLaws.{writes_as}
 use Rattle.lert_frames.proofs.GrowingLaws.{growing_room, growing_again, first_within, last_within, closed_within}
 use Rattle.lert_frames.proofs.WritingLaws.{in_block-ascend, holds_frame}
-use Rattle.lert_bay.proofs.KeptLaws.{IsLawful}
-use Rattle.lert_frames.specs.Calls.{bays_of}
-use Rattle.lert_frames.proofs.writer.FrameWriter.end_last.Given as given
 use Rattle.lert_frames.proofs.writer.FrameWriter.end_last.Goals as goal
-
-lawful : (g : given.Over) → IsLawful (bays_of g.B.Faulty g.B.Bay)
-lawful g = record { as_read = g.met.B.Bay.as_read; since_now = g.met.B.Bay.since_now; only_now = g.met.B.Bay.only_now; since_earlier = g.met.B.Bay.since_earlier }
 
 pub close_last-requires-clause-room : goal.close_last-requires-clause-room
 close_last-requires-clause-room g c = let w = c.args.self.now in growing_room w.growing w.holding
@@ -27,7 +21,7 @@ returns-in-Err-clause-proceeds g c =
     let w = c.args.self.now in
     record {
       same = record { settings = refl; level = refl; frame = refl; width = refl; place = refl; put = refl; left = refl };
-      writes = writes_as (lawful g) (λ _. refl)
+      writes = writes_as (λ _. refl)
           (c.in-Err.ensures.writes w.place (end_of w) (first_within w.growing w.holding) (last_within w.growing w.holding) (closed_within w.growing w.holding));
     }
 
@@ -44,7 +38,7 @@ returns g c =
       proceeds =
           record {
             same = record { settings = refl; level = refl; frame = refl; width = refl; place = refl; put = refl; left = refl };
-            writes = writes_as (lawful g) (λ never. never)
+            writes = writes_as (λ never. never)
                 (c.in_default.ensures.writes w.place (end_of w) (first_within w.growing w.holding) (last_within w.growing w.holding) (closed_within w.growing w.holding));
           };
       stands = λ seen told later told_later at.

@@ -9,13 +9,7 @@ use Rattle.lert_spec.specs.Edges.{span}
 use Rattle.lert_spec.specs.Table.{AreGiven, total}
 use Rattle.lert_frames.proofs.ProceedLaws.{frame_writes, frame_outside, proceeds_as}
 use Rattle.lert_frames.proofs.WritingLaws.{last_piece}
-use Rattle.lert_bay.proofs.KeptLaws.{IsLawful}
-use Rattle.lert_frames.specs.Calls.{bays_of}
-use Rattle.lert_frames.proofs.writer.FrameWriter.put.Given as given
 use Rattle.lert_frames.proofs.writer.FrameWriter.put.Goals as goal
-
-lawful : (g : given.Over) → IsLawful (bays_of g.B.Faulty g.B.Bay)
-lawful g = record { as_read = g.met.B.Bay.as_read; since_now = g.met.B.Bay.since_now; only_now = g.met.B.Bay.only_now; since_earlier = g.met.B.Bay.since_earlier }
 
 pub ready-requires : goal.ready-requires
 ready-requires g c = let w = c.args.self.now in (last_piece 0 (tail_limit w.settings) w.put c.args.piece c.requires.given.table).0
@@ -38,7 +32,7 @@ pub returns-in_err-ready : goal.returns-in_err-ready
 returns-in_err-ready g c =
     let p = err_from_is_err_and c.from_residual.result c.from_residual.ensures.1 in
     let one = c.in_err-ready.ensures.proceeds in
-    let writes = frame_writes (proceeds_as (lawful g) (λ _. refl) one) in
+    let writes = frame_writes (proceeds_as (λ _. refl) one) in
     rw p.1 (record {
       put = tt;
       writing = tt;

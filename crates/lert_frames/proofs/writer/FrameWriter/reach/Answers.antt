@@ -20,7 +20,7 @@ end_block-requires g c =
 pub returns-in_err-end_block-clause-proceeds : goal.returns-in_err-end_block-clause-proceeds
 returns-in_err-end_block-clause-proceeds g c =
     proceeds_on (lawful g) c.loop-self.invariant.proceeds
-    (proceeds_as (lawful g) (λ _. refl) c.in_err-end_block.ensures.proceeds)
+    (proceeds_as (λ _. refl) c.in_err-end_block.ensures.proceeds)
 
 pub loop-self-init : goal.loop-self-init
 loop-self-init g c =
@@ -38,15 +38,15 @@ loop-self-preserved g c =
     let step = c.in_ok-end_block.ensures in
     record {
       proceeds = proceeds_on (lawful g) inv.proceeds
-          (proceeds_as (lawful g) (λ never. absurd never) step.proceeds);
-      stays = stays_on (lawful g) inv.proceeds inv.stays step.stays;
+          (proceeds_as (λ never. absurd never) step.proceeds);
+      stays = stays_on inv.proceeds inv.stays step.stays;
       from = omega (arith, inv.from, step.number);
       upto = omega (arith, inv.upto, step.number);
     }
 
 pub returns-clause-proceeds : goal.returns-clause-proceeds
 returns-clause-proceeds g c =
-    proceeds_as (lawful g) (λ e. absurd (false≢true e)) c.loop-self.invariant.proceeds
+    proceeds_as (λ e. absurd (false≢true e)) c.loop-self.invariant.proceeds
 
 pub returns-clause-stays : goal.returns-clause-stays
 returns-clause-stays g c = c.loop-self.invariant.stays

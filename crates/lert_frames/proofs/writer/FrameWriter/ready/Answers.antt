@@ -32,7 +32,7 @@ pub returns-in_err-reach : goal.returns-in_err-reach
 returns-in_err-reach g c =
     let p = err_from_is_err_and c.from_residual.result c.from_residual.ensures.1 in
     rw p.1 (record {
-      proceeds = proceeds_as (lawful g) (λ _. refl) c.in_err-reach.ensures.proceeds;
+      proceeds = proceeds_as (λ _. refl) c.in_err-reach.ensures.proceeds;
       stays = tt;
       number = tt;
       room = tt;
@@ -44,6 +44,6 @@ returns g c = record {
   proceeds = proceeds_on (lawful g) c.in_ok-reach.ensures.proceeds c.make_room.ensures.proceeds;
   stays =
       on_ok _ _ c.make_room.result c.make_room.ensures.stays
-      (λ stays. stays_on (lawful g) c.in_ok-reach.ensures.proceeds c.in_ok-reach.ensures.stays stays);
+      (λ stays. stays_on c.in_ok-reach.ensures.proceeds c.in_ok-reach.ensures.stays stays);
   number = on_ok _ _ c.make_room.result c.make_room.ensures.stays (λ _ low. omega (arith, c.make_room.ensures.number, c.in_ok-reach.ensures.number, low));
 }

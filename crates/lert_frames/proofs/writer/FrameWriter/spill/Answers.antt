@@ -38,7 +38,7 @@ returns-in_err-gone-clause-proceeds g c =
     let spilt = m.holding.spilt c.in_ok-long.long c.in_ok-long.ensures.long in
     proceeds_on (lawful g) c.in_ok-long.ensures.proceeds (record {
       same = record { settings = refl; level = refl; frame = refl; width = refl; place = refl; put = refl; left = refl };
-      writes = writes_as (lawful g) (λ _. refl)
+      writes = writes_as (λ _. refl)
           (c.in_err-gone.ensures.writes m.place (end_of m) spilt.at (omega (arith, spilt.reach.slots_fit)));
     })
 
@@ -73,7 +73,7 @@ returns-clause-stays g c =
     let gone = c.in_ok-gone.ensures in
     let text = blocks_text m.width 0 m.number m.put in
     let pieces = pieces_in m.width m.number m.put in
-    stays_on (lawful g) c.in_ok-long.ensures.proceeds c.in_ok-long.ensures.stays (λ seen told later told_later at.
+    stays_on c.in_ok-long.ensures.proceeds c.in_ok-long.ensures.stays (λ seen told later told_later at.
     record {
       passed = at.passed;
       stands = behind_some c.in_ok-gone.gone m.place text m.width m.number pieces (later FRAMES) c.let_go.new.ends c.let_go.new.outlet c.let_go.new.block
