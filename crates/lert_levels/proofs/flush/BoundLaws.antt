@@ -69,14 +69,13 @@ module _ {S C : Type 0} (members : StreamsOf S C) (width : S → ℕ → ℕ) (s
   came_is : (order : Ordering S) (k : ℕ) (pieces : List Piece) → HasTaken members order k pieces → total (members.given order.streams k) - total (front_at order.ahead k) ≡ total pieces
   came_is order k pieces taken = omega (arith, ap total taken, total-append pieces (front_at order.ahead k))
 
-  module _ {T : Type 0} (took : T → List Piece → Type 0) (first : Ordering S) (start : C) (lists : List (List Piece)) (now : Ordering S) (ctx : C)
-      (totals : T) (sums : Sum) (was : IsGathering members took first start lists now ctx totals sums) (new : Ordering S) (after : C) (next : ℕ × Piece)
-      (step : HasGiven members now ctx new after next) (same_on : (a b c : S) → members.same a b → members.same b c → members.same a c) where
+  module _ {T : Type 0} {took : T → List Piece → Type 0} {first : Ordering S} {start : C} {lists : List (List Piece)} {now : Ordering S} {ctx : C} {totals : T} {sums : Sum}
+      (was : IsGathering members took first start lists now ctx totals sums) {new : Ordering S} {after : C} {next : ℕ × Piece} (step : HasGiven members now ctx new after next) (same_on : (a b c : S) → members.same a b → members.same b c → members.same a c) where
     abbrev n : ℕ
     n = members.count first.streams
 
     abbrev then : List (List Piece)
-    then = more members took first start lists now ctx totals sums was new after next step
+    then = more was step
 
     count_is : members.count new.streams ≡ n
     count_is = step.same.streams ∙ was.same.streams
@@ -85,16 +84,16 @@ module _ {S C : Type 0} (members : StreamsOf S C) (width : S → ℕ → ℕ) (s
     kept_then = same_on first.streams now.streams new.streams was.kept step.kept
 
     within_then : next.0 < n
-    within_then = within members took first start lists now ctx totals sums was new after next step
+    within_then = within was step
 
     len_then : length then ≡ n
-    len_then = len_more members took first start lists now ctx totals sums was new after next step
+    len_then = len_more was step
 
     taken_then : (k : ℕ) → k < n → HasTaken members new k (get_or then k [])
-    taken_then = taken_more members took first start lists now ctx totals sums was new after next step
+    taken_then = taken_more was step
 
     some : 1 ≤ next.1.count
-    some = next_some members took first start lists now ctx totals sums was new after next step
+    some = next_some was step
 
     pub fits_then : (k : ℕ) → k < n → total (get_or then k []) ≤ width first.streams k
     fits_then k below = came_fits first new k (get_or then k []) kept_then (omega (arith, below, count_is)) (taken_then k below)
@@ -102,7 +101,7 @@ module _ {S C : Type 0} (members : StreamsOf S C) (width : S → ℕ → ℕ) (s
     -- the sums of all, and of a part
     pub all_fit : (widths : List ℕ) → AreWide width first.streams widths n → total (sums_of lists) + next.1.count ≤ sum widths
     all_fit widths wide =
-        let sums_then : plus (sums_of lists) next.1.tail next.1.count ≡ sums_of then = sums_are members took first start lists now ctx totals sums was new after next step in
+        let sums_then : plus (sums_of lists) next.1.tail next.1.count ≡ sums_of then = sums_are was step in
         omega (
           arith,
           total-plus (sums_of lists) next.1.tail next.1.count,
@@ -121,7 +120,7 @@ module _ {S C : Type 0} (members : StreamsOf S C) (width : S → ℕ → ℕ) (s
     part_fits parts len part own widths wide =
         let its = sums_of (picked parts part lists) in
         let is : plus its next.1.tail next.1.count ≡ sums_of (picked parts part then) =
-        sym (ap (λ b. with_piece b next.1 its) own) ∙ part_are members took first start lists now ctx totals sums was new after next step parts len part in
+        sym (ap (λ b. with_piece b next.1 its) own) ∙ part_are was step parts len part in
         omega (
           arith,
           total-plus its next.1.tail next.1.count,
@@ -141,7 +140,7 @@ module _ {S C : Type 0} (members : StreamsOf S C) (width : S → ℕ → ℕ) (s
         (l : Landing) → IsLandingOf s (part + 1) l → taken l ≡ sums_of (picked parts part lists) → CanTake l next.1
     can_take s limits parts len part own widths wide room l is taken_is =
         let high : (k : ℕ) → k < length lists → AreUpTo next.1.tail (get_or lists k []) = was.up next.1.tail step.above in
-        let below : next.1.tail < tail_limit s = next_below members took first start lists now ctx totals sums was new after next step (tail_limit s) limits in
+        let below : next.1.tail < tail_limit s = next_below was step (tail_limit s) limits in
         let spans : span l.writer.settings l.writer.level ≡ span s (part + 1) = λ i. span (is.settings i) (is.level_is i) in
         record {
           ascends = subst (AreUpTo next.1.tail) (sym taken_is)
@@ -156,7 +155,7 @@ module _ {S C : Type 0} (members : StreamsOf S C) (width : S → ℕ → ℕ) (s
     left_less =
         let f = left_at members width new in
         let h = left_at members width now in
-        let here : get_or then next.0 [] ≡ get_or lists next.0 [] ++ next.1 ∷ [] = here_more members took first start lists now ctx totals sums was new after next step in
+        let here : get_or then next.0 [] ≡ get_or lists next.0 [] ++ next.1 ∷ [] = here_more was step in
         let now_below : (k : ℕ) → k < n → k < members.count now.streams = λ k below. omega (arith, below, was.same.streams) in
         let same_width : (k : ℕ) → width new.streams k ≡ width now.streams k = width_same now.streams new.streams step.kept in
         let first_width : (k : ℕ) → width now.streams k ≡ width first.streams k = width_same first.streams now.streams was.kept in
@@ -166,7 +165,7 @@ module _ {S C : Type 0} (members : StreamsOf S C) (width : S → ℕ → ℕ) (s
           same_width k,
           came_is new k (get_or then k []) (taken_then k below),
           came_is now k (get_or lists k []) (was.taken k below),
-          ap total (elsewhere_more members took first start lists now ctx totals sums was new after next step k other),
+          ap total (elsewhere_more was step k other),
         ))
         (omega (
           arith,

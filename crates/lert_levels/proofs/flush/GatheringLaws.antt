@@ -112,8 +112,8 @@ highest f (suc n) =
 up_higher : (low high : ℕ) (pieces : List Piece) → low ≤ high → AreUpTo low pieces → AreUpTo high pieces
 up_higher low high pieces less up = λ n d below. omega (arith, up n d below, less)
 
-module _ {S C T : Type 0} (members : StreamsOf S C) (took : T → List Piece → Type 0) (first : Ordering S) (start : C) (lists : List (List Piece)) (now : Ordering S) (ctx : C)
-    (totals : T) (sums : Sum) (was : IsGathering members took first start lists now ctx totals sums) where
+module _ {S C T : Type 0} {members : StreamsOf S C} {took : T → List Piece → Type 0} {first : Ordering S} {start : C} {lists : List (List Piece)} {now : Ordering S} {ctx : C}
+    {totals : T} {sums : Sum} (was : IsGathering members took first start lists now ctx totals sums) where
   abbrev n : ℕ
   n = members.count first.streams
 
@@ -126,7 +126,7 @@ module _ {S C T : Type 0} (members : StreamsOf S C) (took : T → List Piece →
       let under : k < n = omega (arith, below, was.len) in
       (given_wide (members.limit first.streams k) high (get_or lists k []) (less k under) (was.given k under)).table
 
-  module _ (new : Ordering S) (after : C) (next : ℕ × Piece) (step : HasGiven members now ctx new after next) where
+  module _ {new : Ordering S} {after : C} {next : ℕ × Piece} (step : HasGiven members now ctx new after next) where
     abbrev pub its : List Piece
     its = get_or lists next.0 [] ++ next.1 ∷ []
 

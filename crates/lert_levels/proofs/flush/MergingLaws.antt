@@ -16,6 +16,7 @@ use Rattle.lert_levels.specs.declared.landing.landing.Landing.{Landing}
 use Rattle.lert_levels.specs.declared.landing.sum.Sum.{Sum}
 use Rattle.lert_levels.proofs.landing.SummedLaws.{IsTable-sums_of}
 use Rattle.lert_merge.specs.order.Ordering.{Ordering, HasTaken, Tells, AreOver, IsNext, IsNotBelow, IsBelow, AreKnown, AreWhole, AreSame, part_in}
+use Rattle.lert_merge.proofs.StepLemmas.{StepSays}
 use Rattle.lert_merge.specs.declared.order.streams.Streams.{Ghosts as StreamsOf}
 use Rattle.lert_levels.specs.rows.Landing.{LeavesRest}
 use Rattle.lert_levels.proofs.rows.LandLaws.{turns_fewer}
@@ -38,67 +39,68 @@ pub record IsMerging {S B T : Type 0} (members : StreamsOf S B) (took : T → Li
   pub writes : LandingsWrite bays landings start landings_now bay ⊥
   pub surely : IfTold (bays.files bay) (λ seen. sure now.streams (seen FRAMES))
 
-module _ {S B T : Type 0} (members : StreamsOf S B) (took : T → List Piece → Type 0) (bays : Bays B) (lawful : IsLawful bays) (width : S → ℕ → ℕ) (reads : S → ℕ → ℕ → Type 0)
-    (sure : S → List ℕ → Type 0) (steady : AreSteady members bays width reads sure) (parts : List (Option ℕ)) (first : Ordering S) (start : B) (landings : List Landing) where
-  pub merging_none : (totals : T) (sums : Sum) → IsUnread members first → took totals [] → sums.last ≡ None →
+module _ {S B T : Type 0} {members : StreamsOf S B} {took : T → List Piece → Type 0} {bays : Bays B} (lawful : IsLawful bays) {width : S → ℕ → ℕ} {reads : S → ℕ → ℕ → Type 0}
+    {sure : S → List ℕ → Type 0} (steady : AreSteady members bays width reads sure) {parts : List (Option ℕ)} {first : Ordering S} {start : B} {landings : List Landing} where
+  pub merging_none : {totals : T} {sums : Sum} → IsUnread members first → took totals [] → sums.last ≡ None →
       ((part : ℕ) (d : Landing) → part < length landings → taken (get_or landings part d) ≡ []) → IfTold (bays.files start) (λ seen. sure first.streams (seen FRAMES)) →
       IsMerging members took bays sure parts first start landings first start landings totals sums
-  merging_none totals sums unread empty none none_taken surely = record {
+  merging_none unread empty none none_taken surely = record {
     lists = nothing (members.count first.streams);
-    gathering = gathering_none members took first start totals sums steady.same_self unread empty none;
+    gathering = gathering_none members took first start _ _ steady.same_self unread empty none;
     landed = λ part d below. none_taken part d below ∙ sym (none_landed parts part (members.count first.streams));
-    writes = writes_none bays lawful landings start;
+    writes = writes_none lawful landings start;
     surely = surely;
   }
 
-  pub merging_more : (now : Ordering S) (bay : B) (landings_now : List Landing) (totals : T) (sums : Sum) (was : IsMerging members took bays sure parts first start landings
-      now bay landings_now totals sums)
-      (new : Ordering S) (middle : B) (next : ℕ × Piece) (step : HasGiven members now bay new middle next) → members.keeps bay middle →
-      (totals_then : T) (sums_then : Sum) →
+  pub merging_more : {now : Ordering S} {bay : B} {landings_now : List Landing} {totals : T} {sums : Sum} (was : IsMerging members took bays sure parts first start landings
+      now bay landings_now totals sums) {new : Ordering S} {middle : B} {next : ℕ × Piece} (step : HasGiven members now bay new middle next) → members.keeps bay middle →
+      {totals_then : T} {sums_then : Sum} →
       ((list : List Piece) → Takes took totals sums list → AreUpTo next.1.tail list → Takes took totals_then sums_then (plus list next.1.tail next.1.count)) →
       length parts ≡ members.count first.streams → ((from to : ℕ) → reads first.streams from to → IsOutside landings from to) →
-      (landings_then : List Landing) (after : B) (Failed : Type 0) → length landings_then ≡ length landings_now →
+      {landings_then : List Landing} {after : B} {Failed : Type 0} → length landings_then ≡ length landings_now →
       ((own : ℕ) (d : Landing) → own < length landings_now →
       taken (get_or landings_then own d) ≡ with_piece (is_of (get_or parts next.0 None) own) next.1 (taken (get_or landings_now own d))) →
       LandingsWrite bays landings_now middle landings_then after Failed →
       IsMerging members took bays sure parts first start landings new after landings_then totals_then sums_then
-  merging_more now bay landings_now totals sums was new middle next step kept totals_then sums_then takes len apart landings_then after Failed same_len lands writes =
+  merging_more {now} {bay} {landings_now} was {new} {middle} {next} step kept {totals_then} {sums_then} takes len apart {landings_then} {after} {Failed} same_len lands writes =
       let read = steady.reading bay middle kept in
-      let gathered = gathering_more members took first start was.lists now bay totals sums was.gathering new middle next step steady.same_on totals_then sums_then takes in
+      let gathered = gathering_more was.gathering step steady.same_on totals_then sums_then takes in
       let surely = sure_stepped members bays width reads sure steady now new bay middle read.seen step.kept step.same was.surely in
       let turned = turns_fewer (IsOutside landings_now) (reads new.streams) (bays.files middle) (bays.files after)
       (λ from to reading. apart_same landings landings_now was.writes.homes from to (apart from to (steady.reads_same first.streams new.streams gathered.kept from to reading))) writes.rest.seen in
       record {
-        lists = more members took first start was.lists now bay totals sums was.gathering new middle next step;
-        gathering = gathering_on members took first start _ new middle totals_then sums_then gathered after
+        lists = more was.gathering step;
+        gathering = gathering_on gathered after
             (λ tells. (steady.telling middle).1 (told_before (LeavesRest (reads new.streams)) (bays.files middle) (bays.files after) turned ((steady.telling after).0 tells)))
             (comes_same members bays width reads sure steady new.streams middle after surely turned);
         landed = λ part d below. (
             let under : part < length landings_now = omega (arith, below, same_len) in
             lands part d under
             ∙ (ap (with_piece (is_of (get_or parts next.0 None) part) next.1) (was.landed part d under)
-            ∙ part_are members took first start was.lists now bay totals sums was.gathering new middle next step parts len part));
-        writes = writes_on bays lawful landings landings_now landings_then start middle after NoneFailed ⊥
-            (writes_on bays lawful landings landings_now landings_now start bay middle ⊥ NoneFailed was.writes (writes_read bays lawful landings_now bay middle NoneFailed read))
-            (writes_as bays lawful landings_now landings_then middle after Failed ⊥ (λ none. absurd none) writes);
+            ∙ part_are was.gathering step parts len part));
+        writes = writes_on lawful (writes_on lawful was.writes (writes_read lawful landings_now read)) (writes_as lawful (λ none. absurd none) writes);
         surely = sure_written members bays width reads sure steady new.streams middle after surely turned;
       }
 
 -- ---- what a step of the order says
 
-pub given_at : {S C : Type 0} (members : StreamsOf S C) (now : Ordering S) (ctx : C) (new : Ordering S) (after : C) (given : Option (ℕ × Piece)) (next : ℕ × Piece) → given ≡ Some next →
-    ((k : ℕ) (pieces : List Piece) → k < members.count now.streams → HasTaken members now k pieces → HasTaken members new k (pieces ++ part_in given k)) →
-    IfSome given (λ g. (pieces : List Piece) → HasTaken members now g.0 pieces → AreGiven (members.limit new.streams g.0) (pieces ++ g.1 ∷ [])) →
-    IfSome given (λ g. IsBelow members new.streams g.0 g.1.tail) → IfSome given (λ g. IsNotBelow now.last g.1.tail) → IfSome given (λ g. new.last ≡ Some g.1.tail) →
-    ((lists : List (List Piece)) → Tells members ctx now lists → MatchOption given (AreOver lists × Tells members after new lists)
-    (λ g. (rest : List Piece) × (IsNext lists g.0 g.1 rest × Tells members after new (set lists g.0 rest)))) →
-    AreKnown members ctx now after new → (AreWhole members ctx now → AreWhole members after new) →
-    ((k : ℕ) → k < members.count now.streams → members.to_come now.streams k ctx ≡ None → members.to_come new.streams k after ≡ None) →
-    AreSame members ctx now after new → members.same now.streams new.streams → HasGiven members now ctx new after next
-given_at members now ctx new after None next is taken ascending below above last told known whole untold same kept = absurd (none-some next is)
-given_at members now ctx new after (Some g) next is taken ascending below above last told known whole untold same kept =
-    subst (HasGiven members now ctx new after) (let one : g ≡ next = cc in one)
-    (record { taken = taken; ascending = ascending; below = below; above = above; last = last; told = told; known = known; whole = whole; untold = untold; same = same; kept = kept })
+pub given_at : {S C : Type 0} (members : StreamsOf S C) (faults mark : C → ℕ) (ctx : C) (now : Ordering S) (after : C) (new : Ordering S) (given : Option (ℕ × Piece)) (next : ℕ × Piece) →
+    given ≡ Some next → StepSays members faults mark ctx now after new (Ok given) → HasGiven members now ctx new after next
+given_at members faults mark ctx now after new None next is says = absurd (none-some next is)
+given_at members faults mark ctx now after new (Some g) next is says =
+    subst (HasGiven members now ctx new after) (let one : g ≡ next = cc in one) (record {
+      taken = says.taken;
+      ascending = says.ascending;
+      below = says.below;
+      above = says.above;
+      last = says.last;
+      told = says.told;
+      known = says.known;
+      whole = says.whole;
+      untold = says.untold;
+      same = says.same;
+      kept = says.kept;
+    })
 
 -- and where nothing comes
 pub none_at : {X : Type 0} (given : Option X) (N : Type 0) (P : X → Type 0) → given ≡ None → MatchOption given N P → N
@@ -121,8 +123,8 @@ is_own own part is = ap (λ o. is_of o part) is ∙ eq-eqb part part refl
 
 -- ---- the end
 
-pub table_of : {S C T : Type 0} (members : StreamsOf S C) (took : T → List Piece → Type 0) (first : Ordering S) (start : C) (lists : List (List Piece)) (now : Ordering S)
-    (ctx : C) (totals : T) (sums : Sum)
+pub table_of : {S C T : Type 0} {members : StreamsOf S C} {took : T → List Piece → Type 0} {first : Ordering S} {start : C} {lists : List (List Piece)} {now : Ordering S}
+    {ctx : C} {totals : T} {sums : Sum}
     (was : IsGathering members took first start lists now ctx totals sums) (high : ℕ) → ((k : ℕ) → k < members.count first.streams → members.limit first.streams k ≤ high) →
     IsTable high (sums_of lists)
-table_of members took first start lists now ctx totals sums was high less = IsTable-sums_of high lists (tables_by members took first start lists now ctx totals sums was high less)
+table_of {lists = lists} was high less = IsTable-sums_of high lists (tables_by was high less)

@@ -89,7 +89,7 @@ module _ (old new : List Landing) (homes : map home new ≡ map home old) where
 
 -- ---- what the landings write
 
-module _ {B : Type 0} (bays : Bays B) (lawful : IsLawful bays) where
+module _ {B : Type 0} {bays : Bays B} (lawful : IsLawful bays) where
   landing_same : (landings : List Landing) (before after : B) → bays.files after ≡ bays.files before →
       IfTold (bays.files before) (λ seen. AreLanding landings (seen FRAMES) → IfTold (bays.files after) (λ later. AreLanding landings (later FRAMES)))
   landing_same landings before after same_files seen told landing later told_later =
@@ -107,8 +107,8 @@ module _ {B : Type 0} (bays : Bays B) (lawful : IsLawful bays) where
   }
 
   -- calls that read alone
-  pub writes_read : (landings : List Landing) (before after : B) (Failed : Type 0) → OnlyReads bays before after Failed → LandingsWrite bays landings before landings after Failed
-  writes_read landings before after Failed read = record {
+  pub writes_read : (landings : List Landing) {before after : B} {Failed : Type 0} → OnlyReads bays before after Failed → LandingsWrite bays landings before landings after Failed
+  writes_read landings {before} {after} {Failed} read = record {
     homes = refl;
     landing = λ s are. landing_same landings before after read.seen;
     rest = read_rest bays (IsOutside landings) before after Failed read;
@@ -116,9 +116,9 @@ module _ {B : Type 0} (bays : Bays B) (lawful : IsLawful bays) where
   }
 
   -- calls behind others
-  pub writes_on : (first middle last : List Landing) (a b c : B) (First Failed : Type 0) → LandingsWrite bays first a middle b First → LandingsWrite bays middle b last c Failed →
+  pub writes_on : {first middle last : List Landing} {a b c : B} {First Failed : Type 0} → LandingsWrite bays first a middle b First → LandingsWrite bays middle b last c Failed →
       LandingsWrite bays first a last c Failed
-  writes_on first middle last a b c First Failed one two = record {
+  writes_on {first} {middle} {last} {a} {b} {c} {First} {Failed} one two = record {
     homes = two.homes ∙ one.homes;
     landing = λ s are seen told landing later told_later. (
         let back = turns_back (LeavesRest (IsOutside middle)) (bays.files b) (bays.files c) later two.rest.seen told_later in
@@ -129,9 +129,9 @@ module _ {B : Type 0} (bays : Bays B) (lawful : IsLawful bays) where
   }
 
   -- and seen as failed in other words
-  pub writes_as : (old new : List Landing) (before after : B) (First Failed : Type 0) → (Failed → First) → LandingsWrite bays old before new after First →
+  pub writes_as : {old new : List Landing} {before after : B} {First Failed : Type 0} → (Failed → First) → LandingsWrite bays old before new after First →
       LandingsWrite bays old before new after Failed
-  writes_as old new before after First Failed turned one = record {
+  writes_as {before = before} {after = after} {First = First} {Failed = Failed} turned one = record {
     homes = one.homes;
     landing = one.landing;
     rest = one.rest;
@@ -139,8 +139,8 @@ module _ {B : Type 0} (bays : Bays B) (lawful : IsLawful bays) where
   }
 
   -- reads of which one is said to have failed
-  pub reads_failed : (before after : B) (First Failed : Type 0) → (Failed → HasRisen (bays.faults before) (bays.faults after)) → OnlyReads bays before after First → OnlyReads bays before after Failed
-  reads_failed before after First Failed risen read = record {
+  pub reads_failed : {before after : B} {First Failed : Type 0} → (Failed → HasRisen (bays.faults before) (bays.faults after)) → OnlyReads bays before after First → OnlyReads bays before after Failed
+  reads_failed risen read = record {
     kept = record { time = read.kept.time; never_falls = read.kept.never_falls; failed = risen; mark = read.kept.mark; journal = read.kept.journal };
     seen = read.seen;
     images = read.images;

@@ -22,7 +22,7 @@ use Rattle.lert_levels.specs.streams.Bin.{TableBin, of_table, of_frame, all_of, 
 use Rattle.lert_levels.specs.streams.BinLaws.{table_told}
 use Rattle.lert_levels.specs.streams.BinSet.{BinSet}
 use Rattle.lert_levels.specs.streams.Tables.{bin_at, bins_at, all_streams, IsOrdered, AreOrdered, IsBinSet}
-use Rattle.lert_levels.proofs.streams.TableLaws.{bins_length, stand_with, bin_here, bins_with, ordered_here, ordered_with, reader_here, readers_with}
+use Rattle.lert_levels.proofs.streams.TableLaws.{bins_length, cursors_length, stands_here, stand_with, bin_here, bins_with, ordered_here, ordered_with, reader_here, readers_with}
 
 -- ---- the places of a set's streams
 
@@ -167,14 +167,26 @@ module _ (s : Numbers) (spare : ℕ) (seen : BinSet) where
 
 -- ---- and what stands between two calls
 
-module _ {T K : Type 0} (bits : T → ℕ) (left : T → K → List Piece) (gave : K → List Piece) (stands : T → K → Type 0)
-    (s : Numbers) (tables : List T) (cursors : List K) (capacity : ℕ) (readers : List FrameReader) (frames : ℕ)
+module _ {T K : Type 0} {bits : T → ℕ} {left : T → K → List Piece} {gave : K → List Piece} {stands : T → K → Type 0}
+    {s : Numbers} {tables : List T} {cursors : List K} {capacity : ℕ} {readers : List FrameReader} {frames : ℕ}
     (kept : IsBinSet bits left gave stands s tables cursors capacity readers frames) where
   pub all_length : length (all_streams (bins_at bits left gave tables cursors) frames readers) ≡ length tables + frames
   all_length = set_length (bins_at bits left gave tables cursors) frames readers kept.within ∙ ap (λ n. n + frames) (bins_length bits left gave stands tables cursors kept.standing)
 
+  -- each table has its cursor
+  pub cursors_there : length cursors ≡ length tables
+  cursors_there = cursors_length bits left gave stands tables cursors kept.standing
+
+  pub stands_there : (i : ℕ) {t : T} {c : K} → i < length tables → t ≡ get_or tables i t → c ≡ get_or cursors i c → stands t c
+  stands_there i {t} {c} within table cursor = stands_here bits left gave stands tables cursors i t c kept.standing within table cursor
+
+  -- a frame is one of those that were begun
+  pub frame_there : {seen : BinSet} → record { settings = s; bins = all_streams (bins_at bits left gave tables cursors) frames readers; spare = length readers - frames } ≡ seen →
+      (i : ℕ) → length tables ≤ i → i < length seen.bins → i - length tables < length readers
+  frame_there is i behind within = omega (arith, all_length, ap (λ (x : BinSet). length x.bins) is, within, behind, kept.within)
+
   -- a table's cursor moves on
-  module _ (i : ℕ) (t : T) (c after : K) (within : i < length tables) (table : t ≡ get_or tables i t) (cursor : c ≡ get_or cursors i c) (piece : Option Piece)
+  module _ (i : ℕ) {t : T} {c : K} (after : K) (within : i < length tables) (table : t ≡ get_or tables i t) (cursor : c ≡ get_or cursors i c) {piece : Option Piece}
       (gives : Gives (bin_at bits left gave t c) (bin_at bits left gave t after) piece) where
     long : i < length (bins_at bits left gave tables cursors)
     long = omega (arith, within, bins_length bits left gave stands tables cursors kept.standing)
@@ -199,16 +211,16 @@ module _ {T K : Type 0} (bits : T → ℕ) (left : T → K → List Piece) (gave
       within = kept.within;
     }
 
-    pub table_asked : (spare : ℕ) (seen : BinSet) → record { settings = s; bins = all_streams (bins_at bits left gave tables cursors) frames readers; spare = spare } ≡ seen → (before : Option Files) →
+    pub table_asked : {spare : ℕ} {seen : BinSet} → record { settings = s; bins = all_streams (bins_at bits left gave tables cursors) frames readers; spare = spare } ≡ seen → {before : Option Files} →
         Asked before before seen (record { settings = s; bins = all_streams (bins_at bits left gave tables (set cursors i after)) frames readers; spare = spare }) i (Ok piece)
-    table_asked spare seen is before =
+    table_asked {spare} {seen} is {before} =
         subst (λ (bins : List TableBin). Asked before before seen (record { settings = s; bins = all_streams bins frames readers; spare = spare }) i (Ok piece)) (sym with_it)
         (asked_table s spare seen (bins_at bits left gave tables cursors) frames readers is before i (bin_at bits left gave t c) (bin_at bits left gave t after) piece long here gives ordered)
 
   -- a reader does
-  pub frame_kept : (j : ℕ) (r after : FrameReader) → r ≡ get_or readers j r → j < length readers → after.settings ≡ r.settings →
+  pub frame_kept : (j : ℕ) {r : FrameReader} (after : FrameReader) → r ≡ get_or readers j r → j < length readers → after.settings ≡ r.settings →
       IsBinSet bits left gave stands s tables cursors capacity (set readers j after) frames
-  frame_kept j r after is within same = record {
+  frame_kept j {r} after is within same = record {
     standing = kept.standing;
     ordered = kept.ordered;
     few = kept.few;
@@ -217,15 +229,15 @@ module _ {T K : Type 0} (bits : T → ℕ) (left : T → K → List Piece) (gave
     within = omega (arith, length-set readers j after, kept.within);
   }
 
-  pub frame_asked : (seen : BinSet) → record { settings = s; bins = all_streams (bins_at bits left gave tables cursors) frames readers; spare = length readers - frames } ≡ seen →
-      (before after : Option Files) (i : ℕ) (r becomes : FrameReader) (result : Result (Option Piece) PieceFault) → length tables ≤ i → i < length seen.bins →
+  pub frame_asked : {seen : BinSet} → record { settings = s; bins = all_streams (bins_at bits left gave tables cursors) frames readers; spare = length readers - frames } ≡ seen →
+      {before after : Option Files} (i : ℕ) {r becomes : FrameReader} {result : Result (Option Piece) PieceFault} → length tables ≤ i → i < length seen.bins →
       r ≡ get_or readers (i - length tables) r → Answers before after (of_frame r) (of_frame becomes) result →
       Asked before after seen (record {
         settings = s;
         bins = all_streams (bins_at bits left gave tables cursors) frames (set readers (i - length tables) becomes);
         spare = length (set readers (i - length tables) becomes) - frames;
       }) i result
-  frame_asked seen is before after i r becomes result behind within here answers =
+  frame_asked {seen} is {before} {after} i {r} {becomes} {result} behind within here answers =
       let count = bins_length bits left gave stands tables cursors kept.standing in
       let all = ap (λ (x : BinSet). length x.bins) is in
       let inside : i - length tables < frames = omega (arith, all_length, all, within, behind) in

@@ -14,11 +14,6 @@ use Rattle.lert_levels.specs.streams.Tables.{bins_at, all_streams, IsBinSet}
 use Rattle.lert_levels.proofs.streams.AskLaws.{frame_begun}
 use Rattle.lert_levels.proofs.streams.TableLaws.{reader_here, readers_with}
 
--- a reader is free
-pub spare_is : (frames : ℕ) (readers : List FrameReader) {s : Numbers} {bins : List Bin} {seen : BinSet} →
-    record { settings = s; bins = bins; spare = length readers - frames } ≡ seen → 1 ≤ seen.spare → frames < length readers
-spare_is frames readers is some = let same = ap (λ (x : BinSet). x.spare) is in omega (arith, same, some)
-
 -- a reader that was started
 pub record IsStart (old new : FrameReader) (level frame width : ℕ) : Type 0 where
   pub left : (file : List ℕ) → left_of new file ≡ frame_left new.settings new.level frame width file
@@ -29,12 +24,21 @@ pub record IsStart (old new : FrameReader) (level frame width : ℕ) : Type 0 wh
   pub settings : new.settings ≡ old.settings
   pub of_level : new.level ≡ level
 
-module _ {T K : Type 0} (bits : T → ℕ) (left : T → K → List Piece) (gave : K → List Piece) (stands : T → K → Type 0)
-    (s : Numbers) (tables : List T) (cursors : List K) (capacity : ℕ) (readers : List FrameReader) (frames : ℕ)
+module _ {T K : Type 0} {bits : T → ℕ} {left : T → K → List Piece} {gave : K → List Piece} {stands : T → K → Type 0}
+    {s : Numbers} {tables : List T} {cursors : List K} {capacity : ℕ} {readers : List FrameReader} {frames : ℕ}
     (kept : IsBinSet bits left gave stands s tables cursors capacity readers frames) where
-  pub begun_kept : (old new : FrameReader) → frames < length readers → old ≡ get_or readers frames old → new.settings ≡ old.settings →
+  -- a reader is free
+  pub spare_is : {bins : List Bin} {seen : BinSet} → record { settings = s; bins = bins; spare = length readers - frames } ≡ seen → 1 ≤ seen.spare → frames < length readers
+  spare_is is some = let same = ap (λ (x : BinSet). x.spare) is in omega (arith, same, some)
+
+  -- and reads frames of the set's settings
+  pub free_of : {bins : List Bin} {seen : BinSet} → record { settings = s; bins = bins; spare = length readers - frames } ≡ seen → 1 ≤ seen.spare → {r : FrameReader} →
+      r ≡ get_or readers frames r → r.settings ≡ seen.settings
+  free_of is some {r} here = reader_here s readers frames r kept.readers_are.of_settings (spare_is is some) here ∙ ap (λ (x : BinSet). x.settings) is
+
+  pub begun_kept : {old : FrameReader} (new : FrameReader) → frames < length readers → old ≡ get_or readers frames old → new.settings ≡ old.settings →
       IsBinSet bits left gave stands s tables cursors capacity (set readers frames new) (frames + 1)
-  begun_kept old new within is same = record {
+  begun_kept {old} new within is same = record {
     standing = kept.standing;
     ordered = kept.ordered;
     few = kept.few;
@@ -43,14 +47,14 @@ module _ {T K : Type 0} (bits : T → ℕ) (left : T → K → List Piece) (gave
     within = omega (arith, length-set readers frames new, within);
   }
 
-  pub begins : (seen : BinSet) → record { settings = s; bins = all_streams (bins_at bits left gave tables cursors) frames readers; spare = length readers - frames } ≡ seen →
-      (old new : FrameReader) (level frame width : ℕ) → frames < length readers → old ≡ get_or readers frames old → IsStart old new level frame width →
+  pub begins : {seen : BinSet} → record { settings = s; bins = all_streams (bins_at bits left gave tables cursors) frames readers; spare = length readers - frames } ≡ seen →
+      {old new : FrameReader} {level frame width : ℕ} → frames < length readers → old ≡ get_or readers frames old → IsStart old new level frame width →
       Begins seen (record {
         settings = s;
         bins = all_streams (bins_at bits left gave tables cursors) (frames + 1) (set readers frames new);
         spare = length (set readers frames new) - (frames + 1);
       }) level frame width
-  begins seen is old new level frame width within here start =
+  begins {seen} is {old} {new} {level} {frame} {width} within here start =
       let same : new.settings ≡ seen.settings = start.settings ∙ reader_here s readers frames old kept.readers_are.of_settings within here ∙ ap (λ (x : BinSet). x.settings) is in
       let spare = ap (λ (x : BinSet). x.spare) is in
       record {

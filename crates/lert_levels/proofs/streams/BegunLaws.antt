@@ -46,7 +46,7 @@ reads_more (b ∷ bins) bin from to reads = elim reads [
 
 -- ---- a frame that was begun
 
-module _ (old new : BinSet) (level frame width : ℕ) (begins : Begins old new level frame width) where
+module _ {old new : BinSet} {level frame width : ℕ} (begins : Begins old new level frame width) where
   pub begun_count : length new.bins ≡ length old.bins + 1
   begun_count = ap length begins.bins ∙ length-append old.bins (of_frame begins.reader ∷ [])
 

@@ -21,7 +21,7 @@ same_with [] i was becomes within here same = absurd (omega arith)
 same_with (bin ∷ bins) zero was becomes within here same = (subst (λ (b : Bin). IsSameBin b becomes) here same, same_bins bins)
 same_with (bin ∷ bins) (suc i) was becomes within here same = (same_bin bin, same_with bins i was becomes (omega arith) here same)
 
-module _ (before after : Option Files) (old new : BinSet) (i : ℕ) (result : Result (Option Piece) PieceFault) (asked : Asked before after old new i result)
+module _ {before after : Option Files} {old new : BinSet} {i : ℕ} {result : Result (Option Piece) PieceFault} (asked : Asked before after old new i result)
     (within : i < length old.bins) where
   was_is : {X : Type 0} (f : Bin → X) (e : X) → get_or (map f old.bins) i e ≡ f asked.was
   was_is f e = at_old f e old.bins old.bins i asked.was refl within asked.here

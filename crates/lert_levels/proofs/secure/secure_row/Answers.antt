@@ -14,11 +14,11 @@ use Rattle.lert_levels.specs.declared.rows.bin_at.BinAt.{BinAt}
 use Rattle.lert_levels.specs.rows.Loading.{width_of}
 use Rattle.lert_levels.specs.Sources.{of_bin, placed_at, AllOf, IsSecure}
 use Rattle.lert_levels.proofs.PlacedLaws.{row_more}
+use Rattle.lert_frames.specs.Calls.{bays_of}
 use Rattle.lert_levels.proofs.secure.secure_row.Given as given
-use Rattle.lert_levels.proofs.secure.secure_row.Invariants.{bays}
 use Rattle.lert_levels.proofs.secure.secure_row.Goals as goal
 
-lawful : (g : given.Over) → IsLawful (bays g)
+lawful : (g : given.Over) → IsLawful (bays_of g.B.Faulty g.B.Bay)
 lawful g = record { as_read = g.met.B.Bay.as_read; since_now = g.met.B.Bay.since_now; only_now = g.met.B.Bay.only_now; since_earlier = g.met.B.Bay.since_earlier }
 
 abbrev nothing : BinAt
@@ -39,58 +39,50 @@ loop-bin-preserved g c =
           (subst (λ (t : Numbers). (frame_place t level c.from.result + frame_len t level ≤ length (seen FRAMES)) ⊎ (frame_left t level c.from.result (width_of bin) (seen FRAMES) ≡ None)) is.room
           (e.secured seen (is.only_reads.seen ∙ told) long)));
       room = e.settings ∙ is.room;
-      only_reads = reads_on (bays g) (lawful g) c.args.bay.now c.loop-bin.bay c.secure.new.bay ⊥ ⊥ is.only_reads
-          (reads_as (bays g) (lawful g) c.loop-bin.bay c.secure.new.bay _ ⊥ (λ none. absurd none) e.only_reads);
+      only_reads = reads_on _ (lawful g) c.args.bay.now c.loop-bin.bay c.secure.new.bay ⊥ ⊥ is.only_reads
+          (reads_as _ (lawful g) c.loop-bin.bay c.secure.new.bay _ ⊥ (λ none. absurd none) e.only_reads);
     }
 
-pub returns-in_err-secure-clause-malformed : goal.returns-in_err-secure-clause-malformed
-returns-in_err-secure-clause-malformed g c seen told at =
+pub loop-bin-init : goal.loop-bin-init
+loop-bin-init g c = record { secure = λ seen told long. tt; room = refl; only_reads = reads_none _ (lawful g) c.args.bay.now ⊥ (λ none. none) }
+
+pub returns : goal.returns
+returns g c = record {
+  secure = λ seen told long.
+      subst (λ row. AllOf (IsSecure c.args.room.now (seen FRAMES)) (map of_bin (map (placed_at c.args.level) row))) (take_all c.loop-bin.bin-index c.args.row.now c.loop-bin-test.false)
+      (c.loop-bin.invariant.secure seen told long);
+  malformed = λ seen told at is. absurd (not_err _ _ is);
+  room = c.loop-bin.invariant.room;
+  only_reads = reads_as _ (lawful g) c.args.bay.now c.loop-bin.bay ⊥ _ (λ is. not_err _ _ is) c.loop-bin.invariant.only_reads;
+}
+
+-- ---- a frame that failed
+
+pub returns-in_err-secure : goal.returns-in_err-secure
+returns-in_err-secure g c =
     let p = err_from_is_err_and c.from_residual.result c.from_residual.ensures.1 in
     let is = c.loop-bin.invariant in
     let i = c.loop-bin.bin-index in
     let s = c.args.room.now in
     let level = c.args.level in
     let bin = get_or c.args.row.now i nothing in
-    rw (p.1, p.2) (λ broken. record {
-      bin = bin;
-      named = Contains-get_or c.args.row.now i nothing c.loop-bin-test.true;
-      breaks = record {
-        left = subst (λ (frame : ℕ). frame_left s level frame (width_of bin) (seen FRAMES) ≡ Some at) c.from.ensures
-            (subst (λ (t : Numbers). frame_left t level c.from.result (width_of bin) (seen FRAMES) ≡ Some at) is.room
-            (c.in_err-secure.ensures.malformed seen (is.only_reads.seen ∙ told) at (same_err _ _ broken)));
-      };
-    })
-
-pub returns-clause-secure : goal.returns-clause-secure
-returns-clause-secure g c seen told long =
-    subst (λ row. AllOf (IsSecure c.args.room.now (seen FRAMES)) (map of_bin (map (placed_at c.args.level) row))) (take_all c.loop-bin.bin-index c.args.row.now c.loop-bin-test.false)
-    (c.loop-bin.invariant.secure seen told long)
-
-pub loop-bin-init : goal.loop-bin-init
-loop-bin-init g c = record { secure = λ seen told long. tt; room = refl; only_reads = reads_none (bays g) (lawful g) c.args.bay.now ⊥ (λ none. none) }
-
-pub returns-clause-malformed : goal.returns-clause-malformed
-returns-clause-malformed g c seen told at is = absurd (not_err _ _ is)
-
-pub returns-clause-room : goal.returns-clause-room
-returns-clause-room g c = c.loop-bin.invariant.room
-
-pub returns-clause-only_reads : goal.returns-clause-only_reads
-returns-clause-only_reads g c = reads_as (bays g) (lawful g) c.args.bay.now c.loop-bin.bay ⊥ _ (λ is. not_err _ _ is) c.loop-bin.invariant.only_reads
-
--- ---- a frame that failed
-
-pub returns-in_err-secure-clause-secure : goal.returns-in_err-secure-clause-secure
-returns-in_err-secure-clause-secure g c seen told long = let p = err_from_is_err_and c.from_residual.result c.from_residual.ensures.1 in rw p.1 tt
-
-pub returns-in_err-secure-clause-room : goal.returns-in_err-secure-clause-room
-returns-in_err-secure-clause-room g c = c.in_err-secure.ensures.settings ∙ c.loop-bin.invariant.room
-
-pub returns-in_err-secure-clause-only_reads : goal.returns-in_err-secure-clause-only_reads
-returns-in_err-secure-clause-only_reads g c =
-    let p = err_from_is_err_and c.from_residual.result c.from_residual.ensures.1 in
-    rw (p.1, p.2) (reads_as (bays g) (lawful g) c.args.bay.now c.secure.new.bay _ _ (λ is. same_err _ _ is)
-    (reads_on (bays g) (lawful g) c.args.bay.now c.loop-bin.bay c.secure.new.bay ⊥ _ c.loop-bin.invariant.only_reads c.in_err-secure.ensures.only_reads))
+    record {
+      malformed = λ seen told at.
+          rw (p.1, p.2) (λ broken. record {
+            bin = bin;
+            named = Contains-get_or c.args.row.now i nothing c.loop-bin-test.true;
+            breaks = record {
+              left = subst (λ (frame : ℕ). frame_left s level frame (width_of bin) (seen FRAMES) ≡ Some at) c.from.ensures
+                  (subst (λ (t : Numbers). frame_left t level c.from.result (width_of bin) (seen FRAMES) ≡ Some at) is.room
+                  (c.in_err-secure.ensures.malformed seen (is.only_reads.seen ∙ told) at (same_err _ _ broken)));
+            };
+          });
+      secure = λ seen told long. let p = err_from_is_err_and c.from_residual.result c.from_residual.ensures.1 in rw p.1 tt;
+      room = c.in_err-secure.ensures.settings ∙ c.loop-bin.invariant.room;
+      only_reads =
+          rw (p.1, p.2) (reads_as _ (lawful g) c.args.bay.now c.secure.new.bay _ _ (λ is. same_err _ _ is)
+          (reads_on _ (lawful g) c.args.bay.now c.loop-bin.bay c.secure.new.bay ⊥ _ c.loop-bin.invariant.only_reads c.in_err-secure.ensures.only_reads));
+    }
 
 -- ---- what a frame asks for
 
@@ -100,21 +92,15 @@ bounds-row-bin-index g c = c.loop-bin-test.true
 pub overflow_sub-bin : goal.overflow_sub-bin
 overflow_sub-bin g c = omega (arith, c.requires.row.some c.loop-bin.bin-index nothing c.loop-bin-test.true)
 
-pub secure-requires-clause-first : goal.secure-requires-clause-first
-secure-requires-clause-first g c = c.requires.first
-
-pub secure-requires-clause-last : goal.secure-requires-clause-last
-secure-requires-clause-last g c = subst (λ (t : Numbers). c.args.level ≤ t.levels) (sym c.loop-bin.invariant.room) c.requires.last
-
-pub secure-requires-clause-frame : goal.secure-requires-clause-frame
-secure-requires-clause-frame g c =
-    subst (λ (t : Numbers). c.from.result ≤ t.bins) (sym c.loop-bin.invariant.room)
-    (omega (arith, c.from.ensures, c.requires.row.frames c.loop-bin.bin-index nothing c.loop-bin-test.true))
-
-pub secure-requires-clause-some : goal.secure-requires-clause-some
-secure-requires-clause-some g c = omega (arith, c.requires.row.some c.loop-bin.bin-index nothing c.loop-bin-test.true)
-
-pub secure-requires-clause-width : goal.secure-requires-clause-width
-secure-requires-clause-width g c =
-    subst (λ (t : Numbers). width_of (get_or c.args.row.now c.loop-bin.bin-index nothing) ≤ span t c.args.level) (sym c.loop-bin.invariant.room)
-    (c.requires.row.widths c.loop-bin.bin-index nothing c.loop-bin-test.true)
+pub secure-requires : goal.secure-requires
+secure-requires g c = record {
+  first = c.requires.first;
+  last = subst (λ (t : Numbers). c.args.level ≤ t.levels) (sym c.loop-bin.invariant.room) c.requires.last;
+  frame =
+      subst (λ (t : Numbers). c.from.result ≤ t.bins) (sym c.loop-bin.invariant.room)
+      (omega (arith, c.from.ensures, c.requires.row.frames c.loop-bin.bin-index nothing c.loop-bin-test.true));
+  some = omega (arith, c.requires.row.some c.loop-bin.bin-index nothing c.loop-bin-test.true);
+  width =
+      subst (λ (t : Numbers). width_of (get_or c.args.row.now c.loop-bin.bin-index nothing) ≤ span t c.args.level) (sym c.loop-bin.invariant.room)
+      (c.requires.row.widths c.loop-bin.bin-index nothing c.loop-bin-test.true);
+}

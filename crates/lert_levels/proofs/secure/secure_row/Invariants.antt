@@ -1,20 +1,10 @@
 use Rattle.std.proofs.Common.{◌≡◌, ◌≤◌, Some, map, take, length}
 use Rattle.lert_bay.specs.declared.bay.TheConstants.{FRAMES}
 use Rattle.lert_bay.specs.Files.{Files}
-use Rattle.lert_bay.specs.Kept.{Bays, OnlyReads}
+use Rattle.lert_bay.specs.Kept.{OnlyReads}
 use Rattle.lert_levels.specs.Sources.{of_bin, placed_at, AllOf, IsSecure}
+use Rattle.lert_frames.specs.Calls.{bays_of}
 use Rattle.lert_levels.proofs.secure.secure_row.Given as goal
-
-abbrev pub bays : (g : goal.Over) → Bays g.row.B.Denot
-bays g = record {
-  faults = g.B.Faulty.faults;
-  mark = g.B.Faulty.mark;
-  files = g.B.Bay.files;
-  leaves = g.B.Bay.leaves;
-  moment = g.B.Bay.moment;
-  left_since = g.B.Bay.left_since;
-  handed_out = g.B.Bay.handed_out;
-}
 
 -- the frames so far are secure, and nothing was changed
 abbrev pub invariant-loop-bin : goal.invariant-loop-bin
@@ -22,5 +12,5 @@ invariant-loop-bin g l = record {
   secure : (seen : Files) → g.B.Bay.files l.fn.bay ≡ Some seen → l.len ≤ length (seen FRAMES) →
       AllOf (IsSecure l.fn.room (seen FRAMES)) (map of_bin (map (placed_at l.level) (take l.bin-index l.row)));
   room : l.room ≡ l.fn.room;
-  only_reads : OnlyReads (bays g) l.fn.bay l.bay ⊥;
+  only_reads : OnlyReads (bays_of g.B.Faulty g.B.Bay) l.fn.bay l.bay ⊥;
 }

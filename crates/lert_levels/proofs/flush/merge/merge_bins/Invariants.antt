@@ -1,22 +1,11 @@
-use Rattle.lert_bay.specs.Kept.{Bays}
 use Rattle.lert_levels.proofs.flush.BoundLaws.{left_over}
 use Rattle.lert_levels.proofs.flush.MergingLaws.{IsMerging}
+use Rattle.lert_frames.specs.Calls.{bays_of}
 use Rattle.lert_levels.proofs.flush.merge.merge_bins.Given as goal
-
-abbrev pub bays : (g : goal.Over) → Bays g.row.B.Denot
-bays g = record {
-  faults = g.B.Faulty.faults;
-  mark = g.B.Faulty.mark;
-  files = g.B.Bay.files;
-  leaves = g.B.Bay.leaves;
-  moment = g.B.Bay.moment;
-  left_since = g.B.Bay.left_since;
-  handed_out = g.B.Bay.handed_out;
-}
 
 -- what was taken so far
 abbrev pub invariant-loop-next : goal.invariant-loop-next
-invariant-loop-next g l = IsMerging g.S.Streams g.O.Totals.took (bays g) g.S.Bins.sure l.fn.parts l.fn.order l.fn.bay l.fn.landings l.order l.bay l.landings l.totals l.sum
+invariant-loop-next g l = IsMerging g.S.Streams g.O.Totals.took (bays_of g.B.Faulty g.B.Bay) g.S.Bins.sure l.fn.parts l.fn.order l.fn.bay l.fn.landings l.order l.bay l.landings l.totals l.sum
 
 -- each piece leaves less room
 abbrev pub decreases-loop-next : goal.decreases-loop-next

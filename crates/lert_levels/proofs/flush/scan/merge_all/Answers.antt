@@ -9,149 +9,96 @@ use Rattle.lert_levels.proofs.flush.BoundLaws.{came_fits, all_fit, left_less}
 use Rattle.lert_levels.proofs.flush.GatheringLaws.{nothing, more, gathering_none, gathering_more, breaks_back, sound_by, taken_all, up_so_far}
 use Rattle.lert_levels.proofs.flush.MergingLaws.{given_at, none_at, never_failed, table_of}
 use Rattle.lert_levels.proofs.flush.SteadyLaws.{reads_failed}
+use Rattle.lert_frames.specs.Calls.{bays_of}
 use Rattle.lert_levels.proofs.flush.scan.merge_all.Given as given
-use Rattle.lert_levels.proofs.flush.scan.merge_all.Invariants.{bays}
 use Rattle.lert_levels.proofs.flush.scan.merge_all.Goals as goal
 
-lawful : (g : given.Over) → IsLawful (bays g)
+lawful : (g : given.Over) → IsLawful (bays_of g.B.Faulty g.B.Bay)
 lawful g = record { as_read = g.met.B.Bay.as_read; since_now = g.met.B.Bay.since_now; only_now = g.met.B.Bay.only_now; since_earlier = g.met.B.Bay.since_earlier }
 
 pub loop-next-init : goal.loop-next-init
-loop-next-init g c =
-    record {
-      lists = nothing (g.S.Streams.count c.args.order.now.streams);
-      gathering = gathering_none g.S.Streams g.O.Totals.took c.args.order.now c.args.bay.now c.args.totals.now c.new-sum.result g.met.S.Streams.same_self
-          c.requires.unread c.requires.totals c.new-sum.ensures;
-      read = reads_none (bays g) (lawful g) c.args.bay.now ⊥ (λ none. none);
-    }
+loop-next-init g c = record {
+  lists = nothing (g.S.Streams.count c.args.order.now.streams);
+  gathering = gathering_none g.S.Streams g.O.Totals.took c.args.order.now c.args.bay.now c.args.totals.now c.new-sum.result g.met.S.Streams.same_self
+      c.requires.unread c.requires.totals c.new-sum.ensures;
+  read = reads_none _ (lawful g) c.args.bay.now ⊥ (λ none. none);
+}
 
 -- ---- a piece
 
 pub add_total-requires : goal.add_total-requires
 add_total-requires g c =
     let was = c.loop-next.invariant in
-    let e = c.in_ok-next.ensures in
-    let step = given_at g.S.Streams c.loop-next.order c.loop-next.bay c.step.new.self c.step.new.ctx c.in_ok-next.field-0 c.in-Some.next c.in-Some.is
-    e.taken e.ascending e.below e.above e.last e.told e.known e.whole c.step.ensures.untold c.step.ensures.same c.step.ensures.kept in (
+    let step = given_at g.S.Streams g.B.Faulty.faults g.B.Faulty.mark c.loop-next.bay c.loop-next.order c.step.new.ctx c.step.new.self _ _ c.in-Some.is c.in_ok-next.ensures in (
       sums_of was.lists,
       was.gathering.totals_are,
-      up_so_far g.S.Streams g.O.Totals.took c.args.order.now c.args.bay.now was.lists c.loop-next.order c.loop-next.bay c.loop-next.totals c.loop-next.sum was.gathering
-          c.step.new.self c.step.new.ctx c.in-Some.next step,
+      up_so_far was.gathering step,
       omega (
         arith,
-        all_fit g.S.Streams g.S.Bins.width g.met.S.Bins.summed g.met.S.Bins.width_same g.O.Totals.took c.args.order.now c.args.bay.now was.lists c.loop-next.order
-            c.loop-next.bay c.loop-next.totals c.loop-next.sum was.gathering c.step.new.self c.step.new.ctx c.in-Some.next step g.met.S.Streams.same_on c.requires.wide.0
-            c.requires.wide.1,
+        all_fit g.S.Streams g.S.Bins.width g.met.S.Bins.summed g.met.S.Bins.width_same was.gathering step g.met.S.Streams.same_on c.requires.wide.0 c.requires.wide.1,
         c.requires.wide.1.all,
       ),
     )
 
 pub loop-next-smaller : goal.loop-next-smaller
 loop-next-smaller g c =
-    let was = c.loop-next.invariant in
-    let e = c.in_ok-next.ensures in
-    let step = given_at g.S.Streams c.loop-next.order c.loop-next.bay c.step.new.self c.step.new.ctx c.in_ok-next.field-0 c.in-Some.next c.in-Some.is
-    e.taken e.ascending e.below e.above e.last e.told e.known e.whole c.step.ensures.untold c.step.ensures.same c.step.ensures.kept in
-    left_less g.S.Streams g.S.Bins.width g.met.S.Bins.summed g.met.S.Bins.width_same g.O.Totals.took c.args.order.now c.args.bay.now was.lists c.loop-next.order
-    c.loop-next.bay c.loop-next.totals c.loop-next.sum was.gathering c.step.new.self c.step.new.ctx c.in-Some.next step g.met.S.Streams.same_on
+    let step = given_at g.S.Streams g.B.Faulty.faults g.B.Faulty.mark c.loop-next.bay c.loop-next.order c.step.new.ctx c.step.new.self _ _ c.in-Some.is c.in_ok-next.ensures in
+    left_less g.S.Streams g.S.Bins.width g.met.S.Bins.summed g.met.S.Bins.width_same c.loop-next.invariant.gathering step g.met.S.Streams.same_on
 
 pub loop-next-preserved : goal.loop-next-preserved
 loop-next-preserved g c =
     let was = c.loop-next.invariant in
-    let e = c.in_ok-next.ensures in
-    let step = given_at g.S.Streams c.loop-next.order c.loop-next.bay c.step.new.self c.step.new.ctx c.in_ok-next.field-0 c.in-Some.next c.in-Some.is
-    e.taken e.ascending e.below e.above e.last e.told e.known e.whole c.step.ensures.untold c.step.ensures.same c.step.ensures.kept in
+    let step = given_at g.S.Streams g.B.Faulty.faults g.B.Faulty.mark c.loop-next.bay c.loop-next.order c.step.new.ctx c.step.new.self _ _ c.in-Some.is c.in_ok-next.ensures in
     record {
-      lists = more g.S.Streams g.O.Totals.took c.args.order.now c.args.bay.now was.lists c.loop-next.order c.loop-next.bay c.loop-next.totals c.loop-next.sum was.gathering
-          c.step.new.self c.step.new.ctx c.in-Some.next step;
-      gathering = gathering_more g.S.Streams g.O.Totals.took c.args.order.now c.args.bay.now was.lists c.loop-next.order c.loop-next.bay c.loop-next.totals c.loop-next.sum
-          was.gathering c.step.new.self c.step.new.ctx c.in-Some.next step g.met.S.Streams.same_on c.add_total.new.totals c.add_total.new.sum c.add_total.ensures;
-      read = reads_on (bays g) (lawful g) c.args.bay.now c.loop-next.bay c.step.new.ctx ⊥ NoneFailed was.read (g.met.S.Bins.reading c.loop-next.bay c.step.new.ctx c.step.ensures.keeps);
+      lists = more was.gathering step;
+      gathering = gathering_more was.gathering step g.met.S.Streams.same_on c.add_total.new.totals c.add_total.new.sum c.add_total.ensures;
+      read = reads_on _ (lawful g) c.args.bay.now c.loop-next.bay c.step.new.ctx ⊥ NoneFailed was.read (g.met.S.Bins.reading c.loop-next.bay c.step.new.ctx c.step.ensures.keeps);
     }
 
 -- ---- a step that fails
 
-pub returns-in_err-next-clause-malformed : goal.returns-in_err-next-clause-malformed
-returns-in_err-next-clause-malformed g c at is =
+pub returns-in_err-next : goal.returns-in_err-next
+returns-in_err-next g c =
     let was = c.loop-next.invariant in
     let p = err_from_is_err_and c.from_residual.result c.from_residual.ensures.1 in
-    breaks_back g.S.Streams g.O.Totals.took c.args.order.now c.args.bay.now was.lists c.loop-next.order c.loop-next.bay c.loop-next.totals c.loop-next.sum was.gathering at
-    (c.in_err-next.ensures.malformed at (cc (p.1, p.2, is)))
-
-pub returns-in_err-next-clause-sound : goal.returns-in_err-next-clause-sound
-returns-in_err-next-clause-sound g c lists are at is =
-    let was = c.loop-next.invariant in
-    let p = err_from_is_err_and c.from_residual.result c.from_residual.ensures.1 in
-    sound_by g.S.Streams c.args.bay.now c.args.order.now.streams lists at are
-    (breaks_back g.S.Streams g.O.Totals.took c.args.order.now c.args.bay.now was.lists c.loop-next.order c.loop-next.bay c.loop-next.totals c.loop-next.sum was.gathering at
-    (c.in_err-next.ensures.malformed at (cc (p.1, p.2, is))))
-
-pub returns-in_err-next-clause-only_reads : goal.returns-in_err-next-clause-only_reads
-returns-in_err-next-clause-only_reads g c =
-    let was = c.loop-next.invariant in
-    let p = err_from_is_err_and c.from_residual.result c.from_residual.ensures.1 in
-    reads_on (bays g) (lawful g) c.args.bay.now c.loop-next.bay c.step.new.ctx ⊥ _ was.read
-    (reads_failed (bays g) (lawful g) c.loop-next.bay c.step.new.ctx NoneFailed (IsErrOf c.from_residual.result Failed)
-    (λ is. c.in_err-next.ensures.failed (cc (p.1, p.2, is))) (g.met.S.Bins.reading c.loop-next.bay c.step.new.ctx c.step.ensures.keeps))
-
-pub returns-in_err-next-clause-streams : goal.returns-in_err-next-clause-streams
-returns-in_err-next-clause-streams g c =
-    g.met.S.Streams.same_on c.args.order.now.streams c.loop-next.order.streams c.step.new.self.streams c.loop-next.invariant.gathering.kept c.step.ensures.kept
-
-pub returns-in_err-next-clause-count : goal.returns-in_err-next-clause-count
-returns-in_err-next-clause-count g c =
-    c.step.ensures.same.streams ∙ c.loop-next.invariant.gathering.same.streams
-
-pub returns-in_err-next-clause-ahead : goal.returns-in_err-next-clause-ahead
-returns-in_err-next-clause-ahead g c =
-    c.step.ensures.same.room ∙ c.loop-next.invariant.gathering.same.room
+    record {
+      merged = rw p.1 tt;
+      took = rw p.1 tt;
+      sound = λ lists are at is. sound_by g.S.Streams c.args.bay.now c.args.order.now.streams lists at are (breaks_back was.gathering at (c.in_err-next.ensures.malformed at (cc (p.1, p.2, is))));
+      malformed = λ at is. breaks_back was.gathering at (c.in_err-next.ensures.malformed at (cc (p.1, p.2, is)));
+      only_reads = reads_on _ (lawful g) c.args.bay.now c.loop-next.bay c.step.new.ctx ⊥ _ was.read
+          (reads_failed (lawful g) (λ is. c.in_err-next.ensures.failed (cc (p.1, p.2, is))) (g.met.S.Bins.reading c.loop-next.bay c.step.new.ctx c.step.ensures.keeps));
+      streams = g.met.S.Streams.same_on c.args.order.now.streams c.loop-next.order.streams c.step.new.self.streams was.gathering.kept c.step.ensures.kept;
+      count = c.step.ensures.same.streams ∙ was.gathering.same.streams;
+      ahead = c.step.ensures.same.room ∙ was.gathering.same.room;
+    }
 
 -- ---- the end
 
 pub end_totals-requires : goal.end_totals-requires
-end_totals-requires g c =
-    let was = c.loop-next.invariant in (sums_of was.lists, was.gathering.totals_are)
+end_totals-requires g c = let was = c.loop-next.invariant in (sums_of was.lists, was.gathering.totals_are)
 
-pub returns-clause-merged : goal.returns-clause-merged
-returns-clause-merged g c =
+pub returns : goal.returns
+returns g c =
     let was = c.loop-next.invariant in
-    let files : g.B.Bay.files c.step.new.ctx ≡ g.B.Bay.files c.args.bay.now = (g.met.S.Bins.reading c.loop-next.bay c.step.new.ctx c.step.ensures.keeps).seen ∙ was.read.seen in
+    let read = g.met.S.Bins.reading c.loop-next.bay c.step.new.ctx c.step.ensures.keeps in
     let on : g.S.Streams.tells c.args.bay.now → g.S.Streams.tells c.step.new.ctx = λ tells.
-    (g.met.S.Bins.telling c.step.new.ctx).1 (λ none. (g.met.S.Bins.telling c.args.bay.now).0 tells (sym files ∙ none)) in (
-      was.lists,
-      taken_all g.S.Streams g.O.Totals.took c.args.order.now c.args.bay.now was.lists c.loop-next.order c.loop-next.bay c.loop-next.totals c.loop-next.sum was.gathering
-          g.S.Bins.width c.step.new.ctx c.step.new.self c.end_totals.new.totals
-          (λ k below. came_fits g.S.Streams g.S.Bins.width g.met.S.Bins.summed g.met.S.Bins.width_same c.args.order.now c.loop-next.order k (get_or was.lists k []) was.gathering.kept
-          (omega (arith, below, was.gathering.same.streams)) (was.gathering.taken k below))
-          (λ left tells. none_at c.in_ok-next.field-0 _ _ c.in_default.is (c.in_ok-next.ensures.told left tells))
-          c.end_totals.ensures.took on (c.in_ok-next.ensures.over (ap Ok c.in_default.is)) c.in_ok-next.ensures.whole c.step.ensures.same c.step.ensures.untold,
-    )
-
-pub returns-clause-took : goal.returns-clause-took
-returns-clause-took g c s limits =
-    let was = c.loop-next.invariant in (
-      sums_of was.lists,
-      (
-        table_of g.S.Streams g.O.Totals.took c.args.order.now c.args.bay.now was.lists c.loop-next.order c.loop-next.bay c.loop-next.totals c.loop-next.sum
-            was.gathering _ limits,
-        c.end_totals.ensures.took (sums_of was.lists) was.gathering.totals_are,
-      ),
-    )
-
-pub returns-clause-only_reads : goal.returns-clause-only_reads
-returns-clause-only_reads g c =
-    reads_as (bays g) (lawful g) c.args.bay.now c.step.new.ctx NoneFailed _ (λ failed. never_failed _ _ failed)
-    (reads_on (bays g) (lawful g) c.args.bay.now c.loop-next.bay c.step.new.ctx ⊥ NoneFailed c.loop-next.invariant.read
-    (g.met.S.Bins.reading c.loop-next.bay c.step.new.ctx c.step.ensures.keeps))
-
-pub returns-clause-streams : goal.returns-clause-streams
-returns-clause-streams g c =
-    g.met.S.Streams.same_on c.args.order.now.streams c.loop-next.order.streams c.step.new.self.streams c.loop-next.invariant.gathering.kept c.step.ensures.kept
-
-pub returns-clause-count : goal.returns-clause-count
-returns-clause-count g c =
-    c.step.ensures.same.streams ∙ c.loop-next.invariant.gathering.same.streams
-
-pub returns-clause-ahead : goal.returns-clause-ahead
-returns-clause-ahead g c =
-    c.step.ensures.same.room ∙ c.loop-next.invariant.gathering.same.room
+    (g.met.S.Bins.telling c.step.new.ctx).1 (λ none. (g.met.S.Bins.telling c.args.bay.now).0 tells (sym (read.seen ∙ was.read.seen) ∙ none)) in
+    record {
+      merged = (
+        was.lists,
+        taken_all was.gathering g.S.Bins.width c.step.new.ctx c.step.new.self c.end_totals.new.totals
+            (λ k below. came_fits g.S.Streams g.S.Bins.width g.met.S.Bins.summed g.met.S.Bins.width_same c.args.order.now c.loop-next.order k (get_or was.lists k []) was.gathering.kept
+            (omega (arith, below, was.gathering.same.streams)) (was.gathering.taken k below))
+            (λ left tells. none_at c.in_ok-next.field-0 _ _ c.in_default.is (c.in_ok-next.ensures.told left tells))
+            c.end_totals.ensures.took on (c.in_ok-next.ensures.over (ap Ok c.in_default.is)) c.in_ok-next.ensures.whole c.step.ensures.same c.step.ensures.untold,
+      );
+      took = λ s limits. (sums_of was.lists, (table_of was.gathering _ limits, c.end_totals.ensures.took (sums_of was.lists) was.gathering.totals_are));
+      sound = λ lists are at is. never_failed _ _ is;
+      malformed = λ at is. absurd (never_failed _ _ is);
+      only_reads = reads_as _ (lawful g) c.args.bay.now c.step.new.ctx NoneFailed _ (λ failed. never_failed _ _ failed)
+          (reads_on _ (lawful g) c.args.bay.now c.loop-next.bay c.step.new.ctx ⊥ NoneFailed was.read read);
+      streams = g.met.S.Streams.same_on c.args.order.now.streams c.loop-next.order.streams c.step.new.self.streams was.gathering.kept c.step.ensures.kept;
+      count = c.step.ensures.same.streams ∙ was.gathering.same.streams;
+      ahead = c.step.ensures.same.room ∙ was.gathering.same.room;
+    }

@@ -1,27 +1,17 @@
 use Rattle.std.proofs.Common.{List}
-use Rattle.lert_bay.specs.Kept.{Bays, OnlyReads}
+use Rattle.lert_bay.specs.Kept.{OnlyReads}
 use Rattle.lert_spec.specs.declared.piece.Piece.{Piece}
 use Rattle.lert_levels.proofs.flush.BoundLaws.{left_over}
 use Rattle.lert_levels.proofs.flush.GatheringLaws.{IsGathering}
+use Rattle.lert_frames.specs.Calls.{bays_of}
 use Rattle.lert_levels.proofs.flush.scan.merge_all.Given as goal
-
-abbrev pub bays : (g : goal.Over) → Bays g.row.B.Denot
-bays g = record {
-  faults = g.B.Faulty.faults;
-  mark = g.B.Faulty.mark;
-  files = g.B.Bay.files;
-  leaves = g.B.Bay.leaves;
-  moment = g.B.Bay.moment;
-  left_since = g.B.Bay.left_since;
-  handed_out = g.B.Bay.handed_out;
-}
 
 -- what the totals took so far, and nothing was changed
 abbrev pub invariant-loop-next : goal.invariant-loop-next
 invariant-loop-next g l = record {
   lists : List (List Piece);
   gathering : IsGathering g.S.Streams g.O.Totals.took l.fn.order l.fn.bay lists l.order l.bay l.totals l.sum;
-  read : OnlyReads (bays g) l.fn.bay l.bay ⊥;
+  read : OnlyReads (bays_of g.B.Faulty g.B.Bay) l.fn.bay l.bay ⊥;
 }
 
 -- each piece leaves less room

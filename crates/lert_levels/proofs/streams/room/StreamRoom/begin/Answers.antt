@@ -1,5 +1,4 @@
 use Rattle.std.proofs.Common.{ℕ, ◌≡◌, ◌+◌, ◌-◌, ◌*◌, ◌^◌, arith, length, Some, List, [], map, sym, ap, ◌∙◌, subst, append-nil}
-use Rattle.std.proofs.lemmas.List.{length-map}
 use Rattle.std.specs.Prelude.{slice_index_or}
 use Rattle.lert_merge.specs.order.Members.{given_at, limit_at}
 use Rattle.lert_spec.specs.declared.numbers.Numbers.{Numbers}
@@ -7,50 +6,16 @@ use Rattle.lert_spec.specs.Table.{total}
 use Rattle.lert_levels.specs.streams.Bin.{Bin, of_table, given_of, limit_of, wide_of}
 use Rattle.lert_levels.specs.streams.BinSet.{AreSure, Reads}
 use Rattle.lert_levels.specs.streams.SetLaws.{to_come_at}
-use Rattle.lert_levels.specs.streams.Tables.{AreOrdered, fresh_bin}
-use Rattle.lert_levels.proofs.streams.FreshLaws.{fresh_coming, fresh_given, fresh_limit, fresh_width, fresh_sure, fresh_reads}
+use Rattle.lert_levels.specs.streams.Tables.{AreOrdered}
+use Rattle.lert_levels.proofs.streams.FreshLaws.{fresh_count, fresh_coming, fresh_given, fresh_limit, fresh_width, fresh_sure, fresh_reads}
 use Rattle.lert_levels.proofs.streams.room.StreamRoom.begin.Goals as goal
 
-pub returns-clause-bins : goal.returns-clause-bins
-returns-clause-bins g c = append-nil _ ∙ ap (map of_table) c.start_all.ensures.started.bins
-
-pub returns-clause-coming : goal.returns-clause-coming
-returns-clause-coming g c told k d within = subst (λ (bins : List Bin). to_come_at told bins k ≡ Some (g.T.CountTable.pieces (slice_index_or c.args.tables.now k d))) (sym (returns-clause-bins g c))
-    (fresh_coming (λ table. g.T.CountTable.quotient_bits table + g.T.CountTable.width table) g.T.CountTable.pieces told c.args.tables.now k d c.start_all.ensures.started.ordered within)
-
-pub returns-clause-given : goal.returns-clause-given
-returns-clause-given g c k = subst (λ (bins : List Bin). given_at given_of bins k ≡ []) (sym (returns-clause-bins g c))
-    (fresh_given (λ table. g.T.CountTable.quotient_bits table + g.T.CountTable.width table) g.T.CountTable.pieces c.args.tables.now k)
-
-pub returns-clause-limit : goal.returns-clause-limit
-returns-clause-limit g c k d within = subst (λ (bins : List Bin). limit_at limit_of bins k ≡ 2 ^ (g.T.CountTable.quotient_bits (slice_index_or
-    c.args.tables.now k d) + g.T.CountTable.width (slice_index_or c.args.tables.now k d))) (sym (returns-clause-bins g c))
-    (fresh_limit (λ table. g.T.CountTable.quotient_bits table + g.T.CountTable.width table) g.T.CountTable.pieces c.args.tables.now k d within)
-
-pub returns-clause-width : goal.returns-clause-width
-returns-clause-width g c k d within = subst (λ (bins : List Bin). limit_at wide_of bins k ≡ total (g.T.CountTable.pieces (slice_index_or c.args.tables.now k d))) (sym (returns-clause-bins g c))
-    (fresh_width (λ table. g.T.CountTable.quotient_bits table + g.T.CountTable.width table) g.T.CountTable.pieces c.args.tables.now k d within)
-
-pub returns-clause-sure : goal.returns-clause-sure
-returns-clause-sure g c file = subst (λ (bins : List Bin). AreSure bins file) (sym (returns-clause-bins g c))
-    (fresh_sure (λ table. g.T.CountTable.quotient_bits table + g.T.CountTable.width table) g.T.CountTable.pieces c.args.tables.now file)
-
-pub returns-clause-reads : goal.returns-clause-reads
-returns-clause-reads g c from to reads =
-    fresh_reads (λ table. g.T.CountTable.quotient_bits table + g.T.CountTable.width table) g.T.CountTable.pieces c.args.tables.now from to
-    (subst (λ (bins : List Bin). Reads bins from to) (returns-clause-bins g c) reads)
-
-minus_zero : (n : ℕ) → n - 0 ≡ n
-minus_zero n = omega arith
-
-pub start_all-requires-clause-none : goal.start_all-requires-clause-none
-start_all-requires-clause-none g c = c.self.invariant.none
-
-pub start_all-requires-clause-room : goal.start_all-requires-clause-room
-start_all-requires-clause-room g c = omega (arith, c.requires.few, c.self.invariant.room, ap (λ (s : Numbers). s.bins) c.self.view_is)
-
-pub start_all-requires-clause-rooms : goal.start_all-requires-clause-rooms
-start_all-requires-clause-rooms g c = c.requires.rooms
+pub start_all-requires : goal.start_all-requires
+start_all-requires g c = record {
+  none = c.self.invariant.none;
+  room = omega (arith, c.requires.few, c.self.invariant.room, ap (λ (s : Numbers). s.bins) c.self.view_is);
+  rooms = c.requires.rooms;
+}
 
 pub invariant_of-result : goal.invariant_of-result
 invariant_of-result g c =
@@ -64,14 +29,29 @@ invariant_of-result g c =
       within = omega arith;
     }
 
-pub returns-clause-settings : goal.returns-clause-settings
-returns-clause-settings g c = c.self.view_is
+minus_zero : (n : ℕ) → n - 0 ≡ n
+minus_zero n = omega arith
 
-pub returns-clause-spare : goal.returns-clause-spare
-returns-clause-spare g c = minus_zero _ ∙ c.self.invariant.readers_are.count ∙ ap (λ (s : Numbers). s.bins * s.levels) c.self.view_is
-
-pub returns-clause-count : goal.returns-clause-count
-returns-clause-count g c =
-    let fresh = fresh_bin (λ table. g.T.CountTable.quotient_bits table + g.T.CountTable.width table) g.T.CountTable.pieces in
-    ap (length {A = Bin}) (returns-clause-bins g c)
-    ∙ (length-map (map fresh c.args.tables.now) of_table ∙ length-map c.args.tables.now fresh)
+pub returns : goal.returns
+returns g c =
+    let T = g.T.CountTable in
+    let tables = c.args.tables.now in
+    let started = c.start_all.ensures.started in
+    let are = append-nil _ ∙ ap (map of_table) started.bins in
+    let fresh = sym are in
+    record {
+      settings = c.self.view_is;
+      bins = are;
+      spare = minus_zero _ ∙ c.self.invariant.readers_are.count ∙ ap (λ (s : Numbers). s.bins * s.levels) c.self.view_is;
+      count = ap (length {A = Bin}) are ∙ fresh_count (λ table. T.quotient_bits table + T.width table) T.pieces tables;
+      coming = λ told k d within. subst (λ (bins : List Bin). to_come_at told bins k ≡ Some (T.pieces (slice_index_or tables k d))) fresh
+          (fresh_coming (λ table. T.quotient_bits table + T.width table) T.pieces told tables k d started.ordered within);
+      given = λ k. subst (λ (bins : List Bin). given_at given_of bins k ≡ []) fresh (fresh_given (λ table. T.quotient_bits table + T.width table) T.pieces tables k);
+      limit = λ k d within. subst (λ (bins : List Bin). limit_at limit_of bins k ≡ 2 ^ (T.quotient_bits (slice_index_or tables k d) + T.width (slice_index_or tables k d))) fresh
+          (fresh_limit (λ table. T.quotient_bits table + T.width table) T.pieces tables k d within);
+      width = λ k d within. subst (λ (bins : List Bin). limit_at wide_of bins k ≡ total (T.pieces (slice_index_or tables k d))) fresh
+          (fresh_width (λ table. T.quotient_bits table + T.width table) T.pieces tables k d within);
+      sure = λ file. subst (λ (bins : List Bin). AreSure bins file) fresh (fresh_sure (λ table. T.quotient_bits table + T.width table) T.pieces tables file);
+      reads = λ from to reads. fresh_reads (λ table. T.quotient_bits table + T.width table) T.pieces tables from to
+          (subst (λ (bins : List Bin). Reads bins from to) are reads);
+    }
