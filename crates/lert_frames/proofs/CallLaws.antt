@@ -1,13 +1,14 @@
 -- Calls of writers in turn.
-use Rattle.std.proofs.Common.{◌≡◌, ℕ, ◌-◌, ◌≤◌, Option, Some, Result, length}
+use Rattle.std.proofs.Common.{◌≡◌, ℕ, ◌-◌, ◌≤◌, Option, Some, Result, length, refl, ◌∙◌, inl, inr, arith}
 use Rattle.std.specs.Prelude.{Ok, Err, OnOk}
 use Rattle.lert_bay.specs.Files.{Files, Changes, LeftByFailure}
 use Rattle.lert_bay.specs.declared.bay.TheConstants.{FRAMES}
 use Rattle.lert_bay.specs.Kept.{Bays, KeepsBay, OnlyReads}
-use Rattle.lert_bay.proofs.KeptLaws.{IsLawful, keeps_none, keeps_on}
+use Rattle.lert_bay.proofs.Lasting.{lasts_none, lasts_on}
+use Rattle.lert_io.proofs.Rising.{risen_since}
 use Rattle.lert_frames.specs.Calls.{Writes}
 use Rattle.lert_frames.specs.Kept.{WritesWithin}
-use Rattle.lert_frames.proofs.WithinLaws.{within_same, within_reads, within_on, within_wider, turns_to}
+use Rattle.lert_frames.proofs.WithinLaws.{within_reads, within_on, within_wider, turns_to}
 
 -- ---- calls, seen as failed in other words
 
@@ -27,14 +28,50 @@ module _ {B : Type 0} {bays : Bays B} {before after : B} {First Failed : Type 0}
 pub writes_reads : {B : Type 0} {bays : Bays B} {begin end : ℕ} {before after : B} {Failed : Type 0} → OnlyReads bays before after Failed → Writes bays begin end before after Failed
 writes_reads {bays = bays} {begin} {end} reads = record { within = within_reads bays begin end _ _ _ reads; kept = reads.kept }
 
-module _ {B : Type 0} {bays : Bays B} (lawful : IsLawful bays) {begin end : ℕ} where
-  pub writes_none : {bay : B} {Failed : Type 0} → (Failed → ⊥) → Writes bays begin end bay bay Failed
-  writes_none {bay} {Failed} never = record { within = within_same bays begin end lawful bay; kept = keeps_none bays lawful bay Failed never }
+-- by one law of bays: no call
+module _ {B : Type 0} (bays : Bays B) (only_now : (bay : B) (image : Files) → bays.left_since bay (bays.moment bay) image → bays.leaves bay image) {bay : B} {Failed : Type 0}
+    (never : Failed → ⊥) where
+  keeps_same : KeepsBay bays bay bay Failed
+  keeps_same = record {
+    time = lasts_none (bays.moment bay) (bays.left_since bay);
+    never_falls = omega arith;
+    failed = λ failed. absurd (never failed);
+    mark = refl;
+    journal = refl;
+  }
 
-  -- calls behind others, of which the last one failed, if any did
-  pub writes_on : {before between after : B} {First Failed : Type 0} → Writes bays begin end before between First → Writes bays begin end between after Failed →
-      Writes bays begin end before after Failed
-  writes_on one two = record { within = within_on bays begin end _ _ _ _ _ one.kept two.kept one.within two.within; kept = keeps_on bays lawful _ _ _ _ _ one.kept two.kept }
+  pub reads_same : OnlyReads bays bay bay Failed
+  reads_same = record { kept = keeps_same; seen = refl; images = λ image. (λ may. may, λ may. may); moments = only_now bay }
+
+  pub writes_none : {begin end : ℕ} → Writes bays begin end bay bay Failed
+  writes_none = writes_reads reads_same
+
+-- and by another: calls behind others, of which the last one failed, if any did
+module _ {B : Type 0} {bays : Bays B} (since_earlier : (bay : B) (t u : ℕ) (image : Files) → t ≤ u → bays.left_since bay u image → bays.left_since bay t image)
+    {before between after : B} {First Failed : Type 0} where
+  keeps_then : KeepsBay bays before between First → KeepsBay bays between after Failed → KeepsBay bays before after Failed
+  keeps_then one two = record {
+    time = lasts_on (bays.moment before) (bays.moment between) (bays.moment after) (bays.left_since before) (bays.left_since between) (bays.left_since after)
+        one.time two.time (since_earlier after);
+    never_falls = omega (arith, one.never_falls, two.never_falls);
+    failed = λ failed. risen_since (bays.faults before) (bays.faults between) (bays.faults after) one.never_falls two.never_falls (two.failed failed);
+    mark = two.mark ∙ one.mark;
+    journal = two.journal ∙ one.journal;
+  }
+
+  pub reads_then : OnlyReads bays before between First → OnlyReads bays between after Failed → OnlyReads bays before after Failed
+  reads_then one two = record {
+    kept = keeps_then one.kept two.kept;
+    seen = two.seen ∙ one.seen;
+    images = λ image. (λ may. (one.images image).0 ((two.images image).0 may), λ may. (two.images image).1 ((one.images image).1 may));
+    moments = λ image since. elim (two.kept.time.known (bays.moment before) image one.kept.time.later since) [
+      | inl past ↦ one.moments image past
+      | inr now ↦ (one.images image).0 (two.moments image now)
+    ];
+  }
+
+  pub writes_on : {begin end : ℕ} → Writes bays begin end before between First → Writes bays begin end between after Failed → Writes bays begin end before after Failed
+  writes_on {begin} {end} one two = record { within = within_on bays begin end _ _ _ _ _ one.kept two.kept one.within two.within; kept = keeps_then one.kept two.kept }
 
 -- a bay tells the same files each time
 pub same_files : (seen later : Files) → ◌≡◌ {A = Option Files} (Some seen) (Some later) → seen ≡ later

@@ -8,11 +8,11 @@ use Rattle.lert_frames.specs.declared.long.Long.{Long}
 use Rattle.lert_frames.specs.declared.outlet.Outlet.{Outlet}
 use Rattle.lert_frames.specs.Growing.{slots_out, IsLong, IsGrowing, IsHolding}
 use Rattle.lert_frames.specs.Outlet.{next_place, size_of}
-use Rattle.lert_frames.specs.Place.{block_count, blocks_bytes, frame_len, frame_place}
+use Rattle.lert_frames.specs.Place.{block_count, blocks_bytes, frame_len}
 use Rattle.lert_frames.specs.Spilt.{Reaches, HasRoom, block_bytes, first_place, last_place, closed_place}
 use Rattle.lert_spec.specs.declared.numbers.Numbers.{Numbers}
 use Rattle.lert_spec.specs.declared.piece.Piece.{Piece}
-use Rattle.lert_spec.specs.Edges.{span, width, quotient_bits}
+use Rattle.lert_spec.specs.Edges.{span, quotient_bits}
 use Rattle.lert_spec.specs.Limits.{IsValid}
 use Rattle.lert_spec.specs.Table.{total}
 
@@ -90,12 +90,15 @@ module _ {s : Numbers} {level frame wide place number left : ℕ} {outlet ends :
   growing_again outlet' ends' slots' size ends_size none next at =
       growing_new s level place number left outlet' ends' slots' put old.below old.left_is size ends_size none next at
 
+  -- a block that isn't long ends within the frame's place
+  short_within : long ≡ None → next_place outlet + block_bytes slots ≤ place + frame_len s level
+  short_within is = one_fits (next_place outlet) (block_count s level) number slots (place + frame_len s level) old.below
+      (fewer_fit (next_place outlet) (block_count s level - number) (slots + 2 * left) slots (place + frame_len s level) (omega arith) (old.short is).fits)
+
   -- there is room for the rest of the block
   pub growing_room : HasRoom long slots (2 ^ 62) ends outlet
   growing_room = record {
-    short = λ is. let fits = one_fits (next_place outlet) (block_count s level) number slots (place + frame_len s level) old.below
-        (fewer_fit (next_place outlet) (block_count s level - number) (slots + 2 * left) slots (place + frame_len s level) (omega arith) (old.short is).fits) in
-        omega (arith, fits, fixed.end);
+    short = λ is. let fits = short_within is in omega (arith, fits, fixed.end);
     spilt = λ l is. reaches_further l slots (place + frame_len s level) (2 ^ 62) ends outlet (omega (arith, fixed.end))
         (reaches_fewer l (slots + 2 * left) slots (place + frame_len s level) ends outlet (omega arith) (old.spilt l is).reach);
     some = old.some;
@@ -118,16 +121,14 @@ module _ {s : Numbers} {level frame wide place number left : ℕ} {outlet ends :
   last_within = by_case long refl
     where
       by_case : (at : Option Long) → long ≡ at → last_place at slots outlet ≤ place + frame_len s level
-      by_case None is = one_fits (next_place outlet) (block_count s level) number slots (place + frame_len s level) old.below
-          (fewer_fit (next_place outlet) (block_count s level - number) (slots + 2 * left) slots (place + frame_len s level) (omega arith) (old.short is).fits)
+      by_case None is = short_within is
       by_case (Some l) is = omega (arith, (old.spilt l is).reach.slots_fit)
 
   pub closed_within : closed_place long slots outlet ≤ place + frame_len s level
   closed_within = by_case long refl
     where
       by_case : (at : Option Long) → long ≡ at → closed_place at slots outlet ≤ place + frame_len s level
-      by_case None is = one_fits (next_place outlet) (block_count s level) number slots (place + frame_len s level) old.below
-          (fewer_fit (next_place outlet) (block_count s level - number) (slots + 2 * left) slots (place + frame_len s level) (omega arith) (old.short is).fits)
+      by_case None is = short_within is
       by_case (Some l) is = one_fits l.begin (block_count s level) number (64 * l.words + slots) (place + frame_len s level) old.below
           (fewer_fit l.begin (block_count s level - number) (64 * l.words + (slots + 2 * left)) (64 * l.words + slots) (place + frame_len s level) (omega arith) (old.spilt l is).fits)
 

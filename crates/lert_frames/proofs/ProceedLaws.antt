@@ -1,9 +1,8 @@
 -- A writer's steps in turn.
-use Rattle.std.proofs.Common.{◌≡◌, ℕ, ◌+◌, List, Some, sym, ◌∙◌, subst, arith}
+use Rattle.std.proofs.Common.{◌≡◌, ℕ, ◌+◌, ◌≤◌, List, Some, sym, ◌∙◌, subst, arith}
 use Rattle.lert_bay.specs.declared.bay.TheConstants.{FRAMES}
 use Rattle.lert_bay.specs.Files.{Files}
 use Rattle.lert_bay.specs.Kept.{Bays}
-use Rattle.lert_bay.proofs.KeptLaws.{IsLawful}
 use Rattle.lert_frames.specs.Calls.{Writes}
 use Rattle.lert_frames.specs.Frame.{HoldsFrame}
 use Rattle.lert_frames.specs.Kept.{KeepsOutside}
@@ -29,16 +28,17 @@ same_on a b c one two = record {
 pub same_end : (a b : FrameWriter) → SameFrame a b → end_of b ≡ end_of a
 same_end a b same = λ i. same.place i + frame_len (same.settings i) (same.level i)
 
-module _ {B : Type 0} {bays : Bays B} (lawful : IsLawful bays) where
-  pub proceeds_none : {a b : FrameWriter} {x : B} {Failed : Type 0} → SameFrame a b → (Failed → ⊥) → Proceeds bays a b x x Failed
-  proceeds_none same never = record { same = same; writes = writes_none lawful never }
+pub proceeds_none : {B : Type 0} (bays : Bays B) → ((bay : B) (image : Files) → bays.left_since bay (bays.moment bay) image → bays.leaves bay image) → {a b : FrameWriter} {x : B} {Failed : Type 0} →
+    SameFrame a b → (Failed → ⊥) → Proceeds bays a b x x Failed
+proceeds_none bays only_now same never = record { same = same; writes = writes_none bays only_now never }
 
-  pub proceeds_on : {a b c : FrameWriter} {x y z : B} {First Failed : Type 0} → Proceeds bays a b x y First → Proceeds bays b c y z Failed → Proceeds bays a c x z Failed
-  proceeds_on {a} {b} {c} {x} {y} {z} {First} {Failed} one two = record {
-    same = same_on a b c one.same two.same;
-    writes = writes_on lawful one.writes
-        (subst (λ end. Writes bays a.place end y z Failed) (same_end a b one.same) (subst (λ begin. Writes bays begin (end_of b) y z Failed) one.same.place two.writes));
-  }
+pub proceeds_on : {B : Type 0} {bays : Bays B} → ((bay : B) (t u : ℕ) (image : Files) → t ≤ u → bays.left_since bay u image → bays.left_since bay t image) →
+    {a b c : FrameWriter} {x y z : B} {First Failed : Type 0} → Proceeds bays a b x y First → Proceeds bays b c y z Failed → Proceeds bays a c x z Failed
+proceeds_on {bays = bays} since_earlier {a} {b} {c} {x} {y} {z} {First} {Failed} one two = record {
+  same = same_on a b c one.same two.same;
+  writes = writes_on since_earlier one.writes
+      (subst (λ end. Writes bays a.place end y z Failed) (same_end a b one.same) (subst (λ begin. Writes bays begin (end_of b) y z Failed) one.same.place two.writes));
+}
 
 pub proceeds_as : {B : Type 0} {bays : Bays B} {a b : FrameWriter} {x y : B} {First Failed : Type 0} → (Failed → First) → Proceeds bays a b x y First → Proceeds bays a b x y Failed
 proceeds_as turned one = record { same = one.same; writes = writes_as turned one.writes }

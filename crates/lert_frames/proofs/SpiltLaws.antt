@@ -6,11 +6,20 @@ use Rattle.std.proofs.lemmas.List.{ext_get_or, get_or_append_left, get_or-append
 use Rattle.std.proofs.lemmas.List.FromFn.{get_or-map-range_with_len, length-map-range_with_len}
 use Rattle.std.proofs.Math.Seq.{take-add}
 use Rattle.byteorder.specs.Endian.{little_bytes}
+use Rattle.lert_blocks.specs.declared.block.Block.{Block}
 use Rattle.lert_frames.specs.declared.long.Long.{Long}
 use Rattle.lert_frames.specs.declared.outlet.Outlet.{Outlet}
 use Rattle.lert_frames.specs.Outlet.{next_place}
 use Rattle.lert_frames.specs.Spilt.{Reaches}
 use Rattle.lert_blocks.specs.Text.{number_of_bits, word_count, words_of, numbers_text}
+
+-- ---- the slots of a block in memory, and their words of run ends
+
+pub counted_slots : (b : Block) (slots : List ℕ) → slots ≡ take b.len b.slots.items → length slots ≡ b.len
+counted_slots b slots are = ap (λ (xs : List ℕ). length xs) are ∙ length-take-le b.len b.slots.items (omega (arith, b.sized.0, b.sized.2))
+
+pub counted_ends : (b : Block) (ends : List ℕ) → ends ≡ take (word_count b.len) b.ends.items → length ends ≡ word_count b.len
+counted_ends b ends are = ap (λ (xs : List ℕ). length xs) are ∙ length-take-le (word_count b.len) b.ends.items (omega (arith, b.sized.1, b.sized.2))
 
 -- ---- words
 

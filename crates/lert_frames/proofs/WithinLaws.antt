@@ -7,7 +7,6 @@ use Rattle.lert_bay.specs.Images.{ComesByWrite}
 use Rattle.lert_bay.specs.Kept.{Bays, KeepsBay, OnlyReads}
 use Rattle.lert_bay.specs.Settled.{part}
 use Rattle.lert_bay.specs.declared.bay.TheConstants.{FRAMES}
-use Rattle.lert_bay.proofs.KeptLaws.{IsLawful}
 use Rattle.lert_bay.proofs.Settling.{part_torn}
 use Rattle.lert_bay.proofs.Tearing.{comes_same, left_same, left_by_part}
 use Rattle.lert_frames.specs.Kept.{Wrote, WritesWithin, KeepsOutside}
@@ -96,19 +95,6 @@ module _ {B : Type 0} (bays : Bays B) (begin end : ℕ) where
       };
       images = λ image now. comes_same (bays.leaves before) FRAMES begin (end - begin) image ((reads.images image).0 now);
       moments = λ image since. comes_same (bays.leaves before) FRAMES begin (end - begin) image (reads.moments image since);
-    };
-  }
-
-  -- no call
-  pub within_same : IsLawful bays → (bay : B) → WritesWithin bays begin end bay bay
-  within_same lawful bay = record {
-    wrote = record {
-      seen = record {
-        told = λ old told. (old, told, record { here = left_same begin (end - begin) (old FRAMES); others = λ other apart. refl });
-        untold = λ untold. untold;
-      };
-      images = λ image now. comes_same (bays.leaves bay) FRAMES begin (end - begin) image now;
-      moments = λ image since. comes_same (bays.leaves bay) FRAMES begin (end - begin) image (lawful.only_now bay image since);
     };
   }
 

@@ -230,6 +230,10 @@ turns_back step (Some old) after new turned told =
     (old, refl, subst (λ (files : Files). step old files) same then.2)
 
 -- whichever answer came
+pub if_ok : {T E : Type 0} (P : Type 0) (result : Result T E) → P → OnOk result P
+if_ok P (Ok _) held = held
+if_ok P (Err _) held = tt
+
 pub on_err : {T E : Type 0} (P : Type 0) (result : Result T E) → P → OnErr result P
 on_err P (Ok _) held = tt
 on_err P (Err _) held = held

@@ -1,5 +1,5 @@
-use Rattle.std.proofs.Common.{◌≡◌, ℕ, ◌+◌, ◌*◌, ◌^◌, ◌≤◌, Option, Result, sym, subst, arith}
-use Rattle.std.specs.Prelude.{Ok, Err, OnOk}
+use Rattle.std.proofs.Common.{◌≡◌, ℕ, ◌+◌, ◌*◌, ◌^◌, ◌≤◌, Option, sym, subst, arith}
+use Rattle.std.specs.Prelude.{OnOk}
 use Rattle.lert_bay.specs.declared.bay.TheConstants.{FRAMES}
 use Rattle.lert_blocks.specs.Text.{block_text}
 use Rattle.lert_blocks.proofs.LengthLaws.{block_text_len}
@@ -10,14 +10,8 @@ use Rattle.lert_frames.specs.Spilt.{Reaches, block_bytes, closed_place, first_pl
 use Rattle.lert_frames.proofs.CallLaws.{both_ok, three_ok}
 use Rattle.lert_frames.proofs.ClosingLaws.{before_stays, out_behind}
 use Rattle.lert_frames.proofs.OrderLaws.{here, at_least}
-use Rattle.lert_frames.proofs.WriteLaws.{on_ok}
-use Rattle.lert_frames.proofs.closing.close.Given as given
+use Rattle.lert_frames.proofs.WriteLaws.{on_ok, if_ok}
 use Rattle.lert_frames.proofs.closing.close.Goals as goal
-
--- whatever it answers
-if_ok : {T E : Type 0} (P : Type 0) (result : Result T E) → P → OnOk result P
-if_ok P (Ok _) held = held
-if_ok P (Err _) held = tt
 
 -- where a long block begins
 begin_before : (l : Long) (slots : ℕ) (e o : Outlet) → Reaches l slots (2 ^ 62) e o → l.begin ≤ next_place o + 8 * slots

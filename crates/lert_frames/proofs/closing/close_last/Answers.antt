@@ -1,18 +1,12 @@
 use Rattle.std.proofs.Common.{◌≤◌, ◌∙◌, ◌++◌, refl, sym, subst}
 use Rattle.std.proofs.lemmas.Result.{err_from_is_err_and}
 use Rattle.lert_bay.specs.declared.bay.TheConstants.{FRAMES}
-use Rattle.lert_bay.proofs.KeptLaws.{IsLawful}
 use Rattle.lert_blocks.specs.Text.{block_text}
 use Rattle.lert_frames.specs.Spilt.{first_place, last_place}
 use Rattle.lert_frames.proofs.CallLaws.{both_ok, told_then, writes_as, writes_on}
 use Rattle.lert_frames.proofs.OutletLaws.{out_whole}
 use Rattle.lert_frames.proofs.OrderLaws.{here, at_least}
-use Rattle.lert_frames.specs.Calls.{bays_of}
-use Rattle.lert_frames.proofs.closing.close_last.Given as given
 use Rattle.lert_frames.proofs.closing.close_last.Goals as goal
-
-lawful : (g : given.Over) → IsLawful (bays_of g.B.Faulty g.B.Bay)
-lawful g = record { as_read = g.met.B.Bay.as_read; since_now = g.met.B.Bay.since_now; only_now = g.met.B.Bay.only_now; since_earlier = g.met.B.Bay.since_earlier }
 
 pub close-requires : goal.close-requires
 close-requires g c = record { room = c.requires.room; size = c.requires.size; ends_size = c.requires.ends_size }
@@ -44,6 +38,6 @@ returns g c =
       size = flushed.size ∙ closed.size;
       ends_size = closed.ends_size;
       writes = λ begin end low high last.
-          writes_on (lawful g) (closed.writes begin end low high)
+          writes_on g.met.B.Bay.since_earlier (closed.writes begin end low high)
           (record { within = flushed.within begin end (at_least low closed.at) (subst (λ n. n ≤ end) (sym closed.place) last); kept = flushed.kept });
     }

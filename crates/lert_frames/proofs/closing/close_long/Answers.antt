@@ -1,12 +1,9 @@
-use Rattle.std.proofs.Common.{◌≡◌, ℕ, ◌+◌, ◌*◌, ◌^◌, ◌<◌, ◌≤◌, ◌∙◌, Bool, List, ◌++◌, Result, length, take, drop, sym, ap, ap₂, subst, refl, inr, arith, length-drop}
-use Rattle.std.specs.Prelude.{Ok, Err, OnOk}
+use Rattle.std.proofs.Common.{◌≡◌, ℕ, ◌+◌, ◌*◌, ◌^◌, ◌<◌, ◌≤◌, ◌∙◌, Bool, List, ◌++◌, length, take, drop, sym, ap, ap₂, subst, refl, inr, arith, length-drop}
 use Rattle.std.proofs.lemmas.Result.{err_from_is_err_and}
-use Rattle.std.proofs.lemmas.List.{length-take-le}
 use Rattle.std.specs.Int.{div_ceil}
 use Rattle.lert_bay.specs.declared.bay.TheConstants.{FRAMES}
 use Rattle.byteorder.specs.Endian.{little_bytes}
 use Rattle.lert_bay.specs.Settled.{part}
-use Rattle.lert_bay.proofs.KeptLaws.{IsLawful}
 use Rattle.lert_blocks.specs.declared.block.Block.{Block}
 use Rattle.lert_blocks.specs.Text.{ends_of, slots_of, word_count, words_of, numbers_text}
 use Rattle.lert_blocks.proofs.FieldLaws.{length-numbers_text}
@@ -16,28 +13,12 @@ use Rattle.lert_frames.specs.declared.outlet.Outlet.{Outlet}
 use Rattle.lert_frames.specs.Outlet.{next_place}
 use Rattle.lert_frames.specs.Spilt.{Reaches, block_bytes}
 use Rattle.lert_frames.proofs.OrderLaws.{at_least, here}
-use Rattle.lert_frames.proofs.SpiltLaws.{all_end, begin_first, ends_fit, moved_places, words_end}
+use Rattle.lert_frames.proofs.SpiltLaws.{counted_slots, counted_ends, all_end, begin_first, ends_fit, moved_places, words_end}
 use Rattle.lert_frames.proofs.CallLaws.{writes_on, writes_as, told_then}
 use Rattle.lert_frames.proofs.ClosingLaws.{long_text, moved_as, ends_written, slots_written, parts_stay}
 use Rattle.lert_frames.proofs.OutletLaws.{out_reaches, out_within}
-use Rattle.lert_frames.proofs.WriteLaws.{on_ok}
-use Rattle.lert_frames.specs.Calls.{bays_of}
-use Rattle.lert_frames.proofs.closing.close_long.Given as given
+use Rattle.lert_frames.proofs.WriteLaws.{on_ok, if_ok}
 use Rattle.lert_frames.proofs.closing.close_long.Goals as goal
-
-lawful : (g : given.Over) → IsLawful (bays_of g.B.Faulty g.B.Bay)
-lawful g = record { as_read = g.met.B.Bay.as_read; since_now = g.met.B.Bay.since_now; only_now = g.met.B.Bay.only_now; since_earlier = g.met.B.Bay.since_earlier }
-
--- whatever it answers
-if_ok : {T E : Type 0} (P : Type 0) (result : Result T E) → P → OnOk result P
-if_ok P (Ok _) held = held
-if_ok P (Err _) held = tt
-
-counted_slots : (b : Block) (slots : List ℕ) → slots ≡ take b.len b.slots.items → length slots ≡ b.len
-counted_slots b slots are = ap (λ (xs : List ℕ). length xs) are ∙ length-take-le b.len b.slots.items (omega (arith, b.sized.0, b.sized.2))
-
-counted_ends : (b : Block) (ends : List ℕ) → ends ≡ take (word_count b.len) b.ends.items → length ends ≡ word_count b.len
-counted_ends b ends are = ap (λ (xs : List ℕ). length xs) are ∙ length-take-le (word_count b.len) b.ends.items (omega (arith, b.sized.1, b.sized.2))
 
 -- ---- numbers
 
@@ -186,7 +167,7 @@ returns-in_err-write_numbers-2 g c =
       ends_size = one.size ∙ c.requires.ends_size;
       writes = λ begin end low high.
           let first = begin_first l b.len (2 ^ 62) e o c.requires.reach begin low in
-          writes_on (lawful g) (one.writes begin end first.0 (wrote_ends l b e o c.requires.reach c.ends.result.now c.ends.ensures.value end high))
+          writes_on g.met.B.Bay.since_earlier (one.writes begin end first.0 (wrote_ends l b e o c.requires.reach c.ends.result.now c.ends.ensures.value end high))
           (writes_as (λ _. refl) (two.writes begin end first.1 (wrote_slots l b e o c.requires.reach c.slots.result.now c.slots.ensures end high)));
     })
 
@@ -212,8 +193,8 @@ returns-in_err-move_down g c =
       ends_size = one.size ∙ c.requires.ends_size;
       writes = λ begin end low high.
           let first = begin_first l b.len (2 ^ 62) e o reach begin low in
-          writes_on (lawful g)
-          (writes_on (lawful g) (one.writes begin end first.0 (wrote_ends l b e o reach c.ends.result.now c.ends.ensures.value end high))
+          writes_on g.met.B.Bay.since_earlier
+          (writes_on g.met.B.Bay.since_earlier (one.writes begin end first.0 (wrote_ends l b e o reach c.ends.result.now c.ends.ensures.value end high))
           (two.writes begin end first.1 (wrote_slots l b e o reach c.slots.result.now c.slots.ensures end high)))
           (writes_as (λ _. refl) (three.writes begin end (low_as low c.div_ceil.result refl) (at_least moved.1 high)));
     })
@@ -281,9 +262,9 @@ returns g c =
       writes = λ begin end low high.
           let first = begin_first l b.len (2 ^ 62) e o reach begin low in
           let moved = moved_places l b.len (2 ^ 62) e o reach (64 * m + length c.slots-2.result.now) c.div_ceil.result count ceil in
-          writes_on (lawful g)
-          (writes_on (lawful g)
-          (writes_on (lawful g) (one.writes begin end first.0 (wrote_ends l b e o reach c.ends.result.now ends_are end high))
+          writes_on g.met.B.Bay.since_earlier
+          (writes_on g.met.B.Bay.since_earlier
+          (writes_on g.met.B.Bay.since_earlier (one.writes begin end first.0 (wrote_ends l b e o reach c.ends.result.now ends_are end high))
           (two.writes begin end first.1 (wrote_slots l b e o reach c.slots.result.now c.slots.ensures end high)))
           (three.writes begin end (low_as low c.div_ceil.result refl) (at_least moved.1 high)))
           (c.write_head.ensures.writes begin end low (at_least places.3 high));

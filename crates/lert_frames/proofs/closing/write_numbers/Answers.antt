@@ -1,23 +1,12 @@
-use Rattle.std.proofs.Common.{◌≡◌, ℕ, ◌+◌, ◌*◌, ◌^◌, ◌<◌, ◌≤◌, ◌∙◌, ◌++◌, Result, length, ap, sym, subst, refl, arith}
-use Rattle.std.specs.Prelude.{Ok, Err, OnOk}
+use Rattle.std.proofs.Common.{◌≡◌, ℕ, ◌+◌, ◌*◌, ◌^◌, ◌<◌, ◌≤◌, ◌∙◌, ◌++◌, length, ap, sym, subst, refl, arith}
 use Rattle.std.proofs.lemmas.Result.{err_from_is_err_and}
 use Rattle.lert_bay.specs.declared.bay.TheConstants.{FRAMES}
 use Rattle.lert_blocks.specs.Text.{numbers_text}
 use Rattle.lert_frames.specs.Outlet.{next_place}
 use Rattle.lert_frames.proofs.CallLaws.{writes_on, writes_as, told_then}
-use Rattle.lert_bay.proofs.KeptLaws.{IsLawful}
 use Rattle.lert_frames.proofs.OrderLaws.{here}
-use Rattle.lert_frames.specs.Calls.{bays_of}
-use Rattle.lert_frames.proofs.closing.write_numbers.Given as given
+use Rattle.lert_frames.proofs.WriteLaws.{if_ok}
 use Rattle.lert_frames.proofs.closing.write_numbers.Goals as goal
-
-lawful : (g : given.Over) → IsLawful (bays_of g.B.Faulty g.B.Bay)
-lawful g = record { as_read = g.met.B.Bay.as_read; since_now = g.met.B.Bay.since_now; only_now = g.met.B.Bay.only_now; since_earlier = g.met.B.Bay.since_earlier }
-
--- whatever it answers
-if_ok : {T E : Type 0} (P : Type 0) (result : Result T E) → P → OnOk result P
-if_ok P (Ok _) held = held
-if_ok P (Err _) held = tt
 
 -- the places of the numbers
 low_as : (begin at made put : ℕ) → begin ≤ at → at ≤ made → put ≡ made → begin ≤ put
@@ -62,6 +51,6 @@ returns g c =
       place = if_ok _ c.flush.result (flushed.place ∙ place);
       size = flushed.size ∙ (put.size ∙ made.size);
       writes = λ begin end low high.
-          writes_on (lawful g) (made.writes begin end low (room_before _ _ end high))
+          writes_on g.met.B.Bay.since_earlier (made.writes begin end low (room_before _ _ end high))
           (record { within = flushed.within begin end (low_as begin o.at _ _ low made.at put.at) (subst (λ n. n ≤ end) (sym place) high); kept = flushed.kept });
     }

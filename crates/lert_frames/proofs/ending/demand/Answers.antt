@@ -2,18 +2,12 @@ use Rattle.std.proofs.Common.{◌≡◌, ℕ, ◌<◌, ◌≤◌, ◌∙◌, Boo
 use Rattle.std.specs.Prelude.{◌↔◌, IsTrue}
 use Rattle.std.proofs.lemmas.Bool.{cases_lt, false≢true}
 use Rattle.std.proofs.lemmas.Result.{err_from_is_err_and}
-use Rattle.lert_bay.proofs.KeptLaws.{IsLawful, reads_on}
 use Rattle.lert_frames.specs.Window.{count_of}
 use Rattle.lert_frames.proofs.FaultLaws.{fault_is, no_place, not_err}
 use Rattle.lert_frames.proofs.FieldLaws.{length_hand}
 use Rattle.lert_frames.proofs.WriteLaws.{same_err}
-use Rattle.lert_frames.specs.Calls.{bays_of}
-use Rattle.lert_frames.proofs.CallLaws.{reads_turned}
-use Rattle.lert_frames.proofs.ending.demand.Given as given
+use Rattle.lert_frames.proofs.CallLaws.{reads_turned, reads_then}
 use Rattle.lert_frames.proofs.ending.demand.Goals as goal
-
-lawful : (g : given.Over) → IsLawful (bays_of g.B.Faulty g.B.Bay)
-lawful g = record { as_read = g.met.B.Bay.as_read; since_now = g.met.B.Bay.since_now; only_now = g.met.B.Bay.only_now; since_earlier = g.met.B.Bay.since_earlier }
 
 pub returns-in_err-need : goal.returns-in_err-need
 returns-in_err-need g c =
@@ -58,6 +52,6 @@ returns g c =
           subst (λ n. n < c.args.count) (sym (length_hand w) ∙ all) (missing c.in_ok-need.field-0 c.args.count (count_of w) c.if-branch.false asked.enough);
       end = λ seen told at is. c.file_end.ensures.told seen (asked.only_reads.seen ∙ told) at (fault_is _ _ is);
       ahead = asked.ahead;
-      only_reads = reads_on _ (lawful g) before between c.file_end.new.bay _ _ asked.only_reads
+      only_reads = reads_then g.met.B.Bay.since_earlier asked.only_reads
           (reads_turned (λ is. fault_is _ _ is) c.file_end.ensures.only_reads);
     }

@@ -2,7 +2,6 @@ use Rattle.std.proofs.Common.{ℕ, ◌+◌, ◌*◌, ◌-◌, ◌/◌, ◌^◌, 
 use Rattle.std.proofs.lemmas.List.{length-take-le}
 use Rattle.std.proofs.lemmas.Result.{err_from_is_err_and}
 use Rattle.lert_bay.specs.declared.bay.TheConstants.{FRAMES}
-use Rattle.lert_blocks.specs.declared.block.Block.{Block}
 use Rattle.lert_blocks.specs.Filling.{IsFilled}
 use Rattle.lert_blocks.specs.Text.{ends_of, slots_of, word_count, numbers_text}
 use Rattle.lert_blocks.proofs.FillingLaws.{length_left}
@@ -13,14 +12,8 @@ use Rattle.lert_frames.specs.declared.outlet.Outlet.{Outlet}
 use Rattle.lert_frames.proofs.CallLaws.{writes_on, writes_as, told_then}
 use Rattle.lert_frames.proofs.OutletLaws.{out_within}
 use Rattle.lert_frames.proofs.OrderLaws.{here}
-use Rattle.lert_frames.proofs.SpiltLaws.{slots_more, ends_more, reaches_on, reaches_more, begin_first, ends_fit, ends_last}
-use Rattle.lert_bay.proofs.KeptLaws.{IsLawful}
-use Rattle.lert_frames.specs.Calls.{bays_of}
-use Rattle.lert_frames.proofs.long.let_go.Given as given
+use Rattle.lert_frames.proofs.SpiltLaws.{counted_slots, counted_ends, slots_more, ends_more, reaches_on, reaches_more, begin_first, ends_fit, ends_last}
 use Rattle.lert_frames.proofs.long.let_go.Goals as goal
-
-lawful : (g : given.Over) → IsLawful (bays_of g.B.Faulty g.B.Bay)
-lawful g = record { as_read = g.met.B.Bay.as_read; since_now = g.met.B.Bay.since_now; only_now = g.met.B.Bay.only_now; since_earlier = g.met.B.Bay.since_earlier }
 
 -- how many are left
 left_of : (len had left : ℕ) → 0 < len → had ≡ len → left + 64 * ((had - 1) / 64) ≡ len → (0 < left) × (left ≤ 64)
@@ -29,12 +22,6 @@ left_of len had left some is sum = (omega (arith, some, is, sum), omega (arith, 
 -- those that go are there
 go_within : (len had slots ends : ℕ) → 0 < len → had ≡ len → slots ≡ len → ends ≡ word_count len → (64 * ((had - 1) / 64) ≤ slots) × ((had - 1) / 64 ≤ ends)
 go_within len had slots ends some is slots_are ends_are = (omega (arith, some, is, slots_are), omega (arith, some, is, ends_are))
-
-counted_slots : (b : Block) (slots : List ℕ) → slots ≡ take b.len b.slots.items → length slots ≡ b.len
-counted_slots b slots are = ap (λ (xs : List ℕ). length xs) are ∙ length-take-le b.len b.slots.items (omega (arith, b.sized.0, b.sized.2))
-
-counted_ends : (b : Block) (ends : List ℕ) → ends ≡ take (word_count b.len) b.ends.items → length ends ≡ word_count b.len
-counted_ends b ends are = ap (λ (xs : List ℕ). length xs) are ∙ length-take-le (word_count b.len) b.ends.items (omega (arith, b.sized.1, b.sized.2))
 
 words_are : (m go len left : ℕ) → left + 64 * go ≡ len → 64 * (m + go) + left ≡ 64 * m + len
 words_are m go len left sum = omega (arith, sum)
@@ -177,7 +164,7 @@ returns-in_err-make_room-2 g c =
       ends_size = two.size ∙ c.requires.ends_size;
       writes = λ begin end low high.
           let first = begin_first l c.args.block.now.len (2 ^ 62) e o c.requires.reach begin low in
-          writes_on (lawful g) (one.writes begin end first.1 high)
+          writes_on g.met.B.Bay.since_earlier (one.writes begin end first.1 high)
           (writes_as (λ _. refl) (two.writes begin end first.0 (ends_last l c.args.block.now.len (2 ^ 62) e o c.requires.reach end high)));
     })
 
@@ -238,6 +225,6 @@ returns g c =
       ends_size = put_ends.size ∙ (two.size ∙ c.requires.ends_size);
       writes = λ begin end low high.
           let first = begin_first l b.len (2 ^ 62) e o c.requires.reach begin low in
-          writes_on (lawful g) (one.writes begin end first.1 high)
+          writes_on g.met.B.Bay.since_earlier (one.writes begin end first.1 high)
           (writes_as (λ is. is) (two.writes begin end first.0 (ends_last l b.len (2 ^ 62) e o c.requires.reach end high)));
     }

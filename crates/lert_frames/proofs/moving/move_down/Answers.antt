@@ -2,18 +2,13 @@ use Rattle.std.proofs.Common.{◌≡◌, ℕ, ◌+◌, ◌≤◌, ◌∙◌, ◌
 use Rattle.std.proofs.lemmas.Result.{err_from_is_err_and}
 use Rattle.lert_bay.specs.declared.bay.TheConstants.{FRAMES}
 use Rattle.lert_bay.specs.Settled.{part}
-use Rattle.lert_bay.proofs.KeptLaws.{IsLawful}
 use Rattle.lert_frames.specs.Outlet.{IsOut}
 use Rattle.lert_frames.proofs.CallLaws.{writes_none, writes_on, writes_as, writes_wider, told_then, no_shorter}
 use Rattle.lert_frames.proofs.OutletLaws.{out_all}
 use Rattle.lert_frames.proofs.PartLaws.{part_is, part_join}
 use Rattle.lert_frames.proofs.WithinLaws.{part_within}
 use Rattle.lert_frames.specs.Calls.{bays_of}
-use Rattle.lert_frames.proofs.moving.move_down.Given as given
 use Rattle.lert_frames.proofs.moving.move_down.Goals as goal
-
-lawful : (g : given.Over) → IsLawful (bays_of g.B.Faulty g.B.Bay)
-lawful g = record { as_read = g.met.B.Bay.as_read; since_now = g.met.B.Bay.since_now; only_now = g.met.B.Bay.only_now; since_earlier = g.met.B.Bay.since_earlier }
 
 pub returns-in_err-move_part : goal.returns-in_err-move_part
 returns-in_err-move_part g c =
@@ -26,7 +21,7 @@ returns-in_err-move_part g c =
       place = tt;
       size = step.size ∙ inv.size;
       writes = λ begin end low high.
-          writes_on (lawful g) (writes_wider inv.writes low (omega arith) (omega (arith, inv.some, high)))
+          writes_on g.met.B.Bay.since_earlier (writes_wider inv.writes low (omega arith) (omega (arith, inv.some, high)))
           (writes_as (λ _. refl) (step.writes begin end (omega (arith, inv.place)) (omega (arith, inv.place))));
     })
 
@@ -44,7 +39,7 @@ loop-moved-preserved g c =
       empty = step.empty;
       place = omega (arith, step.place, inv.place);
       size = step.size ∙ inv.size;
-      writes = writes_on (lawful g) (writes_wider inv.writes (omega arith) (omega arith) (omega arith))
+      writes = writes_on g.met.B.Bay.since_earlier (writes_wider inv.writes (omega arith) (omega arith) (omega arith))
           (writes_as (λ never. absurd never) (step.writes to (to + (moved + more)) (omega (arith, inv.place)) (omega (arith, inv.place))));
       out = λ seen told later told_later within.
           let mid = told_then inv.writes.within told in
@@ -67,7 +62,7 @@ loop-moved-init g c =
       empty = omega (arith, e.place, e.at);
       place = omega (arith, e.at);
       size = e.size ∙ c.requires.size;
-      writes = writes_none (lawful g) (λ never. never);
+      writes = writes_none (bays_of g.B.Faulty g.B.Bay) g.met.B.Bay.only_now (λ never. never);
       out = λ seen told later told_later within.
           let none = part_is (seen FRAMES) c.args.from 0 (c.args.from + 0) refl in
           subst (λ (bytes : List ℕ). IsOut c.args.to bytes (later FRAMES) c.start.new.self) (sym none) (e.out (later FRAMES));

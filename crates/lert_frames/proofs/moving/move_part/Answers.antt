@@ -3,13 +3,7 @@ use Rattle.std.proofs.lemmas.Result.{err_from_is_err_and}
 use Rattle.lert_frames.proofs.CallLaws.{writes_on, writes_as, writes_reads}
 use Rattle.lert_frames.specs.Outlet.{size_of}
 use Rattle.lert_frames.proofs.WriteLaws.{on_ok}
-use Rattle.lert_bay.proofs.KeptLaws.{IsLawful}
-use Rattle.lert_frames.specs.Calls.{bays_of}
-use Rattle.lert_frames.proofs.moving.move_part.Given as given
 use Rattle.lert_frames.proofs.moving.move_part.Goals as goal
-
-lawful : (g : given.Over) → IsLawful (bays_of g.B.Faulty g.B.Bay)
-lawful g = record { as_read = g.met.B.Bay.as_read; since_now = g.met.B.Bay.since_now; only_now = g.met.B.Bay.only_now; since_earlier = g.met.B.Bay.since_earlier }
 
 -- the place behind the bytes
 behind : (at len mid old_at old_len count : ℕ) → at + len ≡ mid → mid ≡ old_at + old_len + count → old_len ≡ 0 → len ≡ 0 → at ≡ old_at + count
@@ -49,7 +43,7 @@ returns g c =
       place = on_ok _ _ c.flush.result flushed.written (λ none. behind c.flush.new.self.at c.flush.new.self.len _ o.at o.len count flushed.place copied.place c.requires.empty none);
       size = flushed.size ∙ copied.size;
       writes = λ begin end low high.
-          writes_on (lawful g) (writes_reads copied.only_reads)
+          writes_on g.met.B.Bay.since_earlier (writes_reads copied.only_reads)
           (record {
             within = flushed.within begin end (subst (λ n. begin ≤ n) (sym copied.at) low) (high_as _ o.at o.len count end copied.place c.requires.empty high);
             kept = flushed.kept;

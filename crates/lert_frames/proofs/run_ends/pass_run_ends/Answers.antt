@@ -1,22 +1,17 @@
 use Rattle.std.proofs.Common.{◌≡◌, ℕ, ◌∙◌, arith, subst}
 use Rattle.std.proofs.lemmas.Result.{err_from_is_err_and}
-use Rattle.lert_bay.proofs.KeptLaws.{IsLawful, reads_none, reads_on}
 use Rattle.lert_frames.proofs.PassLaws.{words_none, words_more, words_short}
 use Rattle.lert_frames.specs.Steps.{PassesWords}
 use Rattle.lert_frames.proofs.FaultLaws.{not_err}
 use Rattle.lert_frames.proofs.WriteLaws.{same_err}
 use Rattle.lert_frames.specs.Calls.{bays_of}
-use Rattle.lert_frames.proofs.CallLaws.{reads_turned}
-use Rattle.lert_frames.proofs.run_ends.pass_run_ends.Given as given
+use Rattle.lert_frames.proofs.CallLaws.{reads_turned, reads_then, reads_same}
 use Rattle.lert_frames.proofs.run_ends.pass_run_ends.Goals as goal
-
-lawful : (g : given.Over) → IsLawful (bays_of g.B.Faulty g.B.Bay)
-lawful g = record { as_read = g.met.B.Bay.as_read; since_now = g.met.B.Bay.since_now; only_now = g.met.B.Bay.only_now; since_earlier = g.met.B.Bay.since_earlier }
 
 pub loop-word-init : goal.loop-word-init
 loop-word-init g c = record {
   passes = words_none _ c.args.bay.now c.args.ends.now c.none-found.result c.none-found.ensures;
-  reads = reads_none _ (lawful g) c.args.bay.now ⊥ (λ never. never);
+  reads = reads_same (bays_of g.B.Faulty g.B.Bay) g.met.B.Bay.only_now (λ never. never);
 }
 
 pub pass_word-requires : goal.pass_word-requires
@@ -44,7 +39,7 @@ loop-word-preserved g c =
             come = λ seen told. one.come seen (now.reads.seen ∙ told);
             read = λ seen told. one.bytes seen (now.reads.seen ∙ told);
           }) more.counted more.few;
-      reads = reads_on _ (lawful g) c.args.bay.now c.loop-word.bay c.pass_word.new.bay ⊥ ⊥ now.reads
+      reads = reads_then g.met.B.Bay.since_earlier now.reads
           (reads_turned (λ never. absurd never) one.only_reads);
     }
 
@@ -60,7 +55,7 @@ returns-in_err-pass_word g c =
       end = λ seen told at is. one.end seen (now.reads.seen ∙ told) at (same_err _ _ is);
       within = omega (arith, one.within, now.passes.place, c.loop-word-test.true);
       room = one.room ∙ now.passes.room;
-      only_reads = reads_on _ (lawful g) c.args.bay.now c.loop-word.bay c.pass_word.new.bay ⊥ _ now.reads
+      only_reads = reads_then g.met.B.Bay.since_earlier now.reads
           (reads_turned (λ is. same_err _ _ is) one.only_reads);
     })
 

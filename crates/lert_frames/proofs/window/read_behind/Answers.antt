@@ -48,7 +48,8 @@ returns g c =
       small =
           All-from_get_or (λ byte. byte < 256) (put_mid c.args.from (length old - c.args.from) old c.read_at.new.into) 0
           (λ k below. (c.type_inv.into k).fits);
-      within = IfOk-weaker c.read_at.result _ _ (λ read few. at_most c.args.from read (length c.read_at.new.into) _ few (long c.args.from c.args.into.now c.read_at.new.into c.requires)) c.read_at.ensures.within;
+      within = IfOk-weaker c.read_at.result _ _
+          (λ read few. at_most c.args.from read (length c.read_at.new.into) _ few (long c.args.from c.args.into.now c.read_at.new.into c.requires)) c.read_at.ensures.within;
       told = λ seen told.
           IfOk-weaker c.read_at.result _ _
           (λ read copies. subst (λ (bytes : List ℕ). CopiesFrom c.args.at read bytes (seen FRAMES)) (sym (end_is c.args.from c.args.into.now c.read_at.new.into c.requires)) copies)

@@ -1,7 +1,6 @@
 use Rattle.std.proofs.Common.{◌+◌, ◌*◌, ◌^◌, ◌<◌, ◌∙◌, ℕ, List, length, ap, sym, refl, subst, arith}
 use Rattle.std.proofs.lemmas.Result.{err_from_is_err_and}
 use Rattle.lert_bay.specs.declared.bay.TheConstants.{FRAMES}
-use Rattle.lert_bay.proofs.KeptLaws.{IsLawful, reads_on}
 use Rattle.lert_blocks.specs.Frame.{words_in}
 use Rattle.lert_blocks.specs.Text.{word_count}
 use Rattle.lert_frames.specs.Steps.{AreWords, fields_len, run_ends_left}
@@ -12,13 +11,8 @@ use Rattle.lert_frames.proofs.FieldLaws.{fields_told, head_fits}
 use Rattle.lert_frames.proofs.OrderLaws.{here}
 use Rattle.lert_frames.proofs.StepLaws.{next_fits, steps_begun, steps_unbegun}
 use Rattle.lert_frames.proofs.WriteLaws.{same_err}
-use Rattle.lert_frames.specs.Calls.{bays_of}
-use Rattle.lert_frames.proofs.CallLaws.{reads_turned}
-use Rattle.lert_frames.proofs.decoder.Decoder.begin.Given as given
+use Rattle.lert_frames.proofs.CallLaws.{reads_turned, reads_then}
 use Rattle.lert_frames.proofs.decoder.Decoder.begin.Goals as goal
-
-lawful : (g : given.Over) → IsLawful (bays_of g.B.Faulty g.B.Bay)
-lawful g = record { as_read = g.met.B.Bay.as_read; since_now = g.met.B.Bay.since_now; only_now = g.met.B.Bay.only_now; since_earlier = g.met.B.Bay.since_earlier }
 
 next_too : (next : ℕ) → 64 * next < 2 ^ 64 → next + 1 < 2 ^ 64
 next_too next fits = omega (arith, fits)
@@ -86,7 +80,7 @@ returns-in_err-pass_fields g c =
     (fields_told head (at_hand near) xs near (seen FRAMES) refl (asked.ahead.come seen told) asked.fields) asked.fits
     ∙ ((λ i. run_ends_left (sym asked.ahead.place i) (length (seen FRAMES)) (sym (asked.ahead.come seen told) i))
     ∙ passed.malformed seen (asked.only_reads.seen ∙ told) at (err_of _ _ is)))
-    (reads_on _ (lawful g) before between after _ _ asked.only_reads (reads_turned (λ is. same_err _ _ is) passed.only_reads)))
+    (reads_then g.met.B.Bay.since_earlier asked.only_reads (reads_turned (λ is. same_err _ _ is) passed.only_reads)))
 
 pub begun-self-requires : goal.begun-self-requires
 begun-self-requires g c = next_fits c.args.self.now c.requires.more
@@ -122,4 +116,4 @@ returns g c =
     (λ seen told. (λ i. run_ends_left (sym asked.ahead.place i) (length (seen FRAMES)) (sym (asked.ahead.come seen told) i)) ∙ passed.agree seen (asked.only_reads.seen ∙ told))
     (λ seen told. subst (λ (xs : List ℕ). AreWords (words_in xs) (word_count head.count) (to_come c.pass_fields.new.ends (seen FRAMES))) (asked.ahead.come seen told)
     (passed.words seen (asked.only_reads.seen ∙ told)))
-    (reads_on _ (lawful g) before between after _ _ asked.only_reads (reads_turned (λ is. absurd (not_err _ _ is)) passed.only_reads))
+    (reads_then g.met.B.Bay.since_earlier asked.only_reads (reads_turned (λ is. absurd (not_err _ _ is)) passed.only_reads))

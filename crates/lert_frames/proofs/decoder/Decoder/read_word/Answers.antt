@@ -3,7 +3,6 @@ use Rattle.std.specs.Vec.{with_items}
 use Rattle.std.proofs.lemmas.List.{with_items_is}
 use Rattle.std.proofs.lemmas.Result.{err_from_is_err_and}
 use Rattle.lert_bay.specs.declared.bay.TheConstants.{FRAMES}
-use Rattle.lert_bay.proofs.KeptLaws.{IsLawful, reads_on}
 use Rattle.lert_frames.specs.Steps.{AreEnds}
 use Rattle.lert_frames.specs.Window.{count_of, to_come}
 use Rattle.lert_frames.proofs.AheadLaws.{ahead_none, ahead_since, standing_ahead, window_near, ends_near}
@@ -11,13 +10,8 @@ use Rattle.lert_frames.proofs.FaultLaws.{not_err}
 use Rattle.lert_frames.proofs.SlotLaws.{hand_from, hand_read}
 use Rattle.lert_frames.proofs.OrderLaws.{here}
 use Rattle.lert_frames.proofs.WriteLaws.{same_err}
-use Rattle.lert_frames.specs.Calls.{bays_of}
-use Rattle.lert_frames.proofs.CallLaws.{reads_turned}
-use Rattle.lert_frames.proofs.decoder.Decoder.read_word.Given as given
+use Rattle.lert_frames.proofs.CallLaws.{reads_turned, reads_then}
 use Rattle.lert_frames.proofs.decoder.Decoder.read_word.Goals as goal
-
-lawful : (g : given.Over) → IsLawful (bays_of g.B.Faulty g.B.Bay)
-lawful g = record { as_read = g.met.B.Bay.as_read; since_now = g.met.B.Bay.since_now; only_now = g.met.B.Bay.only_now; since_earlier = g.met.B.Bay.since_earlier }
 
 -- the slots that were read
 module _ (some words count had : ℕ) (is : count ≡ min (min (min some 72) (64 * words)) (had / 8)) where
@@ -95,7 +89,7 @@ returns-in_err-count g c =
       hand = tt;
       slots = λ seen told. tt;
       failed = read.failed;
-      only_reads = reads_on _ (lawful g) before between after _ _ word.only_reads (reads_turned (λ is. same_err _ _ is) read.only_reads);
+      only_reads = reads_then g.met.B.Bay.since_earlier word.only_reads (reads_turned (λ is. same_err _ _ is) read.only_reads);
     })
 
 pub returns : goal.returns
@@ -129,5 +123,5 @@ returns g c =
           (ap (take count) (with_items_is old.slots c.read_slots.new.into (c.read_slots.auto.into ∙ c.deref_mut.ensures.len)) ∙ read.slots)
           (λ few. read.all seen (word.only_reads.seen ∙ told) few ∙ sym (read.ahead.come seen (word.only_reads.seen ∙ told)));
       failed = tt;
-      only_reads = reads_on _ (lawful g) before between after _ _ word.only_reads (reads_turned (λ is. absurd (not_err _ _ is)) read.only_reads);
+      only_reads = reads_then g.met.B.Bay.since_earlier word.only_reads (reads_turned (λ is. absurd (not_err _ _ is)) read.only_reads);
     }

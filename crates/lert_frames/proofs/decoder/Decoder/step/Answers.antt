@@ -5,7 +5,6 @@ use Rattle.lert_frames.specs.Steps.{Steps}
 use Rattle.lert_frames.proofs.OrderLaws.{here}
 use Rattle.lert_frames.proofs.WriteLaws.{on_err}
 use Rattle.lert_spec.specs.declared.piece.Piece.{Piece}
-use Rattle.lert_frames.proofs.decoder.Decoder.step.Given as given
 use Rattle.lert_frames.proofs.decoder.Decoder.step.Goals as goal
 
 -- no piece is put
@@ -22,7 +21,8 @@ pub returns-then-self-eq0 : goal.returns-then-self-eq0
 returns-then-self-eq0 g c =
     let items = c.args.pieces.now.items in
     record {
-      steps = subst (λ (put : List Piece). Steps (bays_of g.B.Faulty g.B.Bay) c.args.bay.now c.begin.new.bay c.args.self.now c.begin.new.self put c.begin.result) (sym (none_put items)) c.begin.ensures;
+      steps = subst (λ (put : List Piece). Steps (bays_of g.B.Faulty g.B.Bay) c.args.bay.now c.begin.new.bay c.args.self.now c.begin.new.self put c.begin.result)
+          (sym (none_put items)) c.begin.ensures;
       kept = take_all (length items) items (here (length items));
       none = on_err _ c.begin.result refl;
       few = omega arith;

@@ -2,7 +2,6 @@ use Rattle.std.proofs.Common.{◌≡◌, ℕ, ◌<◌, ◌≤◌, ◌+◌, ◌*�
 use Rattle.std.proofs.lemmas.List.{length-take-le, take_all}
 use Rattle.std.proofs.lemmas.Result.{err_from_is_err_and}
 use Rattle.lert_bay.specs.declared.bay.TheConstants.{FRAMES}
-use Rattle.lert_bay.proofs.KeptLaws.{IsLawful, reads_on}
 use Rattle.lert_frames.specs.declared.decoder.Decoder.{Decoder}
 use Rattle.lert_frames.specs.declared.decoder.Present.{Present}
 use Rattle.lert_frames.specs.declared.step.Word.{Word}
@@ -19,13 +18,8 @@ use Rattle.lert_frames.proofs.StepLaws.{steps_refused, steps_since}
 use Rattle.lert_frames.proofs.WordStepLaws.{all_decoded, all_left, spot_is, steps_word}
 use Rattle.lert_frames.proofs.WriteLaws.{same_err}
 use Rattle.lert_spec.specs.declared.piece.Piece.{Piece}
-use Rattle.lert_frames.specs.Calls.{bays_of}
-use Rattle.lert_frames.proofs.CallLaws.{reads_turned}
-use Rattle.lert_frames.proofs.decoder.Decoder.word.Given as given
+use Rattle.lert_frames.proofs.CallLaws.{reads_turned, reads_then}
 use Rattle.lert_frames.proofs.decoder.Decoder.word.Goals as goal
-
-lawful : (g : given.Over) → IsLawful (bays_of g.B.Faulty g.B.Bay)
-lawful g = record { as_read = g.met.B.Bay.as_read; since_now = g.met.B.Bay.since_now; only_now = g.met.B.Bay.only_now; since_earlier = g.met.B.Bay.since_earlier }
 
 -- ---- numbers
 
@@ -241,7 +235,7 @@ returns-in-Err g c =
           fault.here (λ past n named. fault.end past seen (read.only_reads.seen ∙ told) n named) is)
           (all_left middle.width middle.block.first middle.block.from (c.in-Err.at - middle.block.from) middle.block.walk there _ items behind (slots_there some ends slots) now_is
           (hand_there some ends slots word.ends word.count items hand) found))
-          (reads_on _ (lawful g) before between after _ _ read.only_reads (reads_turned (λ is. fault_is _ _ is) fault.only_reads)));
+          (reads_then g.met.B.Bay.since_earlier read.only_reads (reads_turned (λ is. fault_is _ _ is) fault.only_reads)));
       kept = kept_same c.truncate.new.self.items c.args.pieces.now.items same;
       none = same;
       few = few_same c.truncate.new.self.items c.args.pieces.now.items same;

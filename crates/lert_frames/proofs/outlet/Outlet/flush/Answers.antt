@@ -3,18 +3,13 @@ use Rattle.std.proofs.lemmas.Bool.{false≢true}
 use Rattle.std.proofs.lemmas.Result.{err_from_is_err_and}
 use Rattle.lert_bay.specs.declared.bay.TheConstants.{FRAMES}
 use Rattle.lert_bay.specs.Files.{Changes, Files, Holds}
-use Rattle.lert_bay.proofs.KeptLaws.{IsLawful, keeps_none}
 use Rattle.lert_frames.specs.Outlet.{IsOut}
-use Rattle.lert_frames.proofs.CallLaws.{same_files}
+use Rattle.lert_frames.proofs.CallLaws.{reads_same, same_files}
 use Rattle.lert_frames.proofs.OutletLaws.{out_flushed}
 use Rattle.lert_frames.proofs.OrderLaws.{here}
-use Rattle.lert_frames.proofs.WithinLaws.{turns_to, within_same}
+use Rattle.lert_frames.proofs.WithinLaws.{turns_to, within_reads}
 use Rattle.lert_frames.specs.Calls.{bays_of}
-use Rattle.lert_frames.proofs.outlet.Outlet.flush.Given as given
 use Rattle.lert_frames.proofs.outlet.Outlet.flush.Goals as goal
-
-lawful : (g : given.Over) → IsLawful (bays_of g.B.Faulty g.B.Bay)
-lawful g = record { as_read = g.met.B.Bay.as_read; since_now = g.met.B.Bay.since_now; only_now = g.met.B.Bay.only_now; since_earlier = g.met.B.Bay.since_earlier }
 
 -- ---- the bytes that aren't written
 
@@ -38,8 +33,8 @@ returns-then-self-eq0 g c =
       place = refl;
       size = refl;
       at = here o.at;
-      within = λ begin end low high. within_same _ begin end (lawful g) bay;
-      kept = keeps_none _ (lawful g) bay _ (λ is. absurd (false≢true is));
+      within = λ begin end low high. within_reads _ begin end bay bay ⊥ (reads_same (bays_of g.B.Faulty g.B.Bay) g.met.B.Bay.only_now (λ never. never));
+      kept = (reads_same (bays_of g.B.Faulty g.B.Bay) g.met.B.Bay.only_now (λ is. absurd (false≢true is))).kept;
     }
 
 pub returns-in_err-write_bytes : goal.returns-in_err-write_bytes

@@ -2,23 +2,18 @@ use Rattle.std.proofs.Common.{◌≡◌, ◌∙◌, ℕ, ◌-◌, ◌≤◌, sym
 use Rattle.std.proofs.lemmas.Bool.{false≢true}
 use Rattle.lert_bay.specs.Files.{Files}
 use Rattle.lert_bay.specs.declared.bay.TheConstants.{FRAMES}
-use Rattle.lert_bay.proofs.KeptLaws.{IsLawful}
 use Rattle.lert_frames.specs.Outlet.{IsOut}
 use Rattle.lert_frames.proofs.CallLaws.{writes_none, same_files}
 use Rattle.lert_frames.proofs.WriteLaws.{on_ok}
 use Rattle.lert_frames.specs.Calls.{bays_of}
-use Rattle.lert_frames.proofs.outlet.Outlet.make_room.Given as given
 use Rattle.lert_frames.proofs.outlet.Outlet.make_room.Goals as goal
-
-lawful : (g : given.Over) → IsLawful (bays_of g.B.Faulty g.B.Bay)
-lawful g = record { as_read = g.met.B.Bay.as_read; since_now = g.met.B.Bay.since_now; only_now = g.met.B.Bay.only_now; since_earlier = g.met.B.Bay.since_earlier }
 
 pub returns-then-count-room-clause-out : goal.returns-then-count-room-clause-out
 returns-then-count-room-clause-out g c seen told later told_later begin text out =
     subst (λ (files : Files). IsOut begin text (files FRAMES) c.args.self.now) (same_files seen later (sym told ∙ told_later)) out
 
 pub returns-then-count-room-clause-writes : goal.returns-then-count-room-clause-writes
-returns-then-count-room-clause-writes g c begin end low high = writes_none (lawful g) (λ is. absurd (false≢true is))
+returns-then-count-room-clause-writes g c begin end low high = writes_none (bays_of g.B.Faulty g.B.Bay) g.met.B.Bay.only_now (λ is. absurd (false≢true is))
 
 -- an outlet that has written all has room for what its buffer holds
 room_behind : (count size was len : ℕ) → count ≤ was → size ≡ was → len ≡ 0 → count ≤ size - len

@@ -3,7 +3,6 @@ use Rattle.std.specs.Prelude.{option_to_list}
 use Rattle.std.proofs.lemmas.Result.{err_from_is_err_and}
 use Rattle.lert_bay.specs.declared.bay.TheConstants.{FRAMES}
 use Rattle.lert_bay.specs.Files.{Files}
-use Rattle.lert_bay.proofs.KeptLaws.{IsLawful, reads_none}
 use Rattle.lert_frames.specs.InOrder.{gave_given}
 use Rattle.lert_frames.specs.Place.{tail_limit}
 use Rattle.lert_spec.specs.declared.piece.Piece.{Piece}
@@ -12,13 +11,9 @@ use Rattle.lert_frames.proofs.FaultLaws.{not_err, ok_not_err, err_not_ok, some_n
 use Rattle.lert_frames.proofs.ToComeLaws.{same_to_come_on, left_before, told_stays, broken_stays, broken_untold, handed_broken, handed_gave, handed_over}
 use Rattle.lert_frames.proofs.ToComeLaws.{handed_untold, handed_within, handed_none, told_first, told_next, given_within, given_all}
 use Rattle.lert_frames.proofs.WriteLaws.{same_err}
+use Rattle.lert_frames.proofs.CallLaws.{reads_turned, reads_same}
 use Rattle.lert_frames.specs.Calls.{bays_of}
-use Rattle.lert_frames.proofs.CallLaws.{reads_turned}
-use Rattle.lert_frames.proofs.read.FrameReaderPieces.next.Given as given
 use Rattle.lert_frames.proofs.read.FrameReaderPieces.next.Goals as goal
-
-lawful : (g : given.Over) → IsLawful (bays_of g.B.Faulty g.B.Bay)
-lawful g = record { as_read = g.met.B.Bay.as_read; since_now = g.met.B.Bay.since_now; only_now = g.met.B.Bay.only_now; since_earlier = g.met.B.Bay.since_earlier }
 
 -- ---- a piece that was ready
 
@@ -29,7 +24,7 @@ returns-in-Some g c =
     let after = c.give.new.self in
     let files = g.B.Bay.files bay in
     let hands = subst (λ (piece : Option Piece). HandsOut self after piece) c.in-Some.is c.give.ensures in
-    let none = reads_none _ (lawful g) bay ⊥ (λ none. none) in
+    let none = reads_same (bays_of g.B.Faulty g.B.Bay) g.met.B.Bay.only_now (λ none. none) in
     record {
       told = λ ps told. told_first files self after c.in-Some.piece ps hands told;
       untold = handed_untold self after _ hands files;
@@ -51,7 +46,7 @@ returns-in-Some g c =
       wide = hands.wide;
       within = λ seen told within. handed_within self after _ hands (seen FRAMES) within;
       over = λ is. absurd (some_not_none _ is);
-      only_reads = reads_none _ (lawful g) bay _ (λ is. not_err _ _ is);
+      only_reads = reads_same (bays_of g.B.Faulty g.B.Bay) g.met.B.Bay.only_now (λ is. not_err _ _ is);
     }
 
 -- ---- where none was

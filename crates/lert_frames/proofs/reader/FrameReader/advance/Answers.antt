@@ -75,7 +75,8 @@ invariant_of-self g c =
     let items_are = kept_behind c.settle-self.result c.len-before.result self.pieces.items c.step.new.pieces.items c.settle-self.new.pieces.items from_is e.kept c.settle-self.ensures.kept in
     record {
       reading = reading_on self.settings self.level self.place self.wide self.sum c.settle-self.result self.decoder c.step.new.self self.pieces.items put c.settle-self.new.pieces.items
-          _ _ self.given self.gave self.reading less_is items_are e.steps.ascend e.steps.counts e.steps.floor e.steps.limit e.steps.bounded (c.settle-self.ensures.capacity ∙ e.capacity) e.steps.between;
+          _ _ self.given self.gave self.reading less_is items_are
+          e.steps.ascend e.steps.counts e.steps.floor e.steps.limit e.steps.bounded (c.settle-self.ensures.capacity ∙ e.capacity) e.steps.between;
     }
 
 pub returns-in-Ok : goal.returns-in-Ok

@@ -3,7 +3,6 @@ use Rattle.std.specs.Prelude.{option_to_list}
 use Rattle.std.proofs.lemmas.Result.{err_from_is_err_and}
 use Rattle.lert_bay.specs.declared.bay.TheConstants.{FRAMES}
 use Rattle.lert_bay.specs.Files.{IfTold}
-use Rattle.lert_bay.proofs.KeptLaws.{IsLawful, reads_none, reads_on}
 use Rattle.lert_spec.specs.Table.{total, AreGiven}
 use Rattle.lert_frames.specs.Frame.{frame_left}
 use Rattle.lert_frames.specs.Place.{frame_place, tail_limit}
@@ -11,13 +10,10 @@ use Rattle.lert_frames.specs.ToCome.{IsOver}
 use Rattle.lert_frames.proofs.CheckLaws.{total_grows, whole_bin, left_started, whole_from, stands_from}
 use Rattle.lert_frames.proofs.FaultLaws.{not_err}
 use Rattle.lert_frames.proofs.WriteLaws.{same_err}
+use Rattle.lert_frames.proofs.CallLaws.{reads_turned, reads_then, reads_same}
 use Rattle.lert_frames.specs.Calls.{bays_of}
-use Rattle.lert_frames.proofs.CallLaws.{reads_turned}
 use Rattle.lert_frames.proofs.reader.FrameReader.check.Given as given
 use Rattle.lert_frames.proofs.reader.FrameReader.check.Goals as goal
-
-lawful : (g : given.Over) → IsLawful (bays_of g.B.Faulty g.B.Bay)
-lawful g = record { as_read = g.met.B.Bay.as_read; since_now = g.met.B.Bay.since_now; only_now = g.met.B.Bay.only_now; since_earlier = g.met.B.Bay.since_earlier }
 
 pub loop-piece-init : goal.loop-piece-init
 loop-piece-init g c = record {
@@ -27,7 +23,7 @@ loop-piece-init g c = record {
   wide = refl;
   breaks = λ at. (λ same. same, λ same. same);
   within = λ seen told. c.start.ensures.within (seen FRAMES);
-  only_reads = reads_none _ (lawful g) c.args.bay.now ⊥ (λ none. none);
+  only_reads = reads_same (bays_of g.B.Faulty g.B.Bay) g.met.B.Bay.only_now (λ none. none);
 }
 
 pub loop-piece-preserved : goal.loop-piece-preserved
@@ -41,7 +37,7 @@ loop-piece-preserved g c =
       wide = e.wide ∙ is.wide;
       breaks = λ at. (λ later. (is.breaks at).0 ((e.breaks at).0 later), λ before. (e.breaks at).1 ((is.breaks at).1 before));
       within = λ seen told. e.within seen (is.only_reads.seen ∙ told) (is.within seen told);
-      only_reads = reads_on _ (lawful g) c.args.bay.now c.loop-piece.bay c.next.new.ctx ⊥ ⊥ is.only_reads e.keeps;
+      only_reads = reads_then g.met.B.Bay.since_earlier is.only_reads e.keeps;
     }
 
 smaller_by : (wide later before more after : ℕ) → before < more → after ≡ more → after ≤ later → later ≡ wide → later - after < wide - before
@@ -70,7 +66,7 @@ returns-in_err-_piece-clause-malformed g c seen told at =
 pub returns-in_err-_piece-clause-only_reads : goal.returns-in_err-_piece-clause-only_reads
 returns-in_err-_piece-clause-only_reads g c =
     let p = err_from_is_err_and c.from_residual.result c.from_residual.ensures.1 in
-    rw (p.1, p.2) (reads_on _ (lawful g) c.args.bay.now c.loop-piece.bay c.next.new.ctx ⊥ _ c.loop-piece.invariant.only_reads
+    rw (p.1, p.2) (reads_then g.met.B.Bay.since_earlier c.loop-piece.invariant.only_reads
     (reads_turned (same_err _ _) c.in_err-_piece.ensures.only_reads))
 
 -- ---- at the end
@@ -110,5 +106,5 @@ returns-clause-stands g c seen told =
 
 pub returns-clause-only_reads : goal.returns-clause-only_reads
 returns-clause-only_reads g c =
-    reads_on _ (lawful g) c.args.bay.now c.loop-piece.bay c.next.new.ctx ⊥ _ c.loop-piece.invariant.only_reads
+    reads_then g.met.B.Bay.since_earlier c.loop-piece.invariant.only_reads
     (reads_turned (λ failed. not_err _ _ failed) c.in_ok-_piece.ensures.keeps)

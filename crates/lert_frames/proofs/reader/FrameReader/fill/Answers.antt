@@ -1,20 +1,15 @@
 use Rattle.std.proofs.Common.{◌∙◌, Some, refl, ap}
 use Rattle.std.proofs.lemmas.Result.{err_from_is_err_and}
 use Rattle.lert_bay.specs.declared.bay.TheConstants.{FRAMES}
-use Rattle.lert_bay.proofs.KeptLaws.{IsLawful, reads_none, reads_on}
 use Rattle.lert_frames.specs.Decoded.{decoder_found}
 use Rattle.lert_frames.specs.Reading.{verdict}
 use Rattle.lert_frames.specs.ToCome.{known_or}
 use Rattle.lert_frames.proofs.FaultLaws.{not_failed, place_is}
 use Rattle.lert_frames.proofs.ToComeLaws.{same_frame_on, same_to_come_on, left_before}
 use Rattle.lert_frames.proofs.WriteLaws.{same_err}
+use Rattle.lert_frames.proofs.CallLaws.{reads_turned, reads_then, reads_same}
 use Rattle.lert_frames.specs.Calls.{bays_of}
-use Rattle.lert_frames.proofs.CallLaws.{reads_turned}
-use Rattle.lert_frames.proofs.reader.FrameReader.fill.Given as given
 use Rattle.lert_frames.proofs.reader.FrameReader.fill.Goals as goal
-
-lawful : (g : given.Over) → IsLawful (bays_of g.B.Faulty g.B.Bay)
-lawful g = record { as_read = g.met.B.Bay.as_read; since_now = g.met.B.Bay.since_now; only_now = g.met.B.Bay.only_now; since_earlier = g.met.B.Bay.since_earlier }
 
 pub loop-self-init : goal.loop-self-init
 loop-self-init g c =
@@ -25,7 +20,7 @@ loop-self-init g c =
       frame = e.frame;
       to_come = λ seen told. e.to_come (seen FRAMES);
       within = λ seen told. e.within (seen FRAMES);
-      only_reads = reads_none _ (lawful g) c.args.bay.now ⊥ (λ none. none);
+      only_reads = reads_same (bays_of g.B.Faulty g.B.Bay) g.met.B.Bay.only_now (λ none. none);
     }
 
 pub loop-self-preserved : goal.loop-self-preserved
@@ -38,7 +33,7 @@ loop-self-preserved g c =
       frame = same_frame_on c.args.self.now c.loop-self.self c.advance.new.self is.frame e.frame;
       to_come = λ seen told. same_to_come_on c.args.self.now c.loop-self.self c.advance.new.self (seen FRAMES) (is.to_come seen told) (e.to_come seen (is.only_reads.seen ∙ told));
       within = λ seen told within. e.within seen (is.only_reads.seen ∙ told) (is.within seen told within);
-      only_reads = reads_on _ (lawful g) c.args.bay.now c.loop-self.bay c.advance.new.bay ⊥ ⊥ is.only_reads
+      only_reads = reads_then g.met.B.Bay.since_earlier is.only_reads
           (reads_turned (λ none. absurd none) e.only_reads);
     }
 
@@ -63,7 +58,7 @@ returns-in-Some g c =
           ap (λ fault. known_or fault (verdict self.sum self.place (decoder_found self.decoder (seen FRAMES)))) c.in-Some.is ∙ ap Some (place_is c.in-Some.at at is);
       over = tt;
       within = λ seen told within. tt;
-      only_reads = reads_none _ (lawful g) c.args.bay.now _ (λ is. not_failed _ _ refl is);
+      only_reads = reads_same (bays_of g.B.Faulty g.B.Bay) g.met.B.Bay.only_now (λ is. not_failed _ _ refl is);
     }
 
 -- ---- a step that stops
@@ -80,7 +75,7 @@ returns-in_err-advance g c =
       malformed = λ seen told at broken. left_before self c.loop-self.self (seen FRAMES) at (is.to_come seen told) (e.malformed seen (is.only_reads.seen ∙ told) at (same_err _ _ broken));
       over = tt;
       within = λ seen told within. tt;
-      only_reads = reads_on _ (lawful g) c.args.bay.now c.loop-self.bay c.advance.new.bay ⊥ _ is.only_reads
+      only_reads = reads_then g.met.B.Bay.since_earlier is.only_reads
           (reads_turned (λ is. same_err _ _ is) e.only_reads);
     })
 

@@ -1,17 +1,11 @@
-use Rattle.std.proofs.Common.{◌≡◌, ◌∙◌, refl, arith}
+use Rattle.std.proofs.Common.{◌≡◌, refl, arith}
 use Rattle.std.proofs.lemmas.Result.{err_from_is_err_and}
 use Rattle.lert_bay.specs.declared.bay.TheConstants.{FRAMES}
 use Rattle.lert_frames.specs.Place.{block_count}
 use Rattle.lert_frames.proofs.CallLaws.{told_then}
 use Rattle.lert_frames.proofs.ProceedLaws.{frame_writes, frame_outside, holds_same, proceeds_as, proceeds_on}
 use Rattle.lert_frames.proofs.WriteLaws.{on_ok}
-use Rattle.lert_bay.proofs.KeptLaws.{IsLawful}
-use Rattle.lert_frames.specs.Calls.{bays_of}
-use Rattle.lert_frames.proofs.writer.FrameWriter.end.Given as given
 use Rattle.lert_frames.proofs.writer.FrameWriter.end.Goals as goal
-
-lawful : (g : given.Over) → IsLawful (bays_of g.B.Faulty g.B.Bay)
-lawful g = record { as_read = g.met.B.Bay.as_read; since_now = g.met.B.Bay.since_now; only_now = g.met.B.Bay.only_now; since_earlier = g.met.B.Bay.since_earlier }
 
 pub reach-requires : goal.reach-requires
 reach-requires g c = omega (arith, c.last_block.ensures)
@@ -41,7 +35,7 @@ returns-in_err-reach g c =
 pub returns : goal.returns
 returns g c =
     let one = c.in_ok-reach.ensures in
-    let both = proceeds_on (lawful g) one.proceeds c.end_last.ensures.proceeds in
+    let both = proceeds_on g.met.B.Bay.since_earlier one.proceeds c.end_last.ensures.proceeds in
     record {
       stands = on_ok _ _ c.end_last.result c.end_last.ensures.stands (λ ends seen told writing later told_later.
           let mid = told_then one.proceeds.writes.within told in

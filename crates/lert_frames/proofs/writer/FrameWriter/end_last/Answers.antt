@@ -28,8 +28,8 @@ returns-in-Err-clause-proceeds g c =
 pub invariant_of-self-2-clause-holding : goal.invariant_of-self-2-clause-holding
 invariant_of-self-2-clause-holding g c =
     let w = c.args.self.now in
-    growing_again w.growing w.holding c.restart-2.new.outlet c.close_last.new.ends c.restart-2.new.block.len (omega (arith, c.restart-2.ensures.size, c.in_default.ensures.size)) c.in_default.ensures.ends_size
-    c.restart-2.ensures.len c.restart-2.ensures.place (omega (arith, c.restart-2.ensures.at))
+    growing_again w.growing w.holding c.restart-2.new.outlet c.close_last.new.ends c.restart-2.new.block.len (omega (arith, c.restart-2.ensures.size, c.in_default.ensures.size))
+    c.in_default.ensures.ends_size c.restart-2.ensures.len c.restart-2.ensures.place (omega (arith, c.restart-2.ensures.at))
 
 pub returns : goal.returns
 returns g c =

@@ -11,19 +11,14 @@ use Rattle.lert_frames.specs.Writing.{end_of}
 use Rattle.lert_frames.proofs.GrowingLaws.{growing_flushed, growing_long, long_fits}
 use Rattle.lert_frames.proofs.ProceedLaws.{proceeds_none, stays_none}
 use Rattle.lert_frames.proofs.WritingLaws.{behind_long}
-use Rattle.lert_bay.proofs.KeptLaws.{IsLawful}
 use Rattle.lert_frames.specs.Calls.{bays_of}
-use Rattle.lert_frames.proofs.writer.FrameWriter.long_block.Given as given
 use Rattle.lert_frames.proofs.writer.FrameWriter.long_block.Goals as goal
-
-lawful : (g : given.Over) → IsLawful (bays_of g.B.Faulty g.B.Bay)
-lawful g = record { as_read = g.met.B.Bay.as_read; since_now = g.met.B.Bay.since_now; only_now = g.met.B.Bay.only_now; since_earlier = g.met.B.Bay.since_earlier }
 
 pub returns-in-Some : goal.returns-in-Some
 returns-in-Some g c =
     let w = c.args.self.now in
     record {
-      proceeds = proceeds_none (lawful g) (record { settings = refl; level = refl; frame = refl; width = refl; place = refl; put = refl; left = refl })
+      proceeds = proceeds_none (bays_of g.B.Faulty g.B.Bay) g.met.B.Bay.only_now (record { settings = refl; level = refl; frame = refl; width = refl; place = refl; put = refl; left = refl })
           (λ e. absurd (false≢true e));
       stays = stays_none (bays_of g.B.Faulty g.B.Bay) w c.args.bay.now;
       number = refl;

@@ -2,18 +2,13 @@ use Rattle.std.proofs.Common.{◌≡◌, ◌∙◌, ℕ, ◌+◌, ◌≤◌, ◌
 use Rattle.std.specs.Bool.{IsTrue}
 use Rattle.std.proofs.lemmas.Bool.{cases_lt, false≢true, true≢false}
 use Rattle.lert_frames.proofs.ProceedLaws.{proceeds_none, stays_none}
-use Rattle.lert_bay.proofs.KeptLaws.{IsLawful}
 use Rattle.lert_frames.specs.Calls.{bays_of}
-use Rattle.lert_frames.proofs.writer.FrameWriter.make_room.Given as given
 use Rattle.lert_frames.proofs.writer.FrameWriter.make_room.Goals as goal
-
-lawful : (g : given.Over) → IsLawful (bays_of g.B.Faulty g.B.Bay)
-lawful g = record { as_read = g.met.B.Bay.as_read; since_now = g.met.B.Bay.since_now; only_now = g.met.B.Bay.only_now; since_earlier = g.met.B.Bay.since_earlier }
 
 pub returns-then-has_room-clause-proceeds : goal.returns-then-has_room-clause-proceeds
 returns-then-has_room-clause-proceeds g c =
     let w = c.args.self.now in
-    proceeds_none (lawful g) (record { settings = refl; level = refl; frame = refl; width = refl; place = refl; put = refl; left = refl }) (λ e. absurd (false≢true e))
+    proceeds_none (bays_of g.B.Faulty g.B.Bay) g.met.B.Bay.only_now (record { settings = refl; level = refl; frame = refl; width = refl; place = refl; put = refl; left = refl }) (λ e. absurd (false≢true e))
 
 pub returns-then-has_room-clause-stays : goal.returns-then-has_room-clause-stays
 returns-then-has_room-clause-stays g c = stays_none (bays_of g.B.Faulty g.B.Bay) c.args.self.now c.args.bay.now

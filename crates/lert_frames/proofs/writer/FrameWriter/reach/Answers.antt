@@ -1,14 +1,9 @@
 use Rattle.std.proofs.Common.{◌≡◌, refl, arith}
 use Rattle.std.proofs.lemmas.Bool.{false≢true}
-use Rattle.lert_bay.proofs.KeptLaws.{IsLawful}
 use Rattle.lert_frames.specs.Place.{block_count}
 use Rattle.lert_frames.proofs.ProceedLaws.{proceeds_none, proceeds_on, proceeds_as, stays_none, stays_on}
 use Rattle.lert_frames.specs.Calls.{bays_of}
-use Rattle.lert_frames.proofs.writer.FrameWriter.reach.Given as given
 use Rattle.lert_frames.proofs.writer.FrameWriter.reach.Goals as goal
-
-lawful : (g : given.Over) → IsLawful (bays_of g.B.Faulty g.B.Bay)
-lawful g = record { as_read = g.met.B.Bay.as_read; since_now = g.met.B.Bay.since_now; only_now = g.met.B.Bay.only_now; since_earlier = g.met.B.Bay.since_earlier }
 
 pub end_block-requires : goal.end_block-requires
 end_block-requires g c =
@@ -19,14 +14,14 @@ end_block-requires g c =
 
 pub returns-in_err-end_block-clause-proceeds : goal.returns-in_err-end_block-clause-proceeds
 returns-in_err-end_block-clause-proceeds g c =
-    proceeds_on (lawful g) c.loop-self.invariant.proceeds
+    proceeds_on g.met.B.Bay.since_earlier c.loop-self.invariant.proceeds
     (proceeds_as (λ _. refl) c.in_err-end_block.ensures.proceeds)
 
 pub loop-self-init : goal.loop-self-init
 loop-self-init g c =
     let w = c.args.self.now in
     record {
-      proceeds = proceeds_none (lawful g) (record { settings = refl; level = refl; frame = refl; width = refl; place = refl; put = refl; left = refl }) (λ never. never);
+      proceeds = proceeds_none (bays_of g.B.Faulty g.B.Bay) g.met.B.Bay.only_now (record { settings = refl; level = refl; frame = refl; width = refl; place = refl; put = refl; left = refl }) (λ never. never);
       stays = stays_none (bays_of g.B.Faulty g.B.Bay) w c.args.bay.now;
       from = omega arith;
       upto = omega arith;
@@ -37,7 +32,7 @@ loop-self-preserved g c =
     let inv = c.loop-self.invariant in
     let step = c.in_ok-end_block.ensures in
     record {
-      proceeds = proceeds_on (lawful g) inv.proceeds
+      proceeds = proceeds_on g.met.B.Bay.since_earlier inv.proceeds
           (proceeds_as (λ never. absurd never) step.proceeds);
       stays = stays_on inv.proceeds inv.stays step.stays;
       from = omega (arith, inv.from, step.number);

@@ -6,13 +6,7 @@ use Rattle.lert_frames.specs.declared.writer.FrameWriter.{FrameWriter}
 use Rattle.lert_frames.proofs.ProceedLaws.{proceeds_as, proceeds_on, stays_on}
 use Rattle.lert_frames.proofs.WritingLaws.{block_within}
 use Rattle.lert_frames.proofs.WriteLaws.{on_ok}
-use Rattle.lert_bay.proofs.KeptLaws.{IsLawful}
-use Rattle.lert_frames.specs.Calls.{bays_of}
-use Rattle.lert_frames.proofs.writer.FrameWriter.ready.Given as given
 use Rattle.lert_frames.proofs.writer.FrameWriter.ready.Goals as goal
-
-lawful : (g : given.Over) → IsLawful (bays_of g.B.Faulty g.B.Bay)
-lawful g = record { as_read = g.met.B.Bay.as_read; since_now = g.met.B.Bay.since_now; only_now = g.met.B.Bay.only_now; since_earlier = g.met.B.Bay.since_earlier }
 
 -- a remainder is shorter than a word
 narrow : (w : FrameWriter) → w.width < 64
@@ -41,7 +35,7 @@ returns-in_err-reach g c =
 pub returns : goal.returns
 returns g c = record {
   room = c.make_room.ensures.room;
-  proceeds = proceeds_on (lawful g) c.in_ok-reach.ensures.proceeds c.make_room.ensures.proceeds;
+  proceeds = proceeds_on g.met.B.Bay.since_earlier c.in_ok-reach.ensures.proceeds c.make_room.ensures.proceeds;
   stays =
       on_ok _ _ c.make_room.result c.make_room.ensures.stays
       (λ stays. stays_on c.in_ok-reach.ensures.proceeds c.in_ok-reach.ensures.stays stays);

@@ -8,13 +8,7 @@ use Rattle.lert_frames.proofs.ClosingLaws.{before_stays}
 use Rattle.lert_frames.proofs.GrowingLaws.{growing_room, growing_gone, growing_kept}
 use Rattle.lert_frames.proofs.ProceedLaws.{proceeds_on, stays_on}
 use Rattle.lert_frames.proofs.WritingLaws.{behind_some, in_block-ascend}
-use Rattle.lert_bay.proofs.KeptLaws.{IsLawful}
-use Rattle.lert_frames.specs.Calls.{bays_of}
-use Rattle.lert_frames.proofs.writer.FrameWriter.spill.Given as given
 use Rattle.lert_frames.proofs.writer.FrameWriter.spill.Goals as goal
-
-lawful : (g : given.Over) → IsLawful (bays_of g.B.Faulty g.B.Bay)
-lawful g = record { as_read = g.met.B.Bay.as_read; since_now = g.met.B.Bay.since_now; only_now = g.met.B.Bay.only_now; since_earlier = g.met.B.Bay.since_earlier }
 
 pub let_go-requires-clause-reach : goal.let_go-requires-clause-reach
 let_go-requires-clause-reach g c = let m = c.long_block.new.self in (growing_room m.growing m.holding).spilt c.in_ok-long.long c.in_ok-long.ensures.long
@@ -36,7 +30,7 @@ pub returns-in_err-gone-clause-proceeds : goal.returns-in_err-gone-clause-procee
 returns-in_err-gone-clause-proceeds g c =
     let m = c.long_block.new.self in
     let spilt = m.holding.spilt c.in_ok-long.long c.in_ok-long.ensures.long in
-    proceeds_on (lawful g) c.in_ok-long.ensures.proceeds (record {
+    proceeds_on g.met.B.Bay.since_earlier c.in_ok-long.ensures.proceeds (record {
       same = record { settings = refl; level = refl; frame = refl; width = refl; place = refl; put = refl; left = refl };
       writes = writes_as (λ _. refl)
           (c.in_err-gone.ensures.writes m.place (end_of m) spilt.at (omega (arith, spilt.reach.slots_fit)));
@@ -50,8 +44,8 @@ invariant_of-self-2 g c =
     let gone = c.in_ok-gone.ensures in
     record {
       growing = m.growing;
-      holding = growing_gone m.growing m.holding c.let_go.new.outlet c.let_go.new.ends c.let_go.new.block.len long c.in_ok-gone.gone is gone.size gone.ends_size gone.begin gone.words gone.room.0 gone.less
-          (gone.reach (m.block.len + 2 * m.left) (end_of m) (omega arith) (m.holding.spilt long is).reach);
+      holding = growing_gone m.growing m.holding c.let_go.new.outlet c.let_go.new.ends c.let_go.new.block.len long c.in_ok-gone.gone is gone.size gone.ends_size gone.begin gone.words
+          gone.room.0 gone.less (gone.reach (m.block.len + 2 * m.left) (end_of m) (omega arith) (m.holding.spilt long is).reach);
       given = m.given;
     }
 
@@ -59,7 +53,7 @@ pub returns-clause-proceeds : goal.returns-clause-proceeds
 returns-clause-proceeds g c =
     let m = c.long_block.new.self in
     let spilt = m.holding.spilt c.in_ok-long.long c.in_ok-long.ensures.long in
-    proceeds_on (lawful g) c.in_ok-long.ensures.proceeds (record {
+    proceeds_on g.met.B.Bay.since_earlier c.in_ok-long.ensures.proceeds (record {
       same = record { settings = refl; level = refl; frame = refl; width = refl; place = refl; put = refl; left = refl };
       writes = c.in_ok-gone.ensures.writes m.place (end_of m) spilt.at (omega (arith, spilt.reach.slots_fit));
     })
