@@ -70,7 +70,8 @@ module _ {S C : Type 0} (members : StreamsOf S C) (width : S → ℕ → ℕ) (s
   came_is order k pieces taken = omega (arith, ap total taken, total-append pieces (front_at order.ahead k))
 
   module _ {T : Type 0} {took : T → List Piece → Type 0} {first : Ordering S} {start : C} {lists : List (List Piece)} {now : Ordering S} {ctx : C} {totals : T} {sums : Sum}
-      (was : IsGathering members took first start lists now ctx totals sums) {new : Ordering S} {after : C} {next : ℕ × Piece} (step : HasGiven members now ctx new after next) (same_on : (a b c : S) → members.same a b → members.same b c → members.same a c) where
+      (was : IsGathering members took first start lists now ctx totals sums) {new : Ordering S} {after : C} {next : ℕ × Piece} (step : HasGiven members now ctx new after next)
+      (same_on : (a b c : S) → members.same a b → members.same b c → members.same a c) where
     abbrev n : ℕ
     n = members.count first.streams
 

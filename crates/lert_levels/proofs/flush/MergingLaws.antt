@@ -7,7 +7,7 @@ use Rattle.lert_base.specs.declared.pieces.PieceFault.TheVariants as fault
 use Rattle.lert_bay.specs.declared.bay.TheConstants.{FRAMES}
 use Rattle.lert_bay.specs.Files.{IfTold}
 use Rattle.lert_bay.specs.Kept.{Bays}
-use Rattle.lert_bay.proofs.KeptLaws.{IsLawful}
+use Rattle.lert_bay.proofs.KeptLaws.{IsLawful, reads_none}
 use Rattle.lert_levels.specs.landing.Landed.{taken}
 use Rattle.lert_levels.specs.landing.Landings.{IsOutside}
 use Rattle.lert_levels.specs.landing.Summed.{sums_of}
@@ -28,7 +28,7 @@ use Rattle.lert_levels.specs.flush.Writing.{LandingsWrite}
 use Rattle.lert_levels.proofs.flush.GatheringLaws.{IsGathering, HasGiven, nothing, gathering_none, gathering_more, gathering_on, more, part_are, tables_by}
 use Rattle.lert_levels.proofs.flush.PartLaws.{none_landed}
 use Rattle.lert_levels.proofs.flush.WholeLaws.{told_before}
-use Rattle.lert_levels.proofs.flush.SteadyLaws.{AreSteady, sure_stepped, comes_same, sure_written, apart_same, writes_none, writes_read, writes_on, writes_as}
+use Rattle.lert_levels.proofs.flush.SteadyLaws.{AreSteady, sure_stepped, comes_same, sure_written, apart_same, writes_read, writes_on, writes_as}
 
 -- what was taken so far, by the totals and by the landings
 pub record IsMerging {S B T : Type 0} (members : StreamsOf S B) (took : T → List Piece → Type 0) (bays : Bays B) (sure : S → List ℕ → Type 0) (parts : List (Option ℕ))
@@ -48,7 +48,7 @@ module _ {S B T : Type 0} {members : StreamsOf S B} {took : T → List Piece →
     lists = nothing (members.count first.streams);
     gathering = gathering_none members took first start _ _ steady.same_self unread empty none;
     landed = λ part d below. none_taken part d below ∙ sym (none_landed parts part (members.count first.streams));
-    writes = writes_none lawful landings start;
+    writes = writes_read landings (reads_none bays lawful start ⊥ (λ none. none));
     surely = surely;
   }
 
@@ -78,7 +78,7 @@ module _ {S B T : Type 0} {members : StreamsOf S B} {took : T → List Piece →
             lands part d under
             ∙ (ap (with_piece (is_of (get_or parts next.0 None) part) next.1) (was.landed part d under)
             ∙ part_are was.gathering step parts len part));
-        writes = writes_on lawful (writes_on lawful was.writes (writes_read lawful landings_now read)) (writes_as lawful (λ none. absurd none) writes);
+        writes = writes_on lawful (writes_on lawful was.writes (writes_read landings_now read)) (writes_as (λ none. absurd none) writes);
         surely = sure_written members bays width reads sure steady new.streams middle after surely turned;
       }
 

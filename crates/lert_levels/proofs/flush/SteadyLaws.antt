@@ -4,7 +4,7 @@ use Rattle.std.proofs.lemmas.List.{get_or-map, length-map}
 use Rattle.lert_bay.specs.declared.bay.TheConstants.{FRAMES}
 use Rattle.lert_bay.specs.Files.{Files, IfTold, Turns}
 use Rattle.lert_bay.specs.Kept.{Bays, OnlyReads}
-use Rattle.lert_bay.proofs.KeptLaws.{IsLawful, keeps_none, keeps_on, keeps_as}
+use Rattle.lert_bay.proofs.KeptLaws.{IsLawful, keeps_on}
 use Rattle.lert_frames.proofs.WriteLaws.{turns_back}
 use Rattle.lert_io.specs.Fault.{HasRisen}
 use Rattle.lert_levels.specs.landing.Landings.{Home, home, AreLandings, AreLanding, IsOutside}
@@ -12,11 +12,12 @@ use Rattle.lert_levels.specs.declared.landing.landing.Landing.{Landing}
 use Rattle.lert_merge.specs.order.Ordering.{Ordering, AreSame}
 use Rattle.lert_merge.specs.declared.order.streams.Streams.{Ghosts as StreamsOf}
 use Rattle.lert_levels.specs.rows.Landing.{IsApart, LeavesRest}
-use Rattle.lert_levels.proofs.rows.LandLaws.{rest_none, rest_on, rest_fewer, read_rest}
+use Rattle.lert_levels.proofs.rows.LandLaws.{rest_on, rest_fewer, read_rest}
 use Rattle.lert_spec.specs.declared.numbers.Numbers.{Numbers}
 use Rattle.lert_spec.specs.Table.{total}
 use Rattle.lert_levels.specs.flush.Staying.{ComesTheSame, NoneFailed}
 use Rattle.lert_levels.specs.flush.Writing.{LandingsWrite}
+use Rattle.lert_frames.proofs.CallLaws.{keeps_turned}
 
 -- the laws of bins
 pub record AreSteady {S B : Type 0} (members : StreamsOf S B) (bays : Bays B) (width : S → ℕ → ℕ) (reads : S → ℕ → ℕ → Type 0) (sure : S → List ℕ → Type 0) : Type 0 where
@@ -89,57 +90,39 @@ module _ (old new : List Landing) (homes : map home new ≡ map home old) where
 
 -- ---- what the landings write
 
-module _ {B : Type 0} {bays : Bays B} (lawful : IsLawful bays) where
-  landing_same : (landings : List Landing) (before after : B) → bays.files after ≡ bays.files before →
-      IfTold (bays.files before) (λ seen. AreLanding landings (seen FRAMES) → IfTold (bays.files after) (λ later. AreLanding landings (later FRAMES)))
-  landing_same landings before after same_files seen told landing later told_later =
-      let both : Some seen ≡ Some later = sym told ∙ (sym same_files ∙ told_later) in
+-- calls that read alone
+pub writes_read : {B : Type 0} {bays : Bays B} (landings : List Landing) {before after : B} {Failed : Type 0} → OnlyReads bays before after Failed →
+    LandingsWrite bays landings before landings after Failed
+writes_read {bays = bays} landings {before} {after} {Failed} read = record {
+  homes = refl;
+  landing = λ s are seen told landing later told_later. (
+      let both : Some seen ≡ Some later = sym told ∙ (sym read.seen ∙ told_later) in
       let same : seen ≡ later = cc in
-      subst (λ (files : Files). AreLanding landings (files FRAMES)) same landing
+      subst (λ (files : Files). AreLanding landings (files FRAMES)) same landing);
+  rest = read_rest bays (IsOutside landings) before after Failed read;
+  kept = read.kept;
+}
 
-  -- no call
-  pub writes_none : (landings : List Landing) (bay : B) → LandingsWrite bays landings bay landings bay ⊥
-  writes_none landings bay = record {
-    homes = refl;
-    landing = λ s are. landing_same landings bay bay refl;
-    rest = rest_none bays lawful (IsOutside landings) bay;
-    kept = keeps_none bays lawful bay ⊥ (λ none. none);
-  }
+-- calls behind others
+pub writes_on : {B : Type 0} {bays : Bays B} → IsLawful bays → {first middle last : List Landing} {a b c : B} {First Failed : Type 0} → LandingsWrite bays first a middle b First →
+    LandingsWrite bays middle b last c Failed → LandingsWrite bays first a last c Failed
+writes_on {bays = bays} lawful {first} {middle} {last} {a} {b} {c} {First} {Failed} one two = record {
+  homes = two.homes ∙ one.homes;
+  landing = λ s are seen told landing later told_later. (
+      let back = turns_back (LeavesRest (IsOutside middle)) (bays.files b) (bays.files c) later two.rest.seen told_later in
+      two.landing s (landings_same first middle one.homes s are) back.0 back.1 (one.landing s are seen told landing back.0 back.1) later told_later);
+  rest = rest_on bays lawful (IsOutside first) a b c First Failed one.kept two.kept one.rest
+      (rest_fewer bays (IsOutside middle) (IsOutside first) b c (apart_same first middle one.homes) two.rest);
+  kept = keeps_on bays lawful a b c First Failed one.kept two.kept;
+}
 
-  -- calls that read alone
-  pub writes_read : (landings : List Landing) {before after : B} {Failed : Type 0} → OnlyReads bays before after Failed → LandingsWrite bays landings before landings after Failed
-  writes_read landings {before} {after} {Failed} read = record {
-    homes = refl;
-    landing = λ s are. landing_same landings before after read.seen;
-    rest = read_rest bays (IsOutside landings) before after Failed read;
-    kept = read.kept;
-  }
-
-  -- calls behind others
-  pub writes_on : {first middle last : List Landing} {a b c : B} {First Failed : Type 0} → LandingsWrite bays first a middle b First → LandingsWrite bays middle b last c Failed →
-      LandingsWrite bays first a last c Failed
-  writes_on {first} {middle} {last} {a} {b} {c} {First} {Failed} one two = record {
-    homes = two.homes ∙ one.homes;
-    landing = λ s are seen told landing later told_later. (
-        let back = turns_back (LeavesRest (IsOutside middle)) (bays.files b) (bays.files c) later two.rest.seen told_later in
-        two.landing s (landings_same first middle one.homes s are) back.0 back.1 (one.landing s are seen told landing back.0 back.1) later told_later);
-    rest = rest_on bays lawful (IsOutside first) a b c First Failed one.kept two.kept one.rest
-        (rest_fewer bays (IsOutside middle) (IsOutside first) b c (apart_same first middle one.homes) two.rest);
-    kept = keeps_on bays lawful a b c First Failed one.kept two.kept;
-  }
-
+module _ {B : Type 0} {bays : Bays B} {before after : B} {First Failed : Type 0} where
   -- and seen as failed in other words
-  pub writes_as : {old new : List Landing} {before after : B} {First Failed : Type 0} → (Failed → First) → LandingsWrite bays old before new after First →
-      LandingsWrite bays old before new after Failed
-  writes_as {before = before} {after = after} {First = First} {Failed = Failed} turned one = record {
-    homes = one.homes;
-    landing = one.landing;
-    rest = one.rest;
-    kept = keeps_as bays lawful before after First Failed turned one.kept;
-  }
+  pub writes_as : {old new : List Landing} → (Failed → First) → LandingsWrite bays old before new after First → LandingsWrite bays old before new after Failed
+  writes_as turned one = record { homes = one.homes; landing = one.landing; rest = one.rest; kept = keeps_turned turned one.kept }
 
   -- reads of which one is said to have failed
-  pub reads_failed : {before after : B} {First Failed : Type 0} → (Failed → HasRisen (bays.faults before) (bays.faults after)) → OnlyReads bays before after First → OnlyReads bays before after Failed
+  pub reads_failed : (Failed → HasRisen (bays.faults before) (bays.faults after)) → OnlyReads bays before after First → OnlyReads bays before after Failed
   reads_failed risen read = record {
     kept = record { time = read.kept.time; never_falls = read.kept.never_falls; failed = risen; mark = read.kept.mark; journal = read.kept.journal };
     seen = read.seen;

@@ -3,7 +3,7 @@ use Rattle.std.proofs.Common.{ℕ, ◌≡◌, ◌+◌, ◌-◌, ◌<◌, ◌≤�
 use Rattle.std.proofs.Common.{ap, ◌∙◌, arith, length-set}
 use Rattle.lert_frames.specs.Frame.{frame_left, frame_pieces}
 use Rattle.lert_frames.specs.Place.{frame_place}
-use Rattle.lert_frames.specs.ToCome.{left_of, pieces_of}
+use Rattle.lert_frames.specs.ToCome.{left_of, pieces_of, IsWithin}
 use Rattle.lert_frames.specs.declared.reader.FrameReader.{FrameReader}
 use Rattle.lert_spec.specs.declared.numbers.Numbers.{Numbers}
 use Rattle.lert_spec.specs.declared.piece.Piece.{Piece}
@@ -14,15 +14,18 @@ use Rattle.lert_levels.specs.streams.Tables.{bins_at, all_streams, IsBinSet}
 use Rattle.lert_levels.proofs.streams.AskLaws.{frame_begun}
 use Rattle.lert_levels.proofs.streams.TableLaws.{reader_here, readers_with}
 
--- a reader that was started
-pub record IsStart (old new : FrameReader) (level frame width : ℕ) : Type 0 where
-  pub left : (file : List ℕ) → left_of new file ≡ frame_left new.settings new.level frame width file
-  pub pieces : (file : List ℕ) → pieces_of new file ≡ frame_pieces new.settings new.level frame file
-  pub place : new.place ≡ frame_place new.settings new.level frame
-  pub gave : new.gave ≡ []
-  pub wide : new.wide ≡ width
-  pub settings : new.settings ≡ old.settings
-  pub of_level : new.level ≡ level
+-- a reader that was started, as the call's contract says it
+abbrev pub IsStart : FrameReader → FrameReader → ℕ → ℕ → ℕ → Type 0
+IsStart old new l frame width = record {
+  left : (file : List ℕ) → left_of new file ≡ frame_left new.settings new.level frame width file;
+  pieces : (file : List ℕ) → pieces_of new file ≡ frame_pieces new.settings new.level frame file;
+  within : (file : List ℕ) → IsWithin new file;
+  place : new.place ≡ frame_place new.settings new.level frame;
+  gave : new.gave ≡ [];
+  wide : new.wide ≡ width;
+  settings : new.settings ≡ old.settings;
+  level : new.level ≡ l;
+}
 
 module _ {T K : Type 0} {bits : T → ℕ} {left : T → K → List Piece} {gave : K → List Piece} {stands : T → K → Type 0}
     {s : Numbers} {tables : List T} {cursors : List K} {capacity : ℕ} {readers : List FrameReader} {frames : ℕ}
@@ -48,13 +51,13 @@ module _ {T K : Type 0} {bits : T → ℕ} {left : T → K → List Piece} {gave
   }
 
   pub begins : {seen : BinSet} → record { settings = s; bins = all_streams (bins_at bits left gave tables cursors) frames readers; spare = length readers - frames } ≡ seen →
-      {old new : FrameReader} {level frame width : ℕ} → frames < length readers → old ≡ get_or readers frames old → IsStart old new level frame width →
+      {old : FrameReader} (new : FrameReader) {level frame width : ℕ} → frames < length readers → old ≡ get_or readers frames old → IsStart old new level frame width →
       Begins seen (record {
         settings = s;
         bins = all_streams (bins_at bits left gave tables cursors) (frames + 1) (set readers frames new);
         spare = length (set readers frames new) - (frames + 1);
       }) level frame width
-  begins {seen} is {old} {new} {level} {frame} {width} within here start =
+  begins {seen} is {old} new {level} {frame} {width} within here start =
       let same : new.settings ≡ seen.settings = start.settings ∙ reader_here s readers frames old kept.readers_are.of_settings within here ∙ ap (λ (x : BinSet). x.settings) is in
       let spare = ap (λ (x : BinSet). x.spare) is in
       record {
@@ -62,11 +65,11 @@ module _ {T K : Type 0} {bits : T → ℕ} {left : T → K → List Piece} {gave
         bins = frame_begun (bins_at bits left gave tables cursors) frames readers new within ∙ ap (λ (x : BinSet). x.bins ++ of_frame new ∷ []) is;
         settings = ap (λ (x : BinSet). x.settings) is;
         spare = omega (arith, spare, length-set readers frames new, within);
-        left = λ file. start.left file ∙ (λ i. frame_left (same i) (start.of_level i) frame width file);
-        pieces = λ file. start.pieces file ∙ (λ i. frame_pieces (same i) (start.of_level i) frame file);
+        left = λ file. start.left file ∙ (λ i. frame_left (same i) (start.level i) frame width file);
+        pieces = λ file. start.pieces file ∙ (λ i. frame_pieces (same i) (start.level i) frame file);
         gave = start.gave;
         of_settings = same;
-        of_level = start.of_level;
-        place = start.place ∙ (λ i. frame_place (same i) (start.of_level i) frame);
+        of_level = start.level;
+        place = start.place ∙ (λ i. frame_place (same i) (start.level i) frame);
         wide = start.wide;
       }

@@ -2,7 +2,6 @@ use Rattle.std.proofs.Common.{ℕ, ◌+◌, ◌<◌, ◌≤◌, ◌∙◌, lengt
 use Rattle.std.proofs.lemmas.List.{take_all, length-map}
 use Rattle.std.proofs.lemmas.Result.{err_from_is_err_and}
 use Rattle.lert_bay.specs.declared.bay.TheConstants.{FRAMES}
-use Rattle.lert_bay.proofs.KeptLaws.{IsLawful, reads_none, reads_on, reads_as}
 use Rattle.lert_frames.proofs.FaultLaws.{not_err}
 use Rattle.lert_frames.proofs.WriteLaws.{same_err}
 use Rattle.lert_spec.specs.declared.numbers.Numbers.{Numbers}
@@ -11,18 +10,15 @@ use Rattle.lert_levels.specs.rows.Rows.{IsRow}
 use Rattle.lert_levels.proofs.rows.ReadLaws.{row_here, hand_to, hand_from}
 use Rattle.lert_levels.specs.Sources.{of_bin, placed_at, AllOf, IsSecure, AreSecure}
 use Rattle.lert_levels.proofs.PlacedLaws.{rows_more}
+use Rattle.lert_frames.proofs.CallLaws.{reads_then, reads_same, reads_turned}
 use Rattle.lert_frames.specs.Calls.{bays_of}
-use Rattle.lert_levels.proofs.secure.secure_levels.Given as given
 use Rattle.lert_levels.proofs.secure.secure_levels.Goals as goal
-
-lawful : (g : given.Over) → IsLawful (bays_of g.B.Faulty g.B.Bay)
-lawful g = record { as_read = g.met.B.Bay.as_read; since_now = g.met.B.Bay.since_now; only_now = g.met.B.Bay.only_now; since_earlier = g.met.B.Bay.since_earlier }
 
 some_more : (n : ℕ) → 1 ≤ n + 1
 some_more n = omega arith
 
 pub loop-lower-init : goal.loop-lower-init
-loop-lower-init g c = record { secure = λ seen told long. tt; room = c.requires.same; only_reads = reads_none _ (lawful g) c.args.bay.now ⊥ (λ none. none) }
+loop-lower-init g c = record { secure = λ seen told long. tt; room = c.requires.same; only_reads = reads_same (bays_of g.B.Faulty g.B.Bay) g.met.B.Bay.only_now (λ none. none) }
 
 pub bounds-rows-lower : goal.bounds-rows-lower
 bounds-rows-lower g c = c.loop-lower-test.true
@@ -53,8 +49,8 @@ loop-lower-preserved g c =
           rows_more (IsSecure s (seen FRAMES)) rows i now here below (is.secure seen told long)
           (subst (λ (t : Numbers). AllOf (IsSecure t (seen FRAMES)) (map of_bin (map (placed_at (i + 1)) now))) is.room (e.secure seen (is.only_reads.seen ∙ told) long));
       room = e.room ∙ is.room;
-      only_reads = reads_on _ (lawful g) c.args.bay.now c.loop-lower.bay c.secure_row.new.bay ⊥ ⊥ is.only_reads
-          (reads_as _ (lawful g) c.loop-lower.bay c.secure_row.new.bay _ ⊥ (λ none. absurd none) e.only_reads);
+      only_reads = reads_then g.met.B.Bay.since_earlier is.only_reads
+          (reads_turned (λ none. absurd none) e.only_reads);
     }
 
 pub returns : goal.returns
@@ -65,7 +61,7 @@ returns g c = record {
       (c.loop-lower.invariant.secure seen told long);
   malformed = λ seen told at is. absurd (not_err _ _ is);
   room = c.loop-lower.invariant.room;
-  only_reads = reads_as _ (lawful g) c.args.bay.now c.loop-lower.bay ⊥ _ (λ is. not_err _ _ is) c.loop-lower.invariant.only_reads;
+  only_reads = reads_turned (λ is. not_err _ _ is) c.loop-lower.invariant.only_reads;
 }
 
 -- ---- a row that failed
@@ -89,6 +85,6 @@ returns-in_err-secure_row g c =
       secure = λ seen told long. let p = err_from_is_err_and c.from_residual.result c.from_residual.ensures.1 in rw p.1 tt;
       room = c.in_err-secure_row.ensures.room ∙ c.loop-lower.invariant.room;
       only_reads =
-          rw (p.1, p.2) (reads_as _ (lawful g) c.args.bay.now c.secure_row.new.bay _ _ (λ is. same_err _ _ is)
-          (reads_on _ (lawful g) c.args.bay.now c.loop-lower.bay c.secure_row.new.bay ⊥ _ c.loop-lower.invariant.only_reads c.in_err-secure_row.ensures.only_reads));
+          rw (p.1, p.2) (reads_turned (λ is. same_err _ _ is)
+          (reads_then g.met.B.Bay.since_earlier c.loop-lower.invariant.only_reads c.in_err-secure_row.ensures.only_reads));
     }

@@ -3,7 +3,6 @@ use Rattle.std.proofs.lemmas.List.{take_all}
 use Rattle.std.proofs.lemmas.List.Elements.{Contains-get_or}
 use Rattle.std.proofs.lemmas.Result.{err_from_is_err_and}
 use Rattle.lert_bay.specs.declared.bay.TheConstants.{FRAMES}
-use Rattle.lert_bay.proofs.KeptLaws.{IsLawful, reads_none, reads_on, reads_as}
 use Rattle.lert_frames.specs.Frame.{frame_left}
 use Rattle.lert_frames.specs.Place.{frame_place, frame_len}
 use Rattle.lert_frames.proofs.FaultLaws.{not_err}
@@ -14,12 +13,9 @@ use Rattle.lert_levels.specs.declared.rows.bin_at.BinAt.{BinAt}
 use Rattle.lert_levels.specs.rows.Loading.{width_of}
 use Rattle.lert_levels.specs.Sources.{of_bin, placed_at, AllOf, IsSecure}
 use Rattle.lert_levels.proofs.PlacedLaws.{row_more}
+use Rattle.lert_frames.proofs.CallLaws.{reads_then, reads_same, reads_turned}
 use Rattle.lert_frames.specs.Calls.{bays_of}
-use Rattle.lert_levels.proofs.secure.secure_row.Given as given
 use Rattle.lert_levels.proofs.secure.secure_row.Goals as goal
-
-lawful : (g : given.Over) → IsLawful (bays_of g.B.Faulty g.B.Bay)
-lawful g = record { as_read = g.met.B.Bay.as_read; since_now = g.met.B.Bay.since_now; only_now = g.met.B.Bay.only_now; since_earlier = g.met.B.Bay.since_earlier }
 
 abbrev nothing : BinAt
 nothing = record { from = 0; to = 0; frame = 0 }
@@ -39,12 +35,12 @@ loop-bin-preserved g c =
           (subst (λ (t : Numbers). (frame_place t level c.from.result + frame_len t level ≤ length (seen FRAMES)) ⊎ (frame_left t level c.from.result (width_of bin) (seen FRAMES) ≡ None)) is.room
           (e.secured seen (is.only_reads.seen ∙ told) long)));
       room = e.settings ∙ is.room;
-      only_reads = reads_on _ (lawful g) c.args.bay.now c.loop-bin.bay c.secure.new.bay ⊥ ⊥ is.only_reads
-          (reads_as _ (lawful g) c.loop-bin.bay c.secure.new.bay _ ⊥ (λ none. absurd none) e.only_reads);
+      only_reads = reads_then g.met.B.Bay.since_earlier is.only_reads
+          (reads_turned (λ none. absurd none) e.only_reads);
     }
 
 pub loop-bin-init : goal.loop-bin-init
-loop-bin-init g c = record { secure = λ seen told long. tt; room = refl; only_reads = reads_none _ (lawful g) c.args.bay.now ⊥ (λ none. none) }
+loop-bin-init g c = record { secure = λ seen told long. tt; room = refl; only_reads = reads_same (bays_of g.B.Faulty g.B.Bay) g.met.B.Bay.only_now (λ none. none) }
 
 pub returns : goal.returns
 returns g c = record {
@@ -53,7 +49,7 @@ returns g c = record {
       (c.loop-bin.invariant.secure seen told long);
   malformed = λ seen told at is. absurd (not_err _ _ is);
   room = c.loop-bin.invariant.room;
-  only_reads = reads_as _ (lawful g) c.args.bay.now c.loop-bin.bay ⊥ _ (λ is. not_err _ _ is) c.loop-bin.invariant.only_reads;
+  only_reads = reads_turned (λ is. not_err _ _ is) c.loop-bin.invariant.only_reads;
 }
 
 -- ---- a frame that failed
@@ -80,8 +76,8 @@ returns-in_err-secure g c =
       secure = λ seen told long. let p = err_from_is_err_and c.from_residual.result c.from_residual.ensures.1 in rw p.1 tt;
       room = c.in_err-secure.ensures.settings ∙ c.loop-bin.invariant.room;
       only_reads =
-          rw (p.1, p.2) (reads_as _ (lawful g) c.args.bay.now c.secure.new.bay _ _ (λ is. same_err _ _ is)
-          (reads_on _ (lawful g) c.args.bay.now c.loop-bin.bay c.secure.new.bay ⊥ _ c.loop-bin.invariant.only_reads c.in_err-secure.ensures.only_reads));
+          rw (p.1, p.2) (reads_turned (λ is. same_err _ _ is)
+          (reads_then g.met.B.Bay.since_earlier c.loop-bin.invariant.only_reads c.in_err-secure.ensures.only_reads));
     }
 
 -- ---- what a frame asks for

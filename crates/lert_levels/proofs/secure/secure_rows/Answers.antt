@@ -2,11 +2,12 @@ use Rattle.std.proofs.Common.{◌≡◌, ◌∙◌, ap, arith, refl}
 use Rattle.std.specs.Prelude.{Err}
 use Rattle.std.proofs.lemmas.Result.{err_from_is_err_and}
 use Rattle.lert_bay.specs.declared.bay.TheConstants.{JOURNAL}
-use Rattle.lert_bay.proofs.KeptLaws.{IsLawful, reads_on, reads_as, reads_call}
+use Rattle.lert_bay.proofs.KeptLaws.{IsLawful, reads_call}
 use Rattle.lert_frames.proofs.FaultLaws.{not_err}
 use Rattle.lert_levels.proofs.rows.ReadLaws.{failed_there, malformed_there}
 use Rattle.lert_levels.proofs.ReachLaws.{no_place}
 use Rattle.lert_frames.specs.Calls.{bays_of}
+use Rattle.lert_frames.proofs.CallLaws.{reads_then, reads_turned}
 use Rattle.lert_levels.proofs.secure.secure_rows.Given as given
 use Rattle.lert_levels.proofs.secure.secure_rows.Goals as goal
 
@@ -33,10 +34,10 @@ returns g c =
           let len : c.in_ok-len.len ≡ _ = c.in_ok-len.ensures.told seen told in
           c.in_ok-secure_levels.ensures.secure seen (c.in_ok-len.ensures.seen ∙ told) (omega (arith, len));
       only_reads =
-          reads_on _ (lawful g) start c.len.new.self c.secure_levels.new.bay ⊥ _
+          reads_then g.met.B.Bay.since_earlier
           (reads_call _ (lawful g) start c.len.new.self ⊥ len.time len.cause.never_falls (λ is. absurd is)
           len.mark len.seen len.images (ap (λ h. h JOURNAL) len.handed))
-          (reads_as _ (lawful g) c.len.new.self c.secure_levels.new.bay _ _ (λ is. absurd (not_err _ _ is)) c.in_ok-secure_levels.ensures.only_reads);
+          (reads_turned (λ is. absurd (not_err _ _ is)) c.in_ok-secure_levels.ensures.only_reads);
     }
 
 pub returns-in_err-len : goal.returns-in_err-len
@@ -63,9 +64,9 @@ returns-in_err-secure_levels g c =
           c.in_err-secure_levels.ensures.malformed seen (c.in_ok-len.ensures.seen ∙ told) at
           (ap Err (malformed_there r.result c.in_err-secure_levels.field-0.0 at r.ensures.1 is));
       only_reads =
-          reads_on _ (lawful g) start c.len.new.self c.secure_levels.new.bay ⊥ _
+          reads_then g.met.B.Bay.since_earlier
           (reads_call _ (lawful g) start c.len.new.self ⊥ len.time len.cause.never_falls (λ is. absurd is)
           len.mark len.seen len.images (ap (λ h. h JOURNAL) len.handed))
-          (reads_as _ (lawful g) c.len.new.self c.secure_levels.new.bay _ _
+          (reads_turned
           (λ is. ap Err (failed_there r.result c.in_err-secure_levels.field-0.0 r.ensures.1 is)) c.in_err-secure_levels.ensures.only_reads);
     }

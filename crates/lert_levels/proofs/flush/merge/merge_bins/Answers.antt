@@ -1,7 +1,7 @@
 use Rattle.std.proofs.Common.{ℕ, ◌≡◌, ◌<◌, ◌∙◌, None, Some, Ok, [], ap, length, get_or, arith}
 use Rattle.std.specs.Prelude.{IsErrOf}
 use Rattle.std.proofs.lemmas.Result.{err_from_is_err_and}
-use Rattle.lert_bay.proofs.KeptLaws.{IsLawful, keeps_as}
+use Rattle.lert_bay.proofs.KeptLaws.{IsLawful}
 use Rattle.lert_base.specs.declared.pieces.PieceFault.TheVariants.{Failed}
 use Rattle.lert_levels.specs.landing.Landed.{CanTake}
 use Rattle.lert_levels.specs.landing.Summed.{sums_of}
@@ -15,6 +15,7 @@ use Rattle.lert_levels.proofs.flush.MergingLaws.{merging_none, merging_more, giv
 use Rattle.lert_levels.proofs.flush.WholeLaws.{told_still}
 use Rattle.lert_levels.proofs.flush.SteadyLaws.{AreSteady, landings_same, writes_read, writes_on, writes_as, reads_failed}
 use Rattle.lert_frames.specs.Calls.{bays_of}
+use Rattle.lert_frames.proofs.CallLaws.{reads_same, keeps_turned}
 use Rattle.lert_levels.proofs.flush.merge.merge_bins.Given as given
 use Rattle.lert_levels.proofs.flush.merge.merge_bins.Goals as goal
 
@@ -97,8 +98,8 @@ returns-in_err-next g c =
     let was = c.loop-next.invariant in
     let p = err_from_is_err_and c.from_residual.result c.from_residual.ensures.1 in
     let Fails = IsErrOf c.from_residual.result Failed in
-    let read = reads_failed (lawful g) {Failed = Fails} (λ is. c.in_err-next.ensures.failed (cc (p.1, p.2, is))) (g.met.S.Bins.reading c.loop-next.bay c.step.new.ctx c.step.ensures.keeps) in
-    let writes = writes_on (lawful g) was.writes (writes_read (lawful g) c.loop-next.landings read) in
+    let read = reads_failed {Failed = Fails} (λ is. c.in_err-next.ensures.failed (cc (p.1, p.2, is))) (g.met.S.Bins.reading c.loop-next.bay c.step.new.ctx c.step.ensures.keeps) in
+    let writes = writes_on (lawful g) was.writes (writes_read c.loop-next.landings read) in
     record {
       merged = rw p.1 tt;
       took = rw p.1 tt;
@@ -122,8 +123,8 @@ returns-in_err-put_piece g c =
     let p = err_from_is_err_and c.from_residual-in_err-put_piece.result c.from_residual-in_err-put_piece.ensures.1 in
     let Fails = IsErrOf c.from_residual-in_err-put_piece.result Failed in
     let read = g.met.S.Bins.reading c.loop-next.bay c.step.new.ctx c.step.ensures.keeps in
-    let writes = writes_on (lawful g) (writes_on (lawful g) was.writes (writes_read (lawful g) c.loop-next.landings read))
-    (writes_as (lawful g) {Failed = Fails} (λ is. cc (p.1, p.2, is)) c.in_err-put_piece.ensures.writes) in
+    let writes = writes_on (lawful g) (writes_on (lawful g) was.writes (writes_read c.loop-next.landings read))
+    (writes_as {Failed = Fails} (λ is. cc (p.1, p.2, is)) c.in_err-put_piece.ensures.writes) in
     record {
       merged = rw p.1 tt;
       took = rw p.1 tt;
@@ -148,7 +149,7 @@ pub returns : goal.returns
 returns g c =
     let was = c.loop-next.invariant in
     let read = g.met.S.Bins.reading c.loop-next.bay c.step.new.ctx c.step.ensures.keeps in
-    let writes = writes_on (lawful g) was.writes (writes_read (lawful g) c.loop-next.landings read) in
+    let writes = writes_on (lawful g) was.writes (writes_read c.loop-next.landings read) in
     let on : g.S.Streams.tells c.args.bay.now → g.S.Streams.tells c.step.new.ctx = λ tells. (g.met.S.Bins.telling c.step.new.ctx).1
     (told_still (LeavesRest (IsOutside c.args.landings.now)) (g.B.Bay.files c.args.bay.now) (g.B.Bay.files c.step.new.ctx) writes.rest.seen
     ((g.met.S.Bins.telling c.args.bay.now).0 tells)) in
@@ -169,7 +170,7 @@ returns g c =
       sound = λ lists are at is. never_failed _ _ is;
       malformed = λ at is. absurd (never_failed _ _ is);
       rest = writes.rest;
-      kept = keeps_as _ (lawful g) c.args.bay.now c.step.new.ctx NoneFailed _ (λ failed. never_failed _ _ failed) writes.kept;
+      kept = keeps_turned (λ failed. never_failed _ _ failed) writes.kept;
       streams = g.met.S.Streams.same_on c.args.order.now.streams c.loop-next.order.streams c.step.new.self.streams was.gathering.kept c.step.ensures.kept;
       count = c.step.ensures.same.streams ∙ was.gathering.same.streams;
       ahead = c.step.ensures.same.room ∙ was.gathering.same.room;

@@ -1,23 +1,19 @@
 use Rattle.std.proofs.Common.{ℕ, Option, refl, ap, sym, get_or}
-use Rattle.lert_bay.proofs.KeptLaws.{IsLawful, keeps_as}
 use Rattle.lert_levels.specs.landing.Landed.{taken}
 use Rattle.lert_levels.specs.flush.Merged.{is_of, with_piece}
 use Rattle.lert_levels.proofs.flush.MergingLaws.{never_failed, not_malformed}
 use Rattle.lert_levels.proofs.flush.PartLaws.{landed_one}
-use Rattle.lert_levels.proofs.flush.SteadyLaws.{writes_none, writes_as}
+use Rattle.lert_levels.proofs.flush.SteadyLaws.{writes_read, writes_as}
+use Rattle.lert_frames.proofs.CallLaws.{reads_same, keeps_turned}
 use Rattle.lert_frames.specs.Calls.{bays_of}
-use Rattle.lert_levels.proofs.flush.put.put_piece.Given as given
 use Rattle.lert_levels.proofs.flush.put.put_piece.Goals as goal
-
-lawful : (g : given.Over) → IsLawful (bays_of g.B.Faulty g.B.Bay)
-lawful g = record { as_read = g.met.B.Bay.as_read; since_now = g.met.B.Bay.since_now; only_now = g.met.B.Bay.only_now; since_earlier = g.met.B.Bay.since_earlier }
 
 -- ---- of no part
 
 pub returns-in_default : goal.returns-in_default
 returns-in_default g c = record {
   taken = λ own d below. sym (ap (λ (part : Option ℕ). with_piece (is_of part own) c.args.piece (taken (get_or c.args.landings.now own d))) c.in_default.is);
-  writes = writes_as (lawful g) (λ failed. never_failed _ _ failed) (writes_none (lawful g) c.args.landings.now c.args.bay.now);
+  writes = writes_as (λ failed. never_failed _ _ failed) (writes_read c.args.landings.now (reads_same (bays_of g.B.Faulty g.B.Bay) g.met.B.Bay.only_now (λ none. none)));
   whole = λ at malformed. never_failed _ _ malformed;
 }
 
@@ -35,7 +31,7 @@ returns-in-Ok g c =
         homes = added.homes;
         landing = added.landing;
         rest = added.rest;
-        kept = keeps_as _ (lawful g) c.args.bay.now c.add_to.new.bay _ _ (λ failed. absurd (never_failed _ _ failed)) added.kept;
+        kept = keeps_turned (λ failed. absurd (never_failed _ _ failed)) added.kept;
       };
       whole = λ at malformed. never_failed _ _ malformed;
     }
@@ -49,7 +45,7 @@ returns-in-Err g c =
         homes = added.homes;
         landing = added.landing;
         rest = added.rest;
-        kept = keeps_as _ (lawful g) c.args.bay.now c.add_to.new.bay _ _ (λ failed. refl) added.kept;
+        kept = keeps_turned (λ failed. refl) added.kept;
       };
       whole = λ at malformed. not_malformed at malformed;
     }

@@ -1,7 +1,6 @@
 use Rattle.std.proofs.Common.{◌≡◌, ◌∙◌, [], Ok, get_or, ap, sym, arith}
 use Rattle.std.specs.Prelude.{IsErrOf}
 use Rattle.std.proofs.lemmas.Result.{err_from_is_err_and}
-use Rattle.lert_bay.proofs.KeptLaws.{IsLawful, reads_none, reads_on, reads_as}
 use Rattle.lert_base.specs.declared.pieces.PieceFault.TheVariants.{Failed}
 use Rattle.lert_levels.specs.landing.Summed.{sums_of}
 use Rattle.lert_levels.specs.flush.Staying.{NoneFailed}
@@ -9,19 +8,16 @@ use Rattle.lert_levels.proofs.flush.BoundLaws.{came_fits, all_fit, left_less}
 use Rattle.lert_levels.proofs.flush.GatheringLaws.{nothing, more, gathering_none, gathering_more, breaks_back, sound_by, taken_all, up_so_far}
 use Rattle.lert_levels.proofs.flush.MergingLaws.{given_at, none_at, never_failed, table_of}
 use Rattle.lert_levels.proofs.flush.SteadyLaws.{reads_failed}
+use Rattle.lert_frames.proofs.CallLaws.{reads_then, reads_same, reads_turned}
 use Rattle.lert_frames.specs.Calls.{bays_of}
-use Rattle.lert_levels.proofs.flush.scan.merge_all.Given as given
 use Rattle.lert_levels.proofs.flush.scan.merge_all.Goals as goal
-
-lawful : (g : given.Over) → IsLawful (bays_of g.B.Faulty g.B.Bay)
-lawful g = record { as_read = g.met.B.Bay.as_read; since_now = g.met.B.Bay.since_now; only_now = g.met.B.Bay.only_now; since_earlier = g.met.B.Bay.since_earlier }
 
 pub loop-next-init : goal.loop-next-init
 loop-next-init g c = record {
   lists = nothing (g.S.Streams.count c.args.order.now.streams);
   gathering = gathering_none g.S.Streams g.O.Totals.took c.args.order.now c.args.bay.now c.args.totals.now c.new-sum.result g.met.S.Streams.same_self
       c.requires.unread c.requires.totals c.new-sum.ensures;
-  read = reads_none _ (lawful g) c.args.bay.now ⊥ (λ none. none);
+  read = reads_same (bays_of g.B.Faulty g.B.Bay) g.met.B.Bay.only_now (λ none. none);
 }
 
 -- ---- a piece
@@ -52,7 +48,7 @@ loop-next-preserved g c =
     record {
       lists = more was.gathering step;
       gathering = gathering_more was.gathering step g.met.S.Streams.same_on c.add_total.new.totals c.add_total.new.sum c.add_total.ensures;
-      read = reads_on _ (lawful g) c.args.bay.now c.loop-next.bay c.step.new.ctx ⊥ NoneFailed was.read (g.met.S.Bins.reading c.loop-next.bay c.step.new.ctx c.step.ensures.keeps);
+      read = reads_then g.met.B.Bay.since_earlier was.read (g.met.S.Bins.reading c.loop-next.bay c.step.new.ctx c.step.ensures.keeps);
     }
 
 -- ---- a step that fails
@@ -66,8 +62,8 @@ returns-in_err-next g c =
       took = rw p.1 tt;
       sound = λ lists are at is. sound_by g.S.Streams c.args.bay.now c.args.order.now.streams lists at are (breaks_back was.gathering at (c.in_err-next.ensures.malformed at (cc (p.1, p.2, is))));
       malformed = λ at is. breaks_back was.gathering at (c.in_err-next.ensures.malformed at (cc (p.1, p.2, is)));
-      only_reads = reads_on _ (lawful g) c.args.bay.now c.loop-next.bay c.step.new.ctx ⊥ _ was.read
-          (reads_failed (lawful g) (λ is. c.in_err-next.ensures.failed (cc (p.1, p.2, is))) (g.met.S.Bins.reading c.loop-next.bay c.step.new.ctx c.step.ensures.keeps));
+      only_reads = reads_then g.met.B.Bay.since_earlier was.read
+          (reads_failed (λ is. c.in_err-next.ensures.failed (cc (p.1, p.2, is))) (g.met.S.Bins.reading c.loop-next.bay c.step.new.ctx c.step.ensures.keeps));
       streams = g.met.S.Streams.same_on c.args.order.now.streams c.loop-next.order.streams c.step.new.self.streams was.gathering.kept c.step.ensures.kept;
       count = c.step.ensures.same.streams ∙ was.gathering.same.streams;
       ahead = c.step.ensures.same.room ∙ was.gathering.same.room;
@@ -96,8 +92,8 @@ returns g c =
       took = λ s limits. (sums_of was.lists, (table_of was.gathering _ limits, c.end_totals.ensures.took (sums_of was.lists) was.gathering.totals_are));
       sound = λ lists are at is. never_failed _ _ is;
       malformed = λ at is. absurd (never_failed _ _ is);
-      only_reads = reads_as _ (lawful g) c.args.bay.now c.step.new.ctx NoneFailed _ (λ failed. never_failed _ _ failed)
-          (reads_on _ (lawful g) c.args.bay.now c.loop-next.bay c.step.new.ctx ⊥ NoneFailed was.read read);
+      only_reads = reads_turned (λ failed. never_failed _ _ failed)
+          (reads_then g.met.B.Bay.since_earlier was.read read);
       streams = g.met.S.Streams.same_on c.args.order.now.streams c.loop-next.order.streams c.step.new.self.streams was.gathering.kept c.step.ensures.kept;
       count = c.step.ensures.same.streams ∙ was.gathering.same.streams;
       ahead = c.step.ensures.same.room ∙ was.gathering.same.room;

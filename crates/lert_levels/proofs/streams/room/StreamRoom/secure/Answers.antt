@@ -13,7 +13,8 @@ index_mut-reader-requires g c = omega (arith, c.self.invariant.readers_are.some,
 pub start_at-requires : goal.start_at-requires
 start_at-requires g c =
     let readers = c.self.invariant.readers_are in
-    let same = sym (reader_here c.self.inside.settings c.self.inside.readers.items 0 c.index_mut-reader.result.now readers.of_settings readers.some c.index_mut-reader.ensures.value ∙ c.self.view_is) in
+    let same = sym (reader_here c.self.inside.settings c.self.inside.readers.items 0 c.index_mut-reader.result.now readers.of_settings readers.some
+    c.index_mut-reader.ensures.value ∙ c.self.view_is) in
     record {
       first = c.requires.first;
       last = subst (λ (s : Numbers). c.args.level ≤ s.levels) same c.requires.last;

@@ -21,16 +21,7 @@ invariant_of-self g c = begun_kept c.self.invariant c.start_at.new.self (spare_i
 
 pub returns : goal.returns
 returns g c =
-    let start = c.start_at.ensures in
-    let begun = begins c.self.invariant c.self.view_is (spare_is c.self.invariant c.self.view_is c.requires.spare) c.index_mut.ensures.value (record {
-      left = start.left;
-      pieces = start.pieces;
-      place = start.place;
-      gave = start.gave;
-      wide = start.wide;
-      settings = start.settings;
-      of_level = start.level;
-    }) in
+    let begun = begins c.self.invariant c.self.view_is c.start_at.new.self (spare_is c.self.invariant c.self.view_is c.requires.spare) c.index_mut.ensures.value c.start_at.ensures in
     record {
       begins = begun;
       count = begun_count begun;
