@@ -1,23 +1,12 @@
 -- What is to come of a reader stays through a step of its decoder, and so does what it keeps.
 use Rattle.std.proofs.Common.{◌≡◌, ◌≢◌, ℕ, zero, suc, ◌≤◌, ◌^◌, List, ◌++◌, All, length, take, drop, Option, Some, None, refl, sym, ap, ap₂, ◌∙◌, subst, arith, append_assoc, eqb, ne_eqb}
-use Rattle.std.proofs.lemmas.Bool.{cond-false}
-use Rattle.std.proofs.lemmas.List.{drop-append-le}
-use Rattle.lert_base.specs.declared.pieces.PieceFault.{PieceFault}
-use Rattle.lert_base.specs.declared.pieces.PieceFault.TheVariants.{Failed, Malformed}
+use Rattle.std.{proofs.lemmas.Bool.cond-false, proofs.lemmas.List.drop-append-le}
+use Rattle.lert_base.{specs.declared.pieces.PieceFault.PieceFault, specs.declared.pieces.PieceFault.TheVariants.{Failed, Malformed}}
 use Rattle.lert_blocks.specs.Walk.{Found, behind, nothing}
-use Rattle.lert_spec.specs.declared.numbers.Numbers.{Numbers}
-use Rattle.lert_spec.specs.declared.piece.Piece.{Piece}
-use Rattle.lert_spec.specs.Table.{total, AreGiven, AscendsFrom}
-use Rattle.lert_spec.proofs.GivenLaws.{given_wide}
-use Rattle.lert_frames.specs.Decoded.{decoder_floor, decoder_limit, IsBetween}
-use Rattle.lert_frames.specs.Frame.{if_summed}
-use Rattle.lert_frames.specs.Reading.{IsReading, SumsUp, if_over, verdict, sum_less, pieces_kept}
-use Rattle.lert_frames.specs.ToCome.{known_or}
-use Rattle.lert_frames.specs.declared.decoder.Decoder.{Decoder}
-use Rattle.lert_frames.specs.declared.reader.Sum.{Sum}
-use Rattle.lert_frames.specs.declared.reader.Sum.TheVariants.{Left, Over}
-use Rattle.lert_frames.proofs.StandsLaws.{stands_on}
-use Rattle.lert_frames.proofs.ReadingLaws.{verdict_stays, all_kept, length_kept, kept_given, kept_sums_up}
+use Rattle.lert_spec.{specs.declared.numbers.Numbers.Numbers, specs.declared.piece.Piece.Piece, specs.Table.{total, AreGiven, AscendsFrom}, proofs.GivenLaws.given_wide}
+use Rattle.lert_frames.{specs.Decoded.{decoder_floor, decoder_limit, IsBetween}, specs.Frame.if_summed, specs.Reading.{IsReading, SumsUp, if_over, verdict, sum_less, pieces_kept}}
+use Rattle.lert_frames.{specs.ToCome.known_or, specs.declared.decoder.Decoder.Decoder, specs.declared.reader.Sum.Sum, specs.declared.reader.Sum.TheVariants.{Left, Over}}
+use Rattle.lert_frames.{proofs.StandsLaws.stands_on, proofs.ReadingLaws.{verdict_stays, all_kept, length_kept, kept_given, kept_sums_up}}
 
 -- ---- a step that stops
 

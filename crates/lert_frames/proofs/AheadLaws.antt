@@ -1,16 +1,9 @@
 -- Calls on a window, one behind another.
-use Rattle.std.proofs.Common.{◌≡◌, ℕ, ◌+◌, ◌-◌, ◌*◌, ◌^◌, ◌<◌, ◌≤◌, length, drop, refl, sym, ap, ◌∙◌, subst, arith}
-use Rattle.std.proofs.Math.Nat.{mul-le-mul_right}
+use Rattle.std.{proofs.Common.{◌≡◌, ℕ, ◌+◌, ◌-◌, ◌*◌, ◌^◌, ◌<◌, ◌≤◌, length, drop, refl, sym, ap, ◌∙◌, subst, arith}, proofs.Math.Nat.mul-le-mul_right}
 use Rattle.lert_bay.specs.Kept.{Bays}
 use Rattle.lert_blocks.specs.Text.{word_count}
-use Rattle.lert_frames.specs.declared.decoder.Ahead.{Ahead}
-use Rattle.lert_frames.specs.declared.decoder.Decoder.{Decoder}
-use Rattle.lert_frames.specs.declared.decoder.Present.{Present}
-use Rattle.lert_frames.specs.declared.fields.Head.{Head}
-use Rattle.lert_frames.specs.declared.window.Window.{Window}
-use Rattle.lert_frames.specs.Standing.{IsStanding}
-use Rattle.lert_frames.specs.Steps.{ReadsAhead, Passes, IsFitting, fields_len}
-use Rattle.lert_frames.specs.Window.{count_of, place_of, room_of}
+use Rattle.lert_frames.{specs.declared.decoder.Ahead.Ahead, specs.declared.decoder.Decoder.Decoder, specs.declared.decoder.Present.Present, specs.declared.fields.Head.Head}
+use Rattle.lert_frames.{specs.declared.window.Window.Window, specs.Standing.IsStanding, specs.Steps.{ReadsAhead, Passes, IsFitting, fields_len}, specs.Window.{count_of, place_of, room_of}}
 use Rattle.lert_frames.proofs.FieldLaws.{end_of}
 
 module _ {B : Type 0} (bays : Bays B) (before between : B) (same : bays.files between ≡ bays.files before) (old middle new : Window) (first : ReadsAhead bays before old middle) where

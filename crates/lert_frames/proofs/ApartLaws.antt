@@ -1,30 +1,14 @@
 -- What a reader has to come, and what a writer wrote, stays through writes into other places of the file.
 use Rattle.std.proofs.Common.{◌≡◌, ◌↔◌, ℕ, ◌+◌, ◌≤◌, ◌⊎◌, List, [], ◌++◌, length, Option, Some, None, refl, sym, ap, ap₂, ◌∙◌, subst, inl, inr, ⊎_elim, arith}
-use Rattle.lert_bay.specs.declared.bay.TheConstants.{FRAMES}
-use Rattle.lert_bay.specs.Files.{Files}
+use Rattle.lert_bay.{specs.declared.bay.TheConstants.FRAMES, specs.Files.Files}
 use Rattle.lert_blocks.specs.Walk.{Found}
-use Rattle.lert_frames.specs.Apart.{SamePlace, IsSure}
-use Rattle.lert_frames.specs.Decoded.{decoder_found}
-use Rattle.lert_frames.specs.Frame.{HoldsFrame, frame_text, frame_found, frame_left, frame_pieces, judged}
-use Rattle.lert_frames.specs.Outlet.{IsOut}
-use Rattle.lert_frames.specs.Place.{block_count, blocks_bytes, frame_len, frame_place, most_slots}
-use Rattle.lert_frames.specs.Reading.{verdict}
-use Rattle.lert_frames.specs.ToCome.{known_or, left_of, pieces_of, ready_of, if_whole, told_of, Breaks}
-use Rattle.lert_frames.specs.Writing.{IsWriting, text_before}
-use Rattle.lert_frames.specs.declared.outlet.Outlet.{Outlet}
-use Rattle.lert_frames.specs.declared.reader.FrameReader.{FrameReader}
-use Rattle.lert_frames.specs.declared.reader.Sum.{Sum}
-use Rattle.lert_frames.specs.declared.reader.Sum.TheVariants.{Left, Over}
-use Rattle.lert_frames.specs.declared.writer.FrameWriter.{FrameWriter}
-use Rattle.lert_frames.proofs.CheckLaws.{summed_parts}
-use Rattle.lert_frames.proofs.KeptPlaceLaws.{blocks_kept, decoder_kept}
-use Rattle.lert_frames.proofs.OutletLaws.{out_elsewhere, out_reaches}
-use Rattle.lert_frames.proofs.ReadingLaws.{never_over}
-use Rattle.lert_frames.proofs.SamePlaceLaws.{same_part, text_stays}
-use Rattle.lert_frames.proofs.StandsLaws.{between_of}
-use Rattle.lert_spec.specs.declared.numbers.Numbers.{Numbers}
-use Rattle.lert_spec.specs.declared.piece.Piece.{Piece}
-use Rattle.lert_spec.specs.Edges.{width}
+use Rattle.lert_frames.{specs.Apart.{SamePlace, IsSure}, specs.Decoded.decoder_found, specs.Frame.{HoldsFrame, frame_text, frame_found, frame_left, frame_pieces, judged}, specs.Outlet.IsOut}
+use Rattle.lert_frames.{specs.Place.{block_count, blocks_bytes, frame_len, frame_place, most_slots}, specs.Reading.verdict}
+use Rattle.lert_frames.{specs.ToCome.{known_or, left_of, pieces_of, ready_of, if_whole, told_of, Breaks}, specs.Writing.{IsWriting, text_before}, specs.declared.outlet.Outlet.Outlet}
+use Rattle.lert_frames.{specs.declared.reader.FrameReader.FrameReader, specs.declared.reader.Sum.Sum, specs.declared.reader.Sum.TheVariants.{Left, Over}}
+use Rattle.lert_frames.{specs.declared.writer.FrameWriter.FrameWriter, proofs.CheckLaws.summed_parts, proofs.KeptPlaceLaws.{blocks_kept, decoder_kept}}
+use Rattle.lert_frames.{proofs.OutletLaws.{out_elsewhere, out_reaches}, proofs.ReadingLaws.never_over, proofs.SamePlaceLaws.{same_part, text_stays}, proofs.StandsLaws.between_of}
+use Rattle.lert_spec.{specs.declared.numbers.Numbers.Numbers, specs.declared.piece.Piece.Piece, specs.Edges.width}
 
 -- ---- a reader
 

@@ -1,14 +1,8 @@
 -- Calls of writers in turn.
-use Rattle.std.proofs.Common.{◌≡◌, ℕ, ◌-◌, ◌≤◌, Option, Some, Result, length, refl, ◌∙◌, inl, inr, arith}
-use Rattle.std.specs.Prelude.{Ok, Err, OnOk}
-use Rattle.lert_bay.specs.Files.{Files, Changes, LeftByFailure}
-use Rattle.lert_bay.specs.declared.bay.TheConstants.{FRAMES}
-use Rattle.lert_bay.specs.Kept.{Bays, KeepsBay, OnlyReads}
-use Rattle.lert_bay.proofs.Lasting.{lasts_none, lasts_on}
+use Rattle.std.{proofs.Common.{◌≡◌, ℕ, ◌-◌, ◌≤◌, Option, Some, Result, length, refl, ◌∙◌, inl, inr, arith}, specs.Prelude.{Ok, Err, OnOk}}
+use Rattle.lert_bay.{specs.Files.{Files, Changes, LeftByFailure}, specs.declared.bay.TheConstants.FRAMES, specs.Kept.{Bays, KeepsBay, OnlyReads}, proofs.Lasting.{lasts_none, lasts_on}}
 use Rattle.lert_io.proofs.Rising.{risen_since}
-use Rattle.lert_frames.specs.Calls.{Writes}
-use Rattle.lert_frames.specs.Kept.{WritesWithin}
-use Rattle.lert_frames.proofs.WithinLaws.{within_reads, within_on, within_wider, turns_to}
+use Rattle.lert_frames.{specs.Calls.Writes, specs.Kept.WritesWithin, proofs.WithinLaws.{within_reads, within_on, within_wider, turns_to}}
 
 -- ---- calls, seen as failed in other words
 

@@ -1,28 +1,12 @@
 -- A frame that leaves its text nowhere is that of a bin, and stands in its file.
-use Rattle.std.proofs.Common.{◌≡◌, ℕ, ◌+◌, ◌-◌, ◌*◌, ◌<◌, ◌≤◌, ◌^◌, List, [], ◌∷◌, ◌++◌, All, length, take, drop, eqb, Option, Some, None}
-use Rattle.std.proofs.Common.{refl, sym, ap, ◌∙◌, subst, inl, inr, arith, ne_eqb}
-use Rattle.std.proofs.lemmas.Bool.{cases_eq, cond-false}
-use Rattle.std.proofs.lemmas.List.{drop-take, take-take}
-use Rattle.std.proofs.lemmas.List.Elements.{All-take}
-use Rattle.lert_bay.specs.declared.bay.TheConstants.{FRAMES}
-use Rattle.lert_bay.specs.Files.{Files}
-use Rattle.lert_bay.specs.Settled.{part}
-use Rattle.lert_blocks.specs.Frame.{blocks_len}
-use Rattle.lert_blocks.proofs.WalkLaws.{blocks_ascend, blocks_counts}
-use Rattle.lert_blocks.proofs.RoundTrip.{found_text}
-use Rattle.lert_spec.specs.declared.numbers.Numbers.{Numbers}
-use Rattle.lert_spec.specs.declared.piece.Piece.{Piece}
-use Rattle.lert_spec.specs.Edges.{width}
-use Rattle.lert_spec.specs.Limits.{IsValid}
-use Rattle.lert_spec.specs.Table.{total, AreGiven, AscendsFrom}
-use Rattle.lert_frames.specs.Bytes.{AreBytes}
-use Rattle.lert_frames.specs.Frame.{HoldsFrame, IsBin, if_summed, frame_found, frame_left, frame_pieces, frame_text}
-use Rattle.lert_frames.specs.Place.{block_count, frame_place, most_slots, tail_limit}
-use Rattle.lert_frames.specs.Reading.{verdict}
-use Rattle.lert_frames.specs.ToCome.{known_or, left_of, Breaks, IsOver, IsWithin}
-use Rattle.lert_frames.specs.declared.reader.FrameReader.{FrameReader}
-use Rattle.lert_frames.proofs.PlaceLaws.{tails_are}
-use Rattle.lert_frames.proofs.ReadingLaws.{total-append}
+use Rattle.std.proofs.Common.{◌≡◌, ℕ, ◌+◌, ◌-◌, ◌*◌, ◌<◌, ◌≤◌, ◌^◌, List, [], ◌∷◌, ◌++◌, All, length, take, drop, eqb, Option, Some, None, refl, sym, ap, ◌∙◌, subst, inl, inr, arith, ne_eqb}
+use Rattle.std.{proofs.lemmas.Bool.{cases_eq, cond-false}, proofs.lemmas.List.{drop-take, take-take}, proofs.lemmas.List.Elements.All-take}
+use Rattle.lert_bay.{specs.declared.bay.TheConstants.FRAMES, specs.Files.Files, specs.Settled.part}
+use Rattle.lert_blocks.{specs.Frame.blocks_len, proofs.WalkLaws.{blocks_ascend, blocks_counts}, proofs.RoundTrip.found_text}
+use Rattle.lert_spec.{specs.declared.numbers.Numbers.Numbers, specs.declared.piece.Piece.Piece, specs.Edges.width, specs.Limits.IsValid, specs.Table.{total, AreGiven, AscendsFrom}}
+use Rattle.lert_frames.{specs.Bytes.AreBytes, specs.Frame.{HoldsFrame, IsBin, if_summed, frame_found, frame_left, frame_pieces, frame_text}}
+use Rattle.lert_frames.{specs.Place.{block_count, frame_place, most_slots, tail_limit}, specs.Reading.verdict, specs.ToCome.{known_or, left_of, Breaks, IsOver, IsWithin}}
+use Rattle.lert_frames.{specs.declared.reader.FrameReader.FrameReader, proofs.PlaceLaws.tails_are, proofs.ReadingLaws.total-append}
 
 -- ---- a piece more raises the sum
 

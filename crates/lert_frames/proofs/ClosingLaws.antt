@@ -1,26 +1,12 @@
 -- The text of a long block, put together from its parts.
-use Rattle.std.proofs.Common.{◌≡◌, ℕ, Bool, Some, drop, subst, inl, inr, ◌+◌, ◌-◌, ◌*◌, ◌<◌, ◌≤◌, ◌^◌, List, ◌++◌, length, sym, ap, ap₂, ◌∙◌, arith}
-use Rattle.std.proofs.Common.{append_assoc, append-nil, length-append, length-take, length-drop, take}
-use Rattle.std.proofs.lemmas.Bool.{cases_lt}
+use Rattle.std.proofs.Common.{◌≡◌, ℕ, Bool, Some, drop, subst, inl, inr, ◌+◌, ◌-◌, ◌*◌, ◌<◌, ◌≤◌, ◌^◌, List, ◌++◌, length, sym, ap, ap₂, ◌∙◌, arith, append_assoc, append-nil, length-append}
+use Rattle.std.{proofs.Common.{length-take, length-drop, take}, proofs.lemmas.Bool.cases_lt}
 use Rattle.byteorder.specs.Endian.{little_bytes}
-use Rattle.lert_bay.proofs.Settling.{part_none}
-use Rattle.lert_bay.specs.declared.bay.TheConstants.{FRAMES}
-use Rattle.lert_bay.specs.Files.{Files}
-use Rattle.lert_bay.specs.Kept.{Bays}
-use Rattle.lert_bay.specs.Settled.{part}
-use Rattle.lert_blocks.specs.declared.block.Block.{Block}
-use Rattle.lert_blocks.specs.Filling.{IsFilled}
-use Rattle.lert_blocks.specs.Text.{slots_of, ends_of, occupied_of, number_of_bits, words_of, numbers_text, head_text, block_text}
-use Rattle.lert_blocks.proofs.FieldLaws.{length-numbers_text}
-use Rattle.lert_blocks.proofs.BitLaws.{number_of_bits-word_bits}
-use Rattle.lert_frames.specs.Kept.{WritesWithin}
-use Rattle.lert_frames.specs.Outlet.{IsOut}
-use Rattle.lert_frames.specs.declared.outlet.Outlet.{Outlet}
-use Rattle.lert_frames.proofs.CallLaws.{told_then, no_shorter}
-use Rattle.lert_frames.proofs.OutletLaws.{out_all, out_whole}
-use Rattle.lert_frames.proofs.PartLaws.{part_join}
-use Rattle.lert_frames.proofs.SpiltLaws.{ends_rest, slots_rest}
-use Rattle.lert_frames.proofs.WithinLaws.{part_within}
+use Rattle.lert_bay.{proofs.Settling.part_none, specs.declared.bay.TheConstants.FRAMES, specs.Files.Files, specs.Kept.Bays, specs.Settled.part}
+use Rattle.lert_blocks.{specs.declared.block.Block.Block, specs.Filling.IsFilled, specs.Text.{slots_of, ends_of, occupied_of, number_of_bits, words_of, numbers_text, head_text, block_text}}
+use Rattle.lert_blocks.{proofs.FieldLaws.length-numbers_text, proofs.BitLaws.number_of_bits-word_bits}
+use Rattle.lert_frames.{specs.Kept.WritesWithin, specs.Outlet.IsOut, specs.declared.outlet.Outlet.Outlet, proofs.CallLaws.{told_then, no_shorter}, proofs.OutletLaws.{out_all, out_whole}}
+use Rattle.lert_frames.{proofs.PartLaws.part_join, proofs.SpiltLaws.{ends_rest, slots_rest}, proofs.WithinLaws.part_within}
 use Rattle.lert_spec.specs.declared.piece.Piece.{Piece}
 
 -- a part that has so many bytes is all there

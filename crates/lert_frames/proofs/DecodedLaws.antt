@@ -1,26 +1,15 @@
 -- What is to come of a frame, behind the steps of a decoder.
-use Rattle.std.proofs.Common.{◌≡◌, ℕ, suc, ◌+◌, ◌-◌, ◌*◌, ◌/◌, ◌≤◌, nat_lt, min, Bool, false, replicate, List, [], ◌++◌, length, take, drop, Option, Some, None, option_map, refl, sym, ap, ap₂, ◌∙◌}
-use Rattle.std.proofs.Common.{inl, inr, arith, append_assoc, length-drop, lt-ltb, le-ltb}
-use Rattle.std.specs.Prelude.{if◌then◌else◌}
-use Rattle.std.proofs.lemmas.Bool.{cases_lt, cond-true, cond-false}
+use Rattle.std.proofs.Common.{◌≡◌, ℕ, suc, ◌+◌, ◌-◌, ◌*◌, ◌/◌, ◌≤◌, nat_lt, min, Bool, false, replicate, List, [], ◌++◌, length, take, drop, Option, Some, None, option_map, refl, sym, ap, ap₂}
+use Rattle.std.{proofs.Common.{◌∙◌, inl, inr, arith, append_assoc, length-drop, lt-ltb, le-ltb}, specs.Prelude.if◌then◌else◌, proofs.lemmas.Bool.{cases_lt, cond-true, cond-false}}
 use Rattle.std.proofs.lemmas.List.{drop-drop, nil_from_length, take-append-le}
 use Rattle.lert_spec.specs.declared.piece.Piece.{Piece}
-use Rattle.lert_blocks.specs.declared.decoder.Walk.{Walk}
-use Rattle.lert_blocks.specs.Decoding.{rest_found, with_front}
+use Rattle.lert_blocks.{specs.declared.decoder.Walk.Walk, specs.Decoding.{rest_found, with_front}}
 use Rattle.lert_blocks.specs.Frame.{numbers_in, head_len, slots_in, ends_in, count_in, words_in, block_len, blocks_len, head_left, slots_found, block_found, blocks_found, placed, slot_place}
-use Rattle.lert_blocks.specs.Text.{word_count}
-use Rattle.lert_blocks.specs.Walk.{Found, behind, behind_at, nothing, walk, places}
-use Rattle.lert_frames.specs.declared.decoder.Ahead.{Ahead}
-use Rattle.lert_frames.specs.declared.decoder.Present.{Present}
-use Rattle.lert_frames.specs.declared.fields.Head.{Head}
-use Rattle.lert_frames.specs.Steps.{AreFields, AreWords, fields_len}
-use Rattle.lert_slotbits.specs.Bits.{word_bits, row_of}
-use Rattle.lert_slotbits.proofs.RowLemmas.{length_row}
-use Rattle.lert_frames.proofs.FieldLaws.{fields_are}
-use Rattle.lert_frames.proofs.NumberLaws.{length-numbers}
-use Rattle.lert_frames.specs.Decoded.{words_there, ends_there, slots_there, block_rest, blocks_rest, found_by, end_by}
-use Rattle.lert_frames.proofs.EndLaws.{length-ends_there, ends_there-rest}
-use Rattle.lert_frames.proofs.SlotLaws.{slots_len, length-slots_there, slots_passed}
+use Rattle.lert_blocks.{specs.Text.word_count, specs.Walk.{Found, behind, behind_at, nothing, walk, places}}
+use Rattle.lert_frames.{specs.declared.decoder.Ahead.Ahead, specs.declared.decoder.Present.Present, specs.declared.fields.Head.Head, specs.Steps.{AreFields, AreWords, fields_len}}
+use Rattle.lert_frames.{proofs.FieldLaws.fields_are, proofs.NumberLaws.length-numbers, specs.Decoded.{words_there, ends_there, slots_there, block_rest, blocks_rest, found_by, end_by}}
+use Rattle.lert_frames.{proofs.EndLaws.{length-ends_there, ends_there-rest}, proofs.SlotLaws.{slots_len, length-slots_there, slots_passed}}
+use Rattle.lert_slotbits.{specs.Bits.{word_bits, row_of}, proofs.RowLemmas.length_row}
 
 -- pieces that are found, and nothing that breaks a rule
 abbrev pub given : List Piece → Found

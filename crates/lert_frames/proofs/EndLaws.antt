@@ -1,17 +1,11 @@
 -- The words of run ends at the front of bytes, and which slots they say end a run.
-use Rattle.std.proofs.Common.{◌≡◌, ℕ, zero, suc, ◌+◌, ◌-◌, ◌*◌, ◌<◌, ◌≤◌, min, Bool, false, List, [], ◌∷◌, ◌++◌, length, take, drop}
-use Rattle.std.proofs.Common.{get_or, replicate, refl, sym}
-use Rattle.std.proofs.Common.{ap, ap₂, ◌∙◌, inl, inr, arith, append_assoc, append-nil, length-append, length-drop, length-take}
-use Rattle.std.proofs.lemmas.Bool.{cases_lt}
+use Rattle.std.proofs.Common.{◌≡◌, ℕ, zero, suc, ◌+◌, ◌-◌, ◌*◌, ◌<◌, ◌≤◌, min, Bool, false, List, [], ◌∷◌, ◌++◌, length, take, drop, get_or, replicate, refl, sym, ap, ap₂, ◌∙◌, inl, inr}
+use Rattle.std.{proofs.Common.{arith, append_assoc, append-nil, length-append, length-drop, length-take}, proofs.lemmas.Bool.cases_lt}
 use Rattle.std.proofs.lemmas.List.{drop-append-le, drop-take, drop_at, drop-replicate, length-take-le, length-replicate, take_all, take-append-le, take-take}
-use Rattle.lert_slotbits.specs.Bits.{word_bits, row_of}
-use Rattle.lert_slotbits.proofs.RowLemmas.{length_word_bits}
-use Rattle.lert_blocks.specs.Frame.{numbers_in}
-use Rattle.lert_blocks.specs.Text.{word_count}
+use Rattle.lert_slotbits.{specs.Bits.{word_bits, row_of}, proofs.RowLemmas.length_word_bits}
+use Rattle.lert_blocks.{specs.Frame.numbers_in, specs.Text.word_count}
 use Rattle.byteorder.specs.Endian.{little_number}
-use Rattle.lert_frames.specs.Decoded.{words_there, ends_there}
-use Rattle.lert_frames.specs.declared.slots.WordEnds.{WordEnds}
-use Rattle.lert_frames.specs.Steps.{AreEnds}
+use Rattle.lert_frames.{specs.Decoded.{words_there, ends_there}, specs.declared.slots.WordEnds.WordEnds, specs.Steps.AreEnds}
 use Rattle.lert_frames.proofs.NumberLaws.{little_number-append, numbers_first, numbers_second, numbers_in-cons}
 
 -- both words are there

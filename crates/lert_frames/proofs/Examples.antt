@@ -1,11 +1,8 @@
 -- The definitions on small files.
 use Rattle.std.proofs.Common.{◌≡◌, ◌+◌, [], ◌∷◌, refl, arith}
-use Rattle.lert_blocks.specs.Frame.{blocks_found}
-use Rattle.lert_blocks.specs.Walk.{broken, nothing}
+use Rattle.lert_blocks.{specs.Frame.blocks_found, specs.Walk.{broken, nothing}}
 use Rattle.lert_slotbits.specs.Bits.{word_bits}
-use Rattle.lert_frames.specs.Apart.{SamePlace}
-use Rattle.lert_frames.specs.Place.{blocks_bytes}
-use Rattle.lert_frames.specs.Spilt.{block_bytes}
+use Rattle.lert_frames.{specs.Apart.SamePlace, specs.Place.blocks_bytes, specs.Spilt.block_bytes}
 
 -- the bytes 2 to 4 are the same, of a file that ended behind the first two of them
 kept : SamePlace 2 3 (1 ∷ 2 ∷ 3 ∷ 4 ∷ []) (9 ∷ 9 ∷ 3 ∷ 4 ∷ 0 ∷ 7 ∷ [])

@@ -1,8 +1,6 @@
 -- Answers and their faults.
-use Rattle.std.proofs.Common.{◌≡◌, ℕ, Option, Some, None, Result}
-use Rattle.std.specs.Prelude.{Ok, Err, IsErrOf}
-use Rattle.lert_base.specs.declared.pieces.PieceFault.{PieceFault}
-use Rattle.lert_base.specs.declared.pieces.PieceFault.TheVariants.{Failed, Malformed}
+use Rattle.std.{proofs.Common.{◌≡◌, ℕ, Option, Some, None, Result}, specs.Prelude.{Ok, Err, IsErrOf}}
+use Rattle.lert_base.{specs.declared.pieces.PieceFault.PieceFault, specs.declared.pieces.PieceFault.TheVariants.{Failed, Malformed}}
 
 -- there is no fault
 pub not_err : {T E : Type 0} (x : T) (fault : E) → IsErrOf {T = T} {E = E} (Ok x) fault → ⊥

@@ -1,22 +1,13 @@
 -- The fields at the front of a block: what bytes at hand say of all that is to come.
 use Rattle.std.proofs.Common.{◌≡◌, ℕ, ◌+◌, ◌-◌, ◌*◌, ◌<◌, ◌≤◌, ◌==◌, ◌&&◌, ◌||◌, not, cond, nat_lt, Bool, true, false, List, ◌++◌, length, take, drop, Some, None, sym, ap, ap₂, ◌∙◌, subst}
 use Rattle.std.proofs.Common.{inl, inr, arith, append_assoc, length-append, length-take, length-drop, lt-ltb, le-ltb, eq-eqb, ne_eqb}
-use Rattle.std.proofs.lemmas.Bool.{cond-true, cond-false, cases_lt, cases_eq}
-use Rattle.std.proofs.lemmas.List.{drop-append-le, drop-drop, take-append-drop, take_all}
-use Rattle.std.proofs.lemmas.List.Elements.{All-append, All-same}
-use Rattle.std.proofs.Math.Seq.{drop-append-add}
+use Rattle.std.{proofs.lemmas.Bool.{cond-true, cond-false, cases_lt, cases_eq}, proofs.lemmas.List.{drop-append-le, drop-drop, take-append-drop, take_all}}
+use Rattle.std.{proofs.lemmas.List.Elements.{All-append, All-same}, proofs.Math.Seq.drop-append-add}
 use Rattle.byteorder.specs.Endian.{little_number}
 use Rattle.lert_bay.specs.Settled.{part}
-use Rattle.lert_blocks.specs.Frame.{numbers_in, occupied_in, count_in, words_in, head_len, ends_agree, head_left}
-use Rattle.lert_blocks.specs.Text.{word_count}
-use Rattle.lert_frames.specs.Bytes.{AreBytes}
-use Rattle.lert_frames.specs.declared.fields.Head.{Head}
-use Rattle.lert_frames.specs.declared.window.Window.{Window}
-use Rattle.lert_frames.specs.Steps.{AreFields, IsFitting, fields_len, run_ends_left}
-use Rattle.lert_frames.specs.Window.{at_hand, count_of, place_of, to_come}
-use Rattle.lert_frames.proofs.NumberLaws.{little_number-append, numbers-append}
-use Rattle.lert_frames.proofs.PartLaws.{part_join}
-use Rattle.lert_frames.proofs.WindowLaws.{read_less}
+use Rattle.lert_blocks.{specs.Frame.{numbers_in, occupied_in, count_in, words_in, head_len, ends_agree, head_left}, specs.Text.word_count}
+use Rattle.lert_frames.{specs.Bytes.AreBytes, specs.declared.fields.Head.Head, specs.declared.window.Window.Window, specs.Steps.{AreFields, IsFitting, fields_len, run_ends_left}}
+use Rattle.lert_frames.{specs.Window.{at_hand, count_of, place_of, to_come}, proofs.NumberLaws.{little_number-append, numbers-append}, proofs.PartLaws.part_join, proofs.WindowLaws.read_less}
 
 -- ---- a window
 

@@ -1,17 +1,9 @@
 -- The least tail that may come of a frame.
-use Rattle.std.proofs.Common.{◌≡◌, ℕ, ◌+◌, ◌*◌, ◌^◌, ◌<◌, ◌≤◌, ◌==◌, List, [], ◌∷◌, subst, inl, inr, arith, eq-eqb, ne_eqb}
-use Rattle.std.proofs.lemmas.Bool.{cases_eq, cond-true, cond-false}
+use Rattle.std.{proofs.Common.{◌≡◌, ℕ, ◌+◌, ◌*◌, ◌^◌, ◌<◌, ◌≤◌, ◌==◌, List, [], ◌∷◌, subst, inl, inr, arith, eq-eqb, ne_eqb}, proofs.lemmas.Bool.{cases_eq, cond-true, cond-false}}
 use Rattle.std.proofs.Math.Nat.{mul-le-mul_right}
-use Rattle.lert_slotbits.specs.Bits.{word_bits}
-use Rattle.lert_slotbits.proofs.RowLemmas.{length_word_bits}
-use Rattle.lert_blocks.specs.Decoding.{floor_of}
-use Rattle.lert_blocks.specs.Walk.{places, floor_from}
-use Rattle.lert_blocks.proofs.RunLaws.{Rises, places_rise}
-use Rattle.lert_blocks.proofs.WalkLaws.{floor_low}
-use Rattle.lert_frames.specs.declared.decoder.Ahead.{Ahead}
-use Rattle.lert_frames.specs.declared.decoder.Decoder.{Decoder}
-use Rattle.lert_frames.specs.declared.decoder.Present.{Present}
-use Rattle.lert_frames.specs.Decoded.{floor_by, decoder_floor, decoder_limit}
+use Rattle.lert_slotbits.{specs.Bits.word_bits, proofs.RowLemmas.length_word_bits}
+use Rattle.lert_blocks.{specs.Decoding.floor_of, specs.Walk.{places, floor_from}, proofs.RunLaws.{Rises, places_rise}, proofs.WalkLaws.floor_low}
+use Rattle.lert_frames.{specs.declared.decoder.Ahead.Ahead, specs.declared.decoder.Decoder.Decoder, specs.declared.decoder.Present.Present, specs.Decoded.{floor_by, decoder_floor, decoder_limit}}
 
 -- the floor of quotients that rise to an end
 pub floor_high : (width low end least : ℕ) (qs : List ℕ) → least ≤ 2 ^ width → Rises low end qs → floor_from width end qs least ≤ end * 2 ^ width

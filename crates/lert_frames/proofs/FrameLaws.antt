@@ -1,27 +1,12 @@
 -- The text of a bin's pieces, where it stands at a frame's place, is read back from there.
-use Rattle.std.proofs.Common.{◌≡◌, ℕ, ◌+◌, ◌*◌, ◌<◌, ◌≤◌, ◌^◌, List, [], ◌∷◌, ◌++◌, length, drop, eqb, Option, Some, None}
-use Rattle.std.proofs.Common.{refl, sym, ap, ap₂, ◌∙◌, subst, arith, eq-eqb}
-use Rattle.std.proofs.lemmas.Bool.{cond-true}
-use Rattle.std.proofs.lemmas.List.{drop-take, take-append-drop}
-use Rattle.lert_bay.specs.declared.bay.TheConstants.{FRAMES}
-use Rattle.lert_bay.specs.Files.{Files}
-use Rattle.lert_bay.specs.Settled.{part}
-use Rattle.lert_blocks.specs.Frame.{blocks_found}
-use Rattle.lert_blocks.specs.Text.{slots_of}
-use Rattle.lert_blocks.specs.Walk.{Found}
-use Rattle.lert_blocks.proofs.LengthLaws.{slots_few, text_fits}
-use Rattle.lert_blocks.proofs.RoundTrip.{text_found}
-use Rattle.lert_spec.specs.declared.numbers.Numbers.{Numbers}
-use Rattle.lert_spec.specs.declared.piece.Piece.{Piece}
-use Rattle.lert_spec.specs.Edges.{span, width, quotient_bits}
-use Rattle.lert_spec.specs.Limits.{IsValid}
-use Rattle.lert_spec.specs.Table.{total, AscendsFrom}
+use Rattle.std.proofs.Common.{◌≡◌, ℕ, ◌+◌, ◌*◌, ◌<◌, ◌≤◌, ◌^◌, List, [], ◌∷◌, ◌++◌, length, drop, eqb, Option, Some, None, refl, sym, ap, ap₂, ◌∙◌, subst, arith, eq-eqb}
+use Rattle.std.{proofs.lemmas.Bool.cond-true, proofs.lemmas.List.{drop-take, take-append-drop}}
+use Rattle.lert_bay.{specs.declared.bay.TheConstants.FRAMES, specs.Files.Files, specs.Settled.part}
+use Rattle.lert_blocks.{specs.Frame.blocks_found, specs.Text.slots_of, specs.Walk.Found, proofs.LengthLaws.{slots_few, text_fits}, proofs.RoundTrip.text_found}
+use Rattle.lert_spec.{specs.declared.numbers.Numbers.Numbers, specs.declared.piece.Piece.Piece, specs.Edges.{span, width, quotient_bits}, specs.Limits.IsValid, specs.Table.{total, AscendsFrom}}
 use Rattle.lert_spec.proofs.LimitLaws.{quotient_bits_by_zeros}
-use Rattle.lert_frames.specs.Frame.{HoldsFrame, IsBin, judged, frame_text, frame_found, frame_left, frame_pieces}
-use Rattle.lert_frames.specs.Place.{block_count, frame_len, most_slots, frame_place, tail_limit}
-use Rattle.lert_frames.specs.ToCome.{left_of, pieces_of, if_whole, told_of}
-use Rattle.lert_frames.specs.declared.reader.FrameReader.{FrameReader}
-use Rattle.lert_frames.proofs.PlaceLaws.{span_half, tails_are}
+use Rattle.lert_frames.{specs.Frame.{HoldsFrame, IsBin, judged, frame_text, frame_found, frame_left, frame_pieces}, specs.Place.{block_count, frame_len, most_slots, frame_place, tail_limit}}
+use Rattle.lert_frames.{specs.ToCome.{left_of, pieces_of, if_whole, told_of}, specs.declared.reader.FrameReader.FrameReader, proofs.PlaceLaws.{span_half, tails_are}}
 
 -- the bits of a remainder
 pub width_within : (s : Numbers) (level : ℕ) → IsValid s → level ≤ s.levels → (24 ≤ width s level) × (width s level ≤ 58)

@@ -1,21 +1,13 @@
 -- What bytes say as blocks rests on their front alone: where it has all that the blocks may have, or where it leaves their
 -- text nowhere, more bytes behind it, and another end of the file, change nothing.
-use Rattle.std.proofs.Common.{◌≡◌, ℕ, zero, suc, ◌+◌, ◌-◌, ◌*◌, ◌/◌, ◌<◌, ◌≤◌, ◌⊎◌, ◌==◌, ◌||◌, ◌&&◌, nat_lt, not, min, cond, Bool, true, false, List, [], ◌++◌, length, take, drop, Option, Some, None}
-use Rattle.std.proofs.Common.{option_map, refl, sym, ap, ap₂, ◌∙◌, inl, inr, arith, length-append, length-drop, lt-ltb, le-ltb, ltb-false}
-use Rattle.std.proofs.lemmas.Bool.{cases_Bool, cond-true, cond-false, or_parts}
-use Rattle.std.proofs.lemmas.List.{drop-append-le, length-take-le}
+use Rattle.std.proofs.Common.{◌≡◌, ℕ, zero, suc, ◌+◌, ◌-◌, ◌*◌, ◌/◌, ◌<◌, ◌≤◌, ◌⊎◌, ◌==◌, ◌||◌, ◌&&◌, nat_lt, not, min, cond, Bool, true, false, List, [], ◌++◌, length, take, drop, Option}
+use Rattle.std.proofs.Common.{Some, None, option_map, refl, sym, ap, ap₂, ◌∙◌, inl, inr, arith, length-append, length-drop, lt-ltb, le-ltb, ltb-false}
+use Rattle.std.{proofs.lemmas.Bool.{cases_Bool, cond-true, cond-false, or_parts}, proofs.lemmas.List.{drop-append-le, length-take-le}}
 use Rattle.byteorder.specs.Endian.{little_number}
-use Rattle.lert_slotbits.specs.Bits.{word_bits, row_of}
-use Rattle.lert_slotbits.proofs.RowLemmas.{length_row}
-use Rattle.lert_blocks.specs.Frame.{numbers_in, occupied_in, count_in, words_in, head_len, block_len, slots_in, ends_in, ends_agree, head_left, slot_place, placed}
-use Rattle.lert_blocks.specs.Frame.{slots_found, block_found, blocks_found}
-use Rattle.lert_blocks.specs.Text.{word_count}
-use Rattle.lert_blocks.specs.Walk.{Found, behind, walk, places}
-use Rattle.lert_blocks.proofs.BlockBack.{behind_none}
-use Rattle.lert_blocks.proofs.WalkBack.{map_none, some_none}
-use Rattle.lert_frames.specs.Place.{blocks_bytes}
-use Rattle.lert_frames.proofs.NumberLaws.{length-numbers, little_number-append, numbers-append}
-use Rattle.lert_frames.proofs.ThereLaws.{walk_left, walk_whole}
+use Rattle.lert_slotbits.{specs.Bits.{word_bits, row_of}, proofs.RowLemmas.length_row}
+use Rattle.lert_blocks.specs.Frame.{numbers_in, occupied_in, count_in, words_in, head_len, block_len, slots_in, ends_in, ends_agree, head_left, slot_place, placed, slots_found, block_found}
+use Rattle.lert_blocks.{specs.Frame.blocks_found, specs.Text.word_count, specs.Walk.{Found, behind, walk, places}, proofs.BlockBack.behind_none, proofs.WalkBack.{map_none, some_none}}
+use Rattle.lert_frames.{specs.Place.blocks_bytes, proofs.NumberLaws.{length-numbers, little_number-append, numbers-append}, proofs.ThereLaws.{walk_left, walk_whole}}
 
 -- the number of slots is none that a block may have
 abbrev IsUnfit : ℕ → List ℕ → Bool

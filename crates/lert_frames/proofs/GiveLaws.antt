@@ -1,6 +1,5 @@
 -- The first piece that is ready is given.
-use Rattle.std.proofs.Common.{◌≡◌, ◌+◌, ◌<◌, ◌∙◌, ℕ, List, [], ◌∷◌, ◌++◌, length, drop, get_or, ap, sym, append_assoc}
-use Rattle.std.proofs.lemmas.List.{drop_more}
+use Rattle.std.{proofs.Common.{◌≡◌, ◌+◌, ◌<◌, ◌∙◌, ℕ, List, [], ◌∷◌, ◌++◌, length, drop, get_or, ap, sym, append_assoc}, proofs.lemmas.List.drop_more}
 use Rattle.lert_spec.specs.declared.piece.Piece.{Piece}
 
 module _ (pieces : List Piece) (given : ℕ) (piece : Piece) (within : given < length pieces) (is : piece ≡ get_or pieces given piece) where

@@ -1,20 +1,9 @@
 -- What a writer of a frame keeps, through each of its changes.
-use Rattle.std.proofs.Common.{◌≡◌, ℕ, ◌+◌, ◌-◌, ◌*◌, ◌/◌, ◌<◌, ◌≤◌, ◌^◌, List, Option, Some, None, refl, sym, ap, ◌∙◌, subst, inl, inr, arith}
-use Rattle.std.proofs.lemmas.Nat.{pow_pos}
-use Rattle.std.proofs.lemmas.Bool.{cases_lt}
-use Rattle.std.proofs.lemmas.Option.{none-some}
-use Rattle.lert_frames.proofs.PlaceLaws.{span_half, blocks_are}
-use Rattle.lert_frames.specs.declared.long.Long.{Long}
-use Rattle.lert_frames.specs.declared.outlet.Outlet.{Outlet}
-use Rattle.lert_frames.specs.Growing.{slots_out, IsLong, IsGrowing, IsHolding}
-use Rattle.lert_frames.specs.Outlet.{next_place, size_of}
-use Rattle.lert_frames.specs.Place.{block_count, blocks_bytes, frame_len}
-use Rattle.lert_frames.specs.Spilt.{Reaches, HasRoom, block_bytes, first_place, last_place, closed_place}
-use Rattle.lert_spec.specs.declared.numbers.Numbers.{Numbers}
-use Rattle.lert_spec.specs.declared.piece.Piece.{Piece}
-use Rattle.lert_spec.specs.Edges.{span, quotient_bits}
-use Rattle.lert_spec.specs.Limits.{IsValid}
-use Rattle.lert_spec.specs.Table.{total}
+use Rattle.std.{proofs.Common.{◌≡◌, ℕ, ◌+◌, ◌-◌, ◌*◌, ◌/◌, ◌<◌, ◌≤◌, ◌^◌, List, Option, Some, None, refl, sym, ap, ◌∙◌, subst, inl, inr, arith}, proofs.lemmas.Nat.pow_pos}
+use Rattle.std.{proofs.lemmas.Bool.cases_lt, proofs.lemmas.Option.none-some}
+use Rattle.lert_frames.{proofs.PlaceLaws.{span_half, blocks_are}, specs.declared.long.Long.Long, specs.declared.outlet.Outlet.Outlet, specs.Growing.{slots_out, IsLong, IsGrowing, IsHolding}}
+use Rattle.lert_frames.{specs.Outlet.{next_place, size_of}, specs.Place.{block_count, blocks_bytes, frame_len}, specs.Spilt.{Reaches, HasRoom, block_bytes, first_place, last_place, closed_place}}
+use Rattle.lert_spec.{specs.declared.numbers.Numbers.Numbers, specs.declared.piece.Piece.Piece, specs.Edges.{span, quotient_bits}, specs.Limits.IsValid, specs.Table.total}
 
 -- ---- numbers
 

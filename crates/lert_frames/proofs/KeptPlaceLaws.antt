@@ -1,23 +1,10 @@
 -- What bytes at hand, and behind them those of a file, say as blocks, where only other places of the file were written.
-use Rattle.std.proofs.Common.{◌≡◌, ℕ, ◌+◌, ◌-◌, ◌*◌, ◌<◌, ◌≤◌, ◌⊎◌, List, ◌++◌, length, take, drop, None, refl, sym, ap, ap₂, ◌∙◌, inl, inr, ⊎_elim, arith}
-use Rattle.std.proofs.Common.{append-nil, append_assoc, length-append, length-drop, length-take}
-use Rattle.std.proofs.lemmas.Bool.{cases_eq, cases_lt}
-use Rattle.std.proofs.lemmas.List.{drop-append-le, drop_all, take_all, take-append-drop}
-use Rattle.lert_blocks.specs.Frame.{blocks_found}
-use Rattle.lert_blocks.specs.Text.{word_count}
-use Rattle.lert_blocks.specs.Walk.{Found}
-use Rattle.lert_frames.specs.Apart.{SamePlace}
-use Rattle.lert_frames.specs.declared.decoder.Decoder.{Decoder}
-use Rattle.lert_frames.specs.declared.window.Window.{Window}
-use Rattle.lert_frames.specs.Decoded.{decoder_found, found_by, IsBetween}
-use Rattle.lert_frames.specs.Place.{blocks_bytes}
-use Rattle.lert_frames.specs.Window.{at_hand, place_of, to_come}
-use Rattle.lert_frames.proofs.DecodedLaws.{found_ahead}
-use Rattle.lert_frames.proofs.FieldLaws.{end_of, length_hand}
-use Rattle.lert_frames.proofs.FrontLaws.{found_front}
-use Rattle.lert_frames.proofs.PartLaws.{part_is}
-use Rattle.lert_frames.proofs.RestLaws.{AreThere, by_front}
-use Rattle.lert_frames.proofs.SamePlaceLaws.{same_part}
+use Rattle.std.proofs.Common.{◌≡◌, ℕ, ◌+◌, ◌-◌, ◌*◌, ◌<◌, ◌≤◌, ◌⊎◌, List, ◌++◌, length, take, drop, None, refl, sym, ap, ap₂, ◌∙◌, inl, inr, ⊎_elim, arith, append-nil, append_assoc}
+use Rattle.std.{proofs.Common.{length-append, length-drop, length-take}, proofs.lemmas.Bool.{cases_eq, cases_lt}, proofs.lemmas.List.{drop-append-le, drop_all, take_all, take-append-drop}}
+use Rattle.lert_blocks.{specs.Frame.blocks_found, specs.Text.word_count, specs.Walk.Found}
+use Rattle.lert_frames.{specs.Apart.SamePlace, specs.declared.decoder.Decoder.Decoder, specs.declared.window.Window.Window, specs.Decoded.{decoder_found, found_by, IsBetween}}
+use Rattle.lert_frames.{specs.Place.blocks_bytes, specs.Window.{at_hand, place_of, to_come}, proofs.DecodedLaws.found_ahead, proofs.FieldLaws.{end_of, length_hand}, proofs.FrontLaws.found_front}
+use Rattle.lert_frames.{proofs.PartLaws.part_is, proofs.RestLaws.{AreThere, by_front}, proofs.SamePlaceLaws.same_part}
 
 -- lists that begin with the same items, at least so many
 pub record HasFront (count : ℕ) (old new : List ℕ) : Type 0 where

@@ -1,17 +1,10 @@
 -- Run ends that are all at hand, and those that another window passes.
 use Rattle.std.proofs.Common.{◌≡◌, ℕ, ◌+◌, ◌-◌, ◌*◌, ◌<◌, ◌≤◌, Bool, List, [], ◌++◌, length, take, drop, sym, ap, ap₂, ◌∙◌, subst, arith, length-append, length-take, length-drop}
-use Rattle.lert_blocks.specs.Frame.{numbers_in, words_in, ends_agree}
-use Rattle.lert_blocks.specs.Text.{word_count}
-use Rattle.lert_frames.specs.declared.fields.Head.{Head}
-use Rattle.lert_frames.specs.declared.run_ends.RunEnds.{RunEnds}
-use Rattle.lert_frames.specs.declared.window.Window.{Window}
-use Rattle.lert_frames.specs.Steps.{AreCounted, AreFields, AreWords, fields_len}
+use Rattle.lert_blocks.{specs.Frame.{numbers_in, words_in, ends_agree}, specs.Text.word_count}
+use Rattle.lert_frames.{specs.declared.fields.Head.Head, specs.declared.run_ends.RunEnds.RunEnds, specs.declared.window.Window.Window, specs.Steps.{AreCounted, AreFields, AreWords, fields_len}}
+use Rattle.lert_frames.{specs.Bytes.AreBytes, specs.Window.{at_hand, count_of, place_of, to_come, IsRead}, proofs.FieldLaws.{length_hand, end_of, words_near, words_are, bytes_join}}
+use Rattle.lert_frames.{proofs.WindowLaws.none_read, proofs.NumberLaws.{length-numbers, numbers-append}}
 use Rattle.lert_bay.specs.Settled.{part}
-use Rattle.lert_frames.specs.Bytes.{AreBytes}
-use Rattle.lert_frames.specs.Window.{at_hand, count_of, place_of, to_come, IsRead}
-use Rattle.lert_frames.proofs.FieldLaws.{length_hand, end_of, words_near, words_are, bytes_join}
-use Rattle.lert_frames.proofs.WindowLaws.{none_read}
-use Rattle.lert_frames.proofs.NumberLaws.{length-numbers, numbers-append}
 
 -- what an answer says of the words of a block that were counted
 abbrev pub Agrees : Head → RunEnds → Bool → Type 0

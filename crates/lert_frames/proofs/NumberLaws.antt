@@ -1,8 +1,6 @@
 -- Numbers in eight bytes each, at the front of bytes.
 use Rattle.std.proofs.Common.{◌≡◌, ℕ, zero, suc, ◌+◌, ◌-◌, ◌*◌, ◌≤◌, List, [], ◌∷◌, ◌++◌, length, take, drop, get_or, map, refl, sym, ap, ap₂, ◌∙◌, arith, length-drop, length-take}
-use Rattle.std.specs.List.{range_with_len}
-use Rattle.std.proofs.Math.ListN.{get_or-append}
-use Rattle.std.proofs.lemmas.List.{drop-drop, drop-append-le, take_at, take-append-drop}
+use Rattle.std.{specs.List.range_with_len, proofs.Math.ListN.get_or-append, proofs.lemmas.List.{drop-drop, drop-append-le, take_at, take-append-drop}}
 use Rattle.std.proofs.lemmas.List.FromFn.{get_or-map-range_with_len, length-map-range_with_len, take-map-range_with_len, map-range_with_len_more, fill_by_all}
 use Rattle.byteorder.specs.Endian.{little_from, little_number, IsRead}
 use Rattle.lert_blocks.specs.Frame.{numbers_in}

@@ -1,22 +1,10 @@
 -- Bytes on their way into a file.
-use Rattle.std.proofs.Common.{◌≡◌, ℕ, ◌+◌, ◌<◌, ◌≤◌, List, ◌++◌, length, take, Some, refl, sym, ap, ap₂, ◌∙◌, ◌⊎◌, inl, inr, arith}
-use Rattle.std.proofs.Common.{append-nil, append_assoc, length-append, length-take, length-drop}
-use Rattle.std.proofs.lemmas.Bool.{cases_lt}
-use Rattle.std.proofs.lemmas.List.{drop_at, length-take-le, take_at, take-append-le, with_items_is}
-use Rattle.std.proofs.Math.Seq.{take-add}
+use Rattle.std.proofs.Common.{◌≡◌, ℕ, ◌+◌, ◌<◌, ◌≤◌, List, ◌++◌, length, take, Some, refl, sym, ap, ap₂, ◌∙◌, ◌⊎◌, inl, inr, arith, append-nil, append_assoc, length-append, length-take}
+use Rattle.std.{proofs.Common.length-drop, proofs.lemmas.Bool.cases_lt, proofs.lemmas.List.{drop_at, length-take-le, take_at, take-append-le, with_items_is}, proofs.Math.Seq.take-add}
 use Rattle.std.specs.Vec.{with_items}
-use Rattle.lert_bay.specs.Files.{Files, Holds}
-use Rattle.lert_bay.specs.Kept.{Bays}
-use Rattle.lert_bay.specs.Settled.{part}
-use Rattle.lert_bay.specs.declared.bay.TheConstants.{FRAMES}
-use Rattle.lert_bay.proofs.Laid.{length_held}
-use Rattle.lert_bay.proofs.Settling.{part_none, part_torn}
+use Rattle.lert_bay.{specs.Files.{Files, Holds}, specs.Kept.Bays, specs.Settled.part, specs.declared.bay.TheConstants.FRAMES, proofs.Laid.length_held, proofs.Settling.{part_none, part_torn}}
 use Rattle.lert_bay.proofs.Tearing.{torn_held}
-use Rattle.lert_frames.specs.Kept.{WritesWithin}
-use Rattle.lert_frames.specs.Outlet.{IsOut, unwritten}
-use Rattle.lert_frames.specs.declared.outlet.Outlet.{Outlet}
-use Rattle.lert_frames.proofs.PartLaws.{part_join}
-use Rattle.lert_frames.proofs.WithinLaws.{part_within}
+use Rattle.lert_frames.{specs.Kept.WritesWithin, specs.Outlet.{IsOut, unwritten}, specs.declared.outlet.Outlet.Outlet, proofs.PartLaws.part_join, proofs.WithinLaws.part_within}
 use Rattle.lert_frames.proofs.WriteLaws.{held_there}
 
 module _ (begin : ℕ) (text file : List ℕ) (o : Outlet) (out : IsOut begin text file o) where

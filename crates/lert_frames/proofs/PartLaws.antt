@@ -1,8 +1,6 @@
 -- Parts of a file.
-use Rattle.std.proofs.Common.{◌≡◌, ℕ, ◌+◌, ◌-◌, ◌≤◌, List, ◌++◌, length, take, drop, sym, ap, ◌∙◌, arith, length-take}
-use Rattle.std.proofs.lemmas.List.{drop-append-le, drop-take, take-take}
-use Rattle.std.proofs.lemmas.Slice.{between_is}
-use Rattle.std.proofs.Math.Seq.{take-add}
+use Rattle.std.{proofs.Common.{◌≡◌, ℕ, ◌+◌, ◌-◌, ◌≤◌, List, ◌++◌, length, take, drop, sym, ap, ◌∙◌, arith, length-take}, proofs.lemmas.List.{drop-append-le, drop-take, take-take}}
+use Rattle.std.{proofs.lemmas.Slice.between_is, proofs.Math.Seq.take-add}
 use Rattle.lert_bay.specs.Settled.{part}
 
 -- a part by its length

@@ -1,16 +1,9 @@
 -- Words of run ends that are passed, one behind another.
-use Rattle.std.proofs.Common.{◌≡◌, ℕ, ◌+◌, ◌-◌, ◌*◌, ◌<◌, ◌≤◌, List, [], ◌∷◌, ◌++◌, length, take, drop, Some, refl, sym, ap, ◌∙◌, subst, arith, length-drop}
-use Rattle.std.proofs.lemmas.List.{drop-drop}
-use Rattle.byteorder.specs.Endian.{little_number}
-use Rattle.byteorder.specs.Numbers.{little_from-take}
-use Rattle.lert_bay.specs.declared.bay.TheConstants.{FRAMES}
-use Rattle.lert_bay.specs.Files.{Files}
-use Rattle.lert_bay.specs.Kept.{Bays}
+use Rattle.std.{proofs.Common.{◌≡◌, ℕ, ◌+◌, ◌-◌, ◌*◌, ◌<◌, ◌≤◌, List, [], ◌∷◌, ◌++◌, length, take, drop, Some, refl, sym, ap, ◌∙◌, subst, arith, length-drop}, proofs.lemmas.List.drop-drop}
+use Rattle.byteorder.{specs.Endian.little_number, specs.Numbers.little_from-take}
+use Rattle.lert_bay.{specs.declared.bay.TheConstants.FRAMES, specs.Files.Files, specs.Kept.Bays}
 use Rattle.lert_blocks.specs.Frame.{numbers_in}
-use Rattle.lert_frames.specs.declared.run_ends.RunEnds.{RunEnds}
-use Rattle.lert_frames.specs.declared.window.Window.{Window}
-use Rattle.lert_frames.specs.Steps.{AreCounted, PassesWords}
-use Rattle.lert_frames.specs.Window.{place_of, room_of, to_come, IsRead}
+use Rattle.lert_frames.{specs.declared.run_ends.RunEnds.RunEnds, specs.declared.window.Window.Window, specs.Steps.{AreCounted, PassesWords}, specs.Window.{place_of, room_of, to_come, IsRead}}
 use Rattle.lert_frames.proofs.NumberLaws.{numbers-more}
 
 -- the words of bytes, and one more

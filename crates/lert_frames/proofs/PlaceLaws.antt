@@ -1,13 +1,8 @@
 -- Places of frames don't overlap, and end early.
 use Rattle.std.proofs.Common.{◌≡◌, ◌≢◌, ℕ, zero, suc, ◌+◌, ◌-◌, ◌*◌, ◌/◌, ◌%◌, ◌^◌, ◌<◌, ◌≤◌, ◌⊎◌, inl, inr, ap, sym, ◌∙◌, subst, arith}
-use Rattle.std.proofs.Math.Nat.{mod-eq_of_lt, mul-le-mul_left, mul-le-mul_right, one-le-pow, pow-le-pow_right}
-use Rattle.std.proofs.lemmas.Bool.{cases_lt, cases_order}
-use Rattle.std.proofs.lemmas.Nat.{leading_top, mul-le, pow-add, pow_pos}
-use Rattle.std.proofs.lemmas.Nat.Bits.{ones_shr}
-use Rattle.lert_spec.specs.declared.numbers.Numbers.{Numbers}
-use Rattle.lert_spec.specs.Edges.{span, spans, quotient_bits, width}
-use Rattle.lert_spec.specs.Limits.{IsValid}
-use Rattle.lert_spec.proofs.EdgeLaws.{span_pos}
+use Rattle.std.{proofs.Math.Nat.{mod-eq_of_lt, mul-le-mul_left, mul-le-mul_right, one-le-pow, pow-le-pow_right}, proofs.lemmas.Bool.{cases_lt, cases_order}}
+use Rattle.std.{proofs.lemmas.Nat.{leading_top, mul-le, pow-add, pow_pos}, proofs.lemmas.Nat.Bits.ones_shr}
+use Rattle.lert_spec.{specs.declared.numbers.Numbers.Numbers, specs.Edges.{span, spans, quotient_bits, width}, specs.Limits.IsValid, proofs.EdgeLaws.span_pos}
 use Rattle.lert_spec.proofs.LimitLaws.{span_grows, quotient_bits_by_zeros}
 use Rattle.lert_frames.specs.Place.{block_count, frame_len, frame_lens, frame_place, tail_limit}
 

@@ -1,18 +1,9 @@
 -- A writer's steps in turn.
 use Rattle.std.proofs.Common.{◌≡◌, ℕ, ◌+◌, ◌≤◌, List, Some, sym, ◌∙◌, subst, arith}
-use Rattle.lert_bay.specs.declared.bay.TheConstants.{FRAMES}
-use Rattle.lert_bay.specs.Files.{Files}
-use Rattle.lert_bay.specs.Kept.{Bays}
-use Rattle.lert_frames.specs.Calls.{Writes}
-use Rattle.lert_frames.specs.Frame.{HoldsFrame}
-use Rattle.lert_frames.specs.Kept.{KeepsOutside}
-use Rattle.lert_frames.specs.Place.{frame_len, frame_place}
-use Rattle.lert_frames.specs.Writing.{IsAt, SameFrame, Proceeds, Stays, end_of}
-use Rattle.lert_frames.specs.declared.writer.FrameWriter.{FrameWriter}
-use Rattle.lert_frames.proofs.CallLaws.{writes_none, writes_on, writes_as, told_then}
-use Rattle.lert_frames.proofs.WithinLaws.{within_outside}
-use Rattle.lert_spec.specs.declared.numbers.Numbers.{Numbers}
-use Rattle.lert_spec.specs.declared.piece.Piece.{Piece}
+use Rattle.lert_bay.{specs.declared.bay.TheConstants.FRAMES, specs.Files.Files, specs.Kept.Bays}
+use Rattle.lert_frames.{specs.Calls.Writes, specs.Frame.HoldsFrame, specs.Kept.KeepsOutside, specs.Place.{frame_len, frame_place}, specs.Writing.{IsAt, SameFrame, Proceeds, Stays, end_of}}
+use Rattle.lert_frames.{specs.declared.writer.FrameWriter.FrameWriter, proofs.CallLaws.{writes_none, writes_on, writes_as, told_then}, proofs.WithinLaws.within_outside}
+use Rattle.lert_spec.{specs.declared.numbers.Numbers.Numbers, specs.declared.piece.Piece.Piece}
 
 pub same_on : (a b c : FrameWriter) → SameFrame a b → SameFrame b c → SameFrame a c
 same_on a b c one two = record {

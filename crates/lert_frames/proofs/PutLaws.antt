@@ -1,9 +1,6 @@
 -- One piece more of a list that is put.
-use Rattle.std.proofs.Common.{ℕ, ◌≡◌, ◌+◌, ◌<◌, ◌≤◌, zero, suc, List, [], ◌∷◌, ◌++◌, length, take, get_or, ap, sym, ◌∙◌, subst, arith}
-use Rattle.std.proofs.lemmas.List.{take_more}
-use Rattle.lert_spec.proofs.GivenLaws.{given_take}
-use Rattle.lert_spec.specs.declared.piece.Piece.{Piece}
-use Rattle.lert_spec.specs.Table.{total, AreGiven}
+use Rattle.std.{proofs.Common.{ℕ, ◌≡◌, ◌+◌, ◌<◌, ◌≤◌, zero, suc, List, [], ◌∷◌, ◌++◌, length, take, get_or, ap, sym, ◌∙◌, subst, arith}, proofs.lemmas.List.take_more}
+use Rattle.lert_spec.{proofs.GivenLaws.given_take, specs.declared.piece.Piece.Piece, specs.Table.{total, AreGiven}}
 
 pub total_front : (n : ℕ) (pieces : List Piece) → total (take n pieces) ≤ total pieces
 total_front zero pieces = omega arith

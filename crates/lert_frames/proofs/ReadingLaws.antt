@@ -1,17 +1,10 @@
 -- What a reader keeps through a step of its decoder.
-use Rattle.std.proofs.Common.{◌≡◌, ℕ, zero, suc, ◌+◌, ◌-◌, ◌<◌, ◌≤◌, ◌^◌, List, [], ◌∷◌, ◌++◌, All, length, take, drop, get_or, Option, Some, None}
-use Rattle.std.proofs.Common.{refl, sym, ap, ap₂, ◌∙◌, subst, inl, inr, arith, eqb, ltb, lt-ltb, le-ltb, eq-eqb, ne_eqb, append_assoc, length-append}
-use Rattle.std.proofs.lemmas.Bool.{cases_eq, cases_lt, cond-true, cond-false}
-use Rattle.std.proofs.lemmas.List.{drop-append-le}
-use Rattle.std.proofs.lemmas.List.Elements.{All-nil}
+use Rattle.std.proofs.Common.{◌≡◌, ℕ, zero, suc, ◌+◌, ◌-◌, ◌<◌, ◌≤◌, ◌^◌, List, [], ◌∷◌, ◌++◌, All, length, take, drop, get_or, Option, Some, None, refl, sym, ap, ap₂, ◌∙◌, subst, inl, inr}
+use Rattle.std.{proofs.Common.{arith, eqb, ltb, lt-ltb, le-ltb, eq-eqb, ne_eqb, append_assoc, length-append}, proofs.lemmas.Bool.{cases_eq, cases_lt, cond-true, cond-false}}
+use Rattle.std.{proofs.lemmas.List.drop-append-le, proofs.lemmas.List.Elements.All-nil}
 use Rattle.lert_blocks.specs.Walk.{Found, behind}
-use Rattle.lert_spec.specs.declared.piece.Piece.{Piece}
-use Rattle.lert_spec.specs.Table.{total, AreGiven, AscendsFrom}
-use Rattle.lert_spec.proofs.GivenLaws.{given_wide}
-use Rattle.lert_frames.specs.Frame.{if_summed}
-use Rattle.lert_frames.specs.InOrder.{given_on}
-use Rattle.lert_frames.specs.Reading.{if_over, verdict, SumsUp, sum_less, pieces_kept}
-use Rattle.lert_frames.specs.declared.reader.Sum.{Sum}
+use Rattle.lert_spec.{specs.declared.piece.Piece.Piece, specs.Table.{total, AreGiven, AscendsFrom}, proofs.GivenLaws.given_wide}
+use Rattle.lert_frames.{specs.Frame.if_summed, specs.InOrder.given_on, specs.Reading.{if_over, verdict, SumsUp, sum_less, pieces_kept}, specs.declared.reader.Sum.Sum}
 use Rattle.lert_frames.specs.declared.reader.Sum.TheVariants.{Left, Over}
 
 -- ---- pieces and their counts

@@ -1,25 +1,12 @@
 -- What is to come of a decoder rests on the front of its bytes alone, as what bytes say as blocks does.
-use Rattle.std.proofs.Common.{◌≡◌, ℕ, ◌+◌, ◌*◌, ◌≤◌, ◌⊎◌, Bool, false, replicate, List, ◌++◌, length, take, drop, None}
-use Rattle.std.proofs.Common.{sym, ap, ap₂, ◌∙◌, inl, inr, arith, length-append, length-drop}
-use Rattle.std.proofs.lemmas.Bool.{cases_eq}
-use Rattle.std.proofs.lemmas.List.{drop-append-le}
+use Rattle.std.proofs.Common.{◌≡◌, ℕ, ◌+◌, ◌*◌, ◌≤◌, ◌⊎◌, Bool, false, replicate, List, ◌++◌, length, take, drop, None, sym, ap, ap₂, ◌∙◌, inl, inr, arith, length-append, length-drop}
+use Rattle.std.{proofs.lemmas.Bool.cases_eq, proofs.lemmas.List.drop-append-le}
 use Rattle.lert_slotbits.specs.Bits.{word_bits, row_of}
-use Rattle.lert_blocks.specs.Decoding.{rest_found}
-use Rattle.lert_blocks.specs.Frame.{numbers_in, blocks_found, placed, slot_place}
-use Rattle.lert_blocks.specs.Text.{word_count}
-use Rattle.lert_blocks.specs.Walk.{Found, behind, places}
-use Rattle.lert_blocks.proofs.BlockBack.{behind_none}
-use Rattle.lert_blocks.proofs.WalkBack.{map_none}
-use Rattle.lert_frames.specs.declared.decoder.Ahead.{Ahead}
-use Rattle.lert_frames.specs.declared.decoder.Present.{Present}
-use Rattle.lert_frames.specs.Decoded.{words_there, ends_there, slots_there, block_rest, blocks_rest, found_by}
-use Rattle.lert_frames.specs.Place.{blocks_bytes}
-use Rattle.lert_frames.proofs.DecodedLaws.{rest_decoded}
-use Rattle.lert_frames.proofs.EndLaws.{length-ends_there}
-use Rattle.lert_frames.proofs.FrontLaws.{AreEnough, found_front, placed_same}
-use Rattle.lert_frames.proofs.NumberLaws.{numbers-append}
-use Rattle.lert_frames.proofs.SlotLaws.{slots_len, length-slots_there}
-use Rattle.lert_frames.proofs.ThereLaws.{walk_left, walk_whole}
+use Rattle.lert_blocks.{specs.Decoding.rest_found, specs.Frame.{numbers_in, blocks_found, placed, slot_place}, specs.Text.word_count, specs.Walk.{Found, behind, places}}
+use Rattle.lert_blocks.{proofs.BlockBack.behind_none, proofs.WalkBack.map_none}
+use Rattle.lert_frames.{specs.declared.decoder.Ahead.Ahead, specs.declared.decoder.Present.Present, specs.Decoded.{words_there, ends_there, slots_there, block_rest, blocks_rest, found_by}}
+use Rattle.lert_frames.{specs.Place.blocks_bytes, proofs.DecodedLaws.rest_decoded, proofs.EndLaws.length-ends_there, proofs.FrontLaws.{AreEnough, found_front, placed_same}}
+use Rattle.lert_frames.{proofs.NumberLaws.numbers-append, proofs.SlotLaws.{slots_len, length-slots_there}, proofs.ThereLaws.{walk_left, walk_whole}}
 
 -- all slots of a block are there, with the words of their run ends
 pub record AreThere (some : ℕ) (ends slots : List ℕ) : Type 0 where

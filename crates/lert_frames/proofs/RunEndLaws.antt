@@ -1,19 +1,11 @@
 -- The test of run ends, word by word.
-use Rattle.std.proofs.Common.{◌≡◌, ℕ, zero, suc, ◌+◌, ◌-◌, ◌*◌, ◌/◌, ◌%◌, ◌^◌, ◌<◌, ◌==◌, ◌&&◌, Bool, true, false, cond, List, [], ◌∷◌, ◌++◌, length, take, drop, get_or, refl, sym, ap, ap₂, ◌∙◌}
-use Rattle.std.proofs.Common.{inl, inr, arith, length-append, eq-eqb, ne_eqb, append-nil, append_assoc}
-use Rattle.std.specs.Prelude.{slice_index_or, count_ones}
-use Rattle.std.proofs.Math.Nat.{pow-suc, div-div-eq-div-mul, pow-succ'}
-use Rattle.std.proofs.Math.Seq.{get_or-append_seam, drop-append-add}
-use Rattle.std.proofs.lemmas.Bool.{cases_eq}
+use Rattle.std.proofs.Common.{◌≡◌, ℕ, zero, suc, ◌+◌, ◌-◌, ◌*◌, ◌/◌, ◌%◌, ◌^◌, ◌<◌, ◌==◌, ◌&&◌, Bool, true, false, cond, List, [], ◌∷◌, ◌++◌, length, take, drop, get_or, refl, sym, ap, ap₂}
+use Rattle.std.{proofs.Common.{◌∙◌, inl, inr, arith, length-append, eq-eqb, ne_eqb, append-nil, append_assoc}, specs.Prelude.{slice_index_or, count_ones}}
+use Rattle.std.{proofs.Math.Nat.{pow-suc, div-div-eq-div-mul, pow-succ'}, proofs.Math.Seq.{get_or-append_seam, drop-append-add}, proofs.lemmas.Bool.cases_eq}
 use Rattle.std.proofs.lemmas.List.{get_or-append-add, take_all, take_more, length-take-le, nil_from_length}
-use Rattle.lert_slotbits.specs.Bits.{bits_in, word_bits, row_of, trues}
-use Rattle.lert_slotbits.proofs.CountLemmas.{trues-append, trues-word}
-use Rattle.lert_slotbits.proofs.RowLemmas.{length_row}
-use Rattle.lert_blocks.specs.Frame.{ends_agree}
-use Rattle.lert_blocks.specs.Text.{word_count}
-use Rattle.lert_blocks.proofs.BitLaws.{trues-cons}
-use Rattle.lert_frames.specs.declared.run_ends.RunEnds.{RunEnds}
-use Rattle.lert_frames.specs.Steps.{AreCounted}
+use Rattle.lert_slotbits.{specs.Bits.{bits_in, word_bits, row_of, trues}, proofs.CountLemmas.{trues-append, trues-word}, proofs.RowLemmas.length_row}
+use Rattle.lert_blocks.{specs.Frame.ends_agree, specs.Text.word_count, proofs.BitLaws.trues-cons}
+use Rattle.lert_frames.{specs.declared.run_ends.RunEnds.RunEnds, specs.Steps.AreCounted}
 
 -- ---- counting
 

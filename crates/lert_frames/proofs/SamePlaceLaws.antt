@@ -1,16 +1,8 @@
 -- A file in which other places than a frame's were written.
-use Rattle.std.proofs.Common.{◌≡◌, ℕ, ◌+◌, ◌-◌, ◌≤◌, ◌⊎◌, min, List, length, take, drop, Some, refl, sym, ap, ◌∙◌, inl, inr, arith, length-drop, length-take}
-use Rattle.std.proofs.lemmas.Bool.{cases_lt}
+use Rattle.std.{proofs.Common.{◌≡◌, ℕ, ◌+◌, ◌-◌, ◌≤◌, ◌⊎◌, min, List, length, take, drop, Some, refl, sym, ap, ◌∙◌, inl, inr, arith, length-drop, length-take}, proofs.lemmas.Bool.cases_lt}
 use Rattle.std.proofs.lemmas.List.{drop-drop}
-use Rattle.lert_bay.specs.Files.{Files, Torn}
-use Rattle.lert_bay.specs.Kept.{Bays}
-use Rattle.lert_bay.specs.Settled.{part}
-use Rattle.lert_bay.specs.declared.bay.TheConstants.{FRAMES}
-use Rattle.lert_bay.proofs.Settling.{part_none, part_torn}
-use Rattle.lert_frames.specs.Apart.{SamePlace}
-use Rattle.lert_frames.specs.Kept.{WritesWithin}
-use Rattle.lert_frames.proofs.PartLaws.{part_less}
-use Rattle.lert_frames.proofs.WithinLaws.{turned}
+use Rattle.lert_bay.{specs.Files.{Files, Torn}, specs.Kept.Bays, specs.Settled.part, specs.declared.bay.TheConstants.FRAMES, proofs.Settling.{part_none, part_torn}}
+use Rattle.lert_frames.{specs.Apart.SamePlace, specs.Kept.WritesWithin, proofs.PartLaws.part_less, proofs.WithinLaws.turned}
 
 -- ---- what stands in the place
 

@@ -1,18 +1,10 @@
 -- The slots at hand of a word of run ends, among all that are to come.
-use Rattle.std.proofs.Common.{◌≡◌, ℕ, ◌-◌, ◌*◌, ◌/◌, ◌<◌, ◌≤◌, min, List, [], ◌++◌, length, take, drop, sym, ap, ◌∙◌, inl, inr, arith, length-append, length-drop}
-use Rattle.std.proofs.lemmas.Bool.{cases_lt}
+use Rattle.std.{proofs.Common.{◌≡◌, ℕ, ◌-◌, ◌*◌, ◌/◌, ◌<◌, ◌≤◌, min, List, [], ◌++◌, length, take, drop, sym, ap, ◌∙◌, inl, inr, arith, length-append, length-drop}, proofs.lemmas.Bool.cases_lt}
 use Rattle.std.proofs.lemmas.List.{drop_all, take-append-drop}
 use Rattle.lert_slotbits.specs.Bits.{word_bits}
-use Rattle.lert_blocks.specs.declared.decoder.Slots.{Slots}
-use Rattle.lert_blocks.specs.Decoding.{AreSlots}
-use Rattle.lert_blocks.specs.Frame.{numbers_in}
-use Rattle.lert_frames.specs.Decoded.{words_there, ends_there, slots_there}
-use Rattle.lert_frames.specs.declared.slots.WordEnds.{WordEnds}
-use Rattle.lert_frames.specs.declared.window.Window.{Window}
-use Rattle.lert_frames.specs.Steps.{AreAtHand, AreEnds}
-use Rattle.lert_frames.specs.Window.{at_hand, count_of, to_come}
-use Rattle.lert_frames.proofs.FieldLaws.{length_hand}
-use Rattle.lert_frames.proofs.EndLaws.{length-ends_there, ends_near}
+use Rattle.lert_blocks.{specs.declared.decoder.Slots.Slots, specs.Decoding.AreSlots, specs.Frame.numbers_in}
+use Rattle.lert_frames.{specs.Decoded.{words_there, ends_there, slots_there}, specs.declared.slots.WordEnds.WordEnds, specs.declared.window.Window.Window, specs.Steps.{AreAtHand, AreEnds}}
+use Rattle.lert_frames.{specs.Window.{at_hand, count_of, to_come}, proofs.FieldLaws.length_hand, proofs.EndLaws.{length-ends_there, ends_near}}
 use Rattle.lert_frames.proofs.NumberLaws.{length-numbers, numbers-append, take-numbers, drop-numbers}
 
 -- how many there are

@@ -1,17 +1,11 @@
 -- The words of run ends and the slots of a block, in parts.
 use Rattle.std.proofs.Common.{◌≡◌, ℕ, ◌+◌, ◌-◌, ◌*◌, ◌<◌, ◌≤◌, Bool, List, ◌++◌, length, take, drop, get_or, sym, ap, ◌∙◌, inl, inr, arith, length-append, length-drop}
-use Rattle.std.proofs.lemmas.Bool.{cases_lt}
-use Rattle.std.proofs.lemmas.Grind.{flat_map-append}
+use Rattle.std.{proofs.lemmas.Bool.cases_lt, proofs.lemmas.Grind.flat_map-append}
 use Rattle.std.proofs.lemmas.List.{ext_get_or, get_or_append_left, get_or-append_right, take-append-le, drop-append-le, take_at, drop-drop, drop_at, length-take-le, take-append-drop}
-use Rattle.std.proofs.lemmas.List.FromFn.{get_or-map-range_with_len, length-map-range_with_len}
-use Rattle.std.proofs.Math.Seq.{take-add}
+use Rattle.std.{proofs.lemmas.List.FromFn.{get_or-map-range_with_len, length-map-range_with_len}, proofs.Math.Seq.take-add}
 use Rattle.byteorder.specs.Endian.{little_bytes}
-use Rattle.lert_blocks.specs.declared.block.Block.{Block}
-use Rattle.lert_frames.specs.declared.long.Long.{Long}
-use Rattle.lert_frames.specs.declared.outlet.Outlet.{Outlet}
-use Rattle.lert_frames.specs.Outlet.{next_place}
-use Rattle.lert_frames.specs.Spilt.{Reaches}
-use Rattle.lert_blocks.specs.Text.{number_of_bits, word_count, words_of, numbers_text}
+use Rattle.lert_blocks.{specs.declared.block.Block.Block, specs.Text.{number_of_bits, word_count, words_of, numbers_text}}
+use Rattle.lert_frames.{specs.declared.long.Long.Long, specs.declared.outlet.Outlet.Outlet, specs.Outlet.next_place, specs.Spilt.Reaches}
 
 -- ---- the slots of a block in memory, and their words of run ends
 

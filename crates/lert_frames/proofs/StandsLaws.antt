@@ -1,15 +1,8 @@
 -- Where a decoder stands in a frame's place, through its steps.
 use Rattle.std.proofs.Common.{◌≡◌, ℕ, ◌+◌, ◌-◌, ◌*◌, ◌<◌, ◌≤◌, min, ap, sym, ◌∙◌, subst, arith}
 use Rattle.lert_blocks.specs.Text.{word_count}
-use Rattle.lert_frames.specs.declared.decoder.Ahead.{Ahead}
-use Rattle.lert_frames.specs.declared.decoder.Decoder.{Decoder}
-use Rattle.lert_frames.specs.declared.decoder.Present.{Present}
-use Rattle.lert_frames.specs.declared.fields.Head.{Head}
-use Rattle.lert_frames.specs.Decoded.{IsBetween}
-use Rattle.lert_frames.specs.Place.{blocks_bytes, frame_len}
-use Rattle.lert_frames.specs.Reading.{StandsIn}
-use Rattle.lert_frames.specs.Steps.{fields_len}
-use Rattle.lert_frames.specs.Window.{place_of}
+use Rattle.lert_frames.{specs.declared.decoder.Ahead.Ahead, specs.declared.decoder.Decoder.Decoder, specs.declared.decoder.Present.Present, specs.declared.fields.Head.Head}
+use Rattle.lert_frames.{specs.Decoded.IsBetween, specs.Place.{blocks_bytes, frame_len}, specs.Reading.StandsIn, specs.Steps.fields_len, specs.Window.place_of}
 use Rattle.lert_spec.specs.declared.numbers.Numbers.{Numbers}
 
 -- ---- numbers

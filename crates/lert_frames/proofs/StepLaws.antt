@@ -1,31 +1,15 @@
 -- What a step of a decoder leaves, by what its parts leave.
 use Rattle.std.proofs.Common.{◌≡◌, ℕ, ◌+◌, ◌-◌, ◌*◌, ◌^◌, ◌<◌, ◌≤◌, List, [], length, drop, Some, None, Ok, Err, refl, sym, ap, ◌∙◌, subst, arith, pow_pos}
-use Rattle.std.specs.Prelude.{IsErrOf, OnErr, OnOk, Result}
-use Rattle.std.proofs.lemmas.List.Elements.{All-nil}
-use Rattle.std.proofs.Math.Nat.{le-mul_of_pos_right}
-use Rattle.lert_base.specs.declared.pieces.PieceFault.{PieceFault}
-use Rattle.lert_base.specs.declared.pieces.PieceFault.TheVariants.{Failed, Malformed}
-use Rattle.lert_bay.specs.declared.bay.TheConstants.{FRAMES}
-use Rattle.lert_bay.specs.Files.{Files}
-use Rattle.lert_bay.specs.Kept.{Bays, OnlyReads}
-use Rattle.lert_blocks.specs.Frame.{words_in, blocks_found, head_left}
-use Rattle.lert_blocks.specs.Text.{word_count}
-use Rattle.lert_blocks.specs.Walk.{Found, behind, nothing}
-use Rattle.lert_spec.specs.declared.piece.Piece.{Piece}
-use Rattle.lert_spec.specs.Table.{AscendsFrom}
-use Rattle.lert_frames.specs.declared.decoder.Ahead.{Ahead}
-use Rattle.lert_frames.specs.declared.decoder.Decoder.{Decoder}
-use Rattle.lert_frames.specs.declared.decoder.Present.{Present}
-use Rattle.lert_frames.specs.declared.fields.Head.{Head}
-use Rattle.lert_frames.specs.declared.window.Window.{Window}
-use Rattle.lert_frames.specs.Decoded.{decoder_found, decoder_floor, decoder_limit, decoder_end, work_of, found_by, end_by, floor_by}
-use Rattle.lert_frames.specs.Steps.{AreFields, AreWords, IsFitting, Passes, ReadsAhead, Steps, fields_len, run_ends_left}
-use Rattle.lert_frames.specs.Window.{place_of, to_come}
-use Rattle.lert_frames.proofs.DecodedLaws.{given, found_ahead, fields_left, begin_gives, begin_end}
-use Rattle.lert_frames.proofs.FaultLaws.{not_err}
-use Rattle.lert_frames.proofs.FieldLaws.{head_fits, end_of}
-use Rattle.lert_frames.proofs.FloorLaws.{bounded_by_limit, floor_none, floor_from_first}
-use Rattle.lert_frames.proofs.StandsLaws.{between_begun, between_still}
+use Rattle.std.{specs.Prelude.{IsErrOf, OnErr, OnOk, Result}, proofs.lemmas.List.Elements.All-nil, proofs.Math.Nat.le-mul_of_pos_right}
+use Rattle.lert_base.{specs.declared.pieces.PieceFault.PieceFault, specs.declared.pieces.PieceFault.TheVariants.{Failed, Malformed}}
+use Rattle.lert_bay.{specs.declared.bay.TheConstants.FRAMES, specs.Files.Files, specs.Kept.{Bays, OnlyReads}}
+use Rattle.lert_blocks.{specs.Frame.{words_in, blocks_found, head_left}, specs.Text.word_count, specs.Walk.{Found, behind, nothing}}
+use Rattle.lert_spec.{specs.declared.piece.Piece.Piece, specs.Table.AscendsFrom}
+use Rattle.lert_frames.{specs.declared.decoder.Ahead.Ahead, specs.declared.decoder.Decoder.Decoder, specs.declared.decoder.Present.Present, specs.declared.fields.Head.Head}
+use Rattle.lert_frames.{specs.declared.window.Window.Window, specs.Decoded.{decoder_found, decoder_floor, decoder_limit, decoder_end, work_of, found_by, end_by, floor_by}}
+use Rattle.lert_frames.{specs.Steps.{AreFields, AreWords, IsFitting, Passes, ReadsAhead, Steps, fields_len, run_ends_left}, specs.Window.{place_of, to_come}}
+use Rattle.lert_frames.{proofs.DecodedLaws.{given, found_ahead, fields_left, begin_gives, begin_end}, proofs.FaultLaws.not_err, proofs.FieldLaws.{head_fits, end_of}}
+use Rattle.lert_frames.{proofs.FloorLaws.{bounded_by_limit, floor_none, floor_from_first}, proofs.StandsLaws.{between_begun, between_still}}
 
 -- nothing of a block is to come, so none of it is decoded
 none_from : (d : Decoder) → d.block.some ≡ 0 → d.block.from ≡ 0

@@ -1,11 +1,8 @@
 -- A walk breaks a rule among the slots that it is to have, and where it breaks none, all of them are there.
-use Rattle.std.proofs.Common.{◌≡◌, ℕ, zero, suc, ◌+◌, ◌-◌, ◌^◌, ◌<◌, ◌≤◌, ◌⊎◌, Bool, false, List, [], ◌∷◌, length, take, drop, get_or, Option, Some, None, option_map}
-use Rattle.std.proofs.Common.{Result, Ok, Err, refl, sym, ◌∙◌, inl, inr, arith, ltb, lt-ltb, le-ltb, length-drop}
-use Rattle.std.proofs.lemmas.Bool.{cases_lt, cond-true, cond-false, cond_both}
+use Rattle.std.proofs.Common.{◌≡◌, ℕ, zero, suc, ◌+◌, ◌-◌, ◌^◌, ◌<◌, ◌≤◌, ◌⊎◌, Bool, false, List, [], ◌∷◌, length, take, drop, get_or, Option, Some, None, option_map, Result, Ok, Err, refl}
+use Rattle.std.{proofs.Common.{sym, ◌∙◌, inl, inr, arith, ltb, lt-ltb, le-ltb, length-drop}, proofs.lemmas.Bool.{cases_lt, cond-true, cond-false, cond_both}}
 use Rattle.lert_counter.specs.declared.group.Group.{Group}
-use Rattle.lert_blocks.specs.Grammar.{group_read}
-use Rattle.lert_blocks.specs.Walk.{Found, broken, reach, first_bad, if_above, group_at, after_group, walk_on, walk}
-use Rattle.lert_blocks.proofs.WalkBack.{map_none, some_none}
+use Rattle.lert_blocks.{specs.Grammar.group_read, specs.Walk.{Found, broken, reach, first_bad, if_above, group_at, after_group, walk_on, walk}, proofs.WalkBack.{map_none, some_none}}
 use Rattle.lert_blocks.proofs.WalkLaws.{group_at-ok, reach_within}
 
 -- ---- the slot that breaks a rule

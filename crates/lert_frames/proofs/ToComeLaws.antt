@@ -1,22 +1,12 @@
 -- What is to come of a reader, over several steps, and as it hands out pieces.
-use Rattle.std.proofs.Common.{◌≡◌, ℕ, ◌+◌, ◌≤◌, List, [], ◌∷◌, ◌++◌, drop, Option, Some, None, refl, sym, ap, ap₂, ◌∙◌, subst, arith}
-use Rattle.std.specs.Prelude.{◌↔◌, MatchOption, option_to_list}
+use Rattle.std.{proofs.Common.{◌≡◌, ℕ, ◌+◌, ◌≤◌, List, [], ◌∷◌, ◌++◌, drop, Option, Some, None, refl, sym, ap, ap₂, ◌∙◌, subst, arith}, specs.Prelude.{◌↔◌, MatchOption, option_to_list}}
 use Rattle.std.proofs.lemmas.List.{append-nil}
-use Rattle.lert_bay.specs.declared.bay.TheConstants.{FRAMES}
-use Rattle.lert_bay.specs.Files.{Files}
-use Rattle.lert_blocks.specs.Frame.{blocks_len}
-use Rattle.lert_blocks.specs.Walk.{Found, nothing}
-use Rattle.lert_spec.specs.declared.piece.Piece.{Piece}
-use Rattle.lert_spec.specs.Table.{total}
-use Rattle.lert_frames.specs.Decoded.{decoder_found, decoder_end}
-use Rattle.lert_frames.specs.Place.{block_count}
-use Rattle.lert_frames.specs.Reading.{SumsUp, verdict}
-use Rattle.lert_frames.specs.ToCome.{known_or, left_of, pieces_of, ready_of, if_whole, told_of, Breaks, IsSameFrame, IsSameToCome, HandsOut, IsOver, IsWithin}
-use Rattle.lert_frames.specs.Window.{IsRead, place_of}
-use Rattle.lert_frames.specs.declared.decoder.Decoder.{Decoder}
-use Rattle.lert_frames.specs.declared.reader.FrameReader.{FrameReader}
-use Rattle.lert_frames.specs.declared.reader.Sum.{Sum}
-use Rattle.lert_frames.specs.declared.reader.Sum.TheVariants.{Left, Over}
+use Rattle.lert_bay.{specs.declared.bay.TheConstants.FRAMES, specs.Files.Files}
+use Rattle.lert_blocks.{specs.Frame.blocks_len, specs.Walk.{Found, nothing}}
+use Rattle.lert_spec.{specs.declared.piece.Piece.Piece, specs.Table.total}
+use Rattle.lert_frames.{specs.Decoded.{decoder_found, decoder_end}, specs.Place.block_count, specs.Reading.{SumsUp, verdict}}
+use Rattle.lert_frames.{specs.ToCome.{known_or, left_of, pieces_of, ready_of, if_whole, told_of, Breaks, IsSameFrame, IsSameToCome, HandsOut, IsOver, IsWithin}, specs.Window.{IsRead, place_of}}
+use Rattle.lert_frames.{specs.declared.decoder.Decoder.Decoder, specs.declared.reader.FrameReader.FrameReader, specs.declared.reader.Sum.Sum, specs.declared.reader.Sum.TheVariants.{Left, Over}}
 use Rattle.lert_frames.proofs.ReadingLaws.{total-append}
 
 -- ---- steps in turn

@@ -1,20 +1,11 @@
 -- What is at hand in a window, and what is to come.
-use Rattle.std.proofs.Common.{◌≡◌, ◌↔◌, ℕ, ◌+◌, ◌-◌, ◌<◌, ◌≤◌, Bool, false, true, List, [], ◌++◌}
-use Rattle.std.proofs.Common.{length, take, drop, get_or, refl, sym, ap, ap₂, ◌∙◌, subst, inl, inr, arith}
-use Rattle.std.proofs.Common.{append_assoc, length-take, length-drop}
-use Rattle.std.proofs.Math.Dec.{leb}
-use Rattle.std.proofs.lemmas.Bool.{cases_lt, le-leb, leb-false, leb-true}
+use Rattle.std.proofs.Common.{◌≡◌, ◌↔◌, ℕ, ◌+◌, ◌-◌, ◌<◌, ◌≤◌, Bool, false, true, List, [], ◌++◌, length, take, drop, get_or, refl, sym, ap, ap₂, ◌∙◌, subst, inl, inr, arith, append_assoc}
+use Rattle.std.{proofs.Common.{length-take, length-drop}, proofs.Math.Dec.leb, proofs.lemmas.Bool.{cases_lt, le-leb, leb-false, leb-true}}
 use Rattle.std.proofs.lemmas.List.{drop-drop, drop-append-le, drop-take, get_or-take, get_or-drop, get_or_default, take-append-drop, take_all, with_items_is}
-use Rattle.std.proofs.lemmas.List.Elements.{All-append, All-drop, All-nil, All-same, All-take}
-use Rattle.std.proofs.Math.Seq.{take-add}
-use Rattle.std.specs.Bool.{IsFalse, IsTrue}
-use Rattle.std.specs.Vec.{with_items}
+use Rattle.std.{proofs.lemmas.List.Elements.{All-append, All-drop, All-nil, All-same, All-take}, proofs.Math.Seq.take-add, specs.Bool.{IsFalse, IsTrue}, specs.Vec.with_items}
 use Rattle.std.specs.declared.vec.Vec.{Vec}
-use Rattle.lert_bay.specs.Files.{CopiesFrom}
-use Rattle.lert_bay.specs.Settled.{part}
-use Rattle.lert_bay.proofs.Settling.{part_none}
-use Rattle.lert_frames.specs.Bytes.{AreBytes}
-use Rattle.lert_frames.proofs.PartLaws.{part_is, part_join, part_less}
+use Rattle.lert_bay.{specs.Files.CopiesFrom, specs.Settled.part, proofs.Settling.part_none}
+use Rattle.lert_frames.{specs.Bytes.AreBytes, proofs.PartLaws.{part_is, part_join, part_less}}
 
 -- bytes of a buffer
 pub small_part : (bytes : List ℕ) (from count : ℕ) → ((k : ℕ) → get_or bytes k 0 < 256) → AreBytes (take count (drop from bytes))

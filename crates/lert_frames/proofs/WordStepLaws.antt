@@ -1,32 +1,15 @@
 -- What a step over the slots of one word leaves.
 use Rattle.std.proofs.Common.{◌≡◌, ℕ, ◌+◌, ◌-◌, ◌*◌, ◌^◌, ◌<◌, ◌≤◌, min, nat_lt, Bool, List, ◌++◌, length, drop, All, Some, Ok, refl, sym, ap, ◌∙◌, subst, inl, inr, arith, lt-ltb, le-ltb}
-use Rattle.std.specs.Prelude.{IsErrOf}
-use Rattle.std.proofs.lemmas.Bool.{cases_eq, cases_lt, cond-true, cond-false}
-use Rattle.std.proofs.lemmas.List.{drop_at}
-use Rattle.std.proofs.Math.Nat.{mul-le-mul_right}
-use Rattle.lert_base.specs.declared.pieces.PieceFault.{PieceFault}
-use Rattle.lert_base.specs.declared.pieces.PieceFault.TheVariants.{Failed, Malformed}
-use Rattle.lert_bay.specs.declared.bay.TheConstants.{FRAMES}
-use Rattle.lert_bay.specs.Files.{Files}
-use Rattle.lert_bay.specs.Kept.{Bays, OnlyReads}
+use Rattle.std.{specs.Prelude.IsErrOf, proofs.lemmas.Bool.{cases_eq, cases_lt, cond-true, cond-false}, proofs.lemmas.List.drop_at, proofs.Math.Nat.mul-le-mul_right}
+use Rattle.lert_base.{specs.declared.pieces.PieceFault.PieceFault, specs.declared.pieces.PieceFault.TheVariants.{Failed, Malformed}}
+use Rattle.lert_bay.{specs.declared.bay.TheConstants.FRAMES, specs.Files.Files, specs.Kept.{Bays, OnlyReads}}
 use Rattle.lert_slotbits.specs.Bits.{word_bits}
-use Rattle.lert_spec.specs.declared.piece.Piece.{Piece}
-use Rattle.lert_spec.specs.Table.{AscendsFrom}
-use Rattle.lert_blocks.specs.declared.decoder.Walk.{Walk}
-use Rattle.lert_blocks.specs.Decoding.{floor_of, rest_found, with_front}
-use Rattle.lert_blocks.specs.Walk.{behind, places}
-use Rattle.lert_blocks.proofs.PieceLaws.{ascends_below}
-use Rattle.lert_frames.specs.declared.decoder.Ahead.{Ahead}
-use Rattle.lert_frames.specs.declared.decoder.Decoder.{Decoder}
-use Rattle.lert_frames.specs.declared.decoder.Present.{Present}
-use Rattle.lert_frames.specs.Decoded.{ends_there, slots_there, found_by, end_by, floor_by}
-use Rattle.lert_frames.specs.Steps.{Steps}
-use Rattle.lert_frames.specs.Window.{place_of, to_come, IsRead}
-use Rattle.lert_frames.proofs.DecodedLaws.{given, slot_spot, word_gives, word_end}
-use Rattle.lert_frames.proofs.FaultLaws.{not_err, same_place}
-use Rattle.lert_frames.proofs.FloorLaws.{bounded_by_limit, floor_high, block_rises, floor_none, floor_some}
-use Rattle.lert_frames.proofs.SlotLaws.{slots_len}
-use Rattle.lert_frames.proofs.StandsLaws.{between_passed}
+use Rattle.lert_spec.{specs.declared.piece.Piece.Piece, specs.Table.AscendsFrom}
+use Rattle.lert_blocks.{specs.declared.decoder.Walk.Walk, specs.Decoding.{floor_of, rest_found, with_front}, specs.Walk.{behind, places}, proofs.PieceLaws.ascends_below}
+use Rattle.lert_frames.{specs.declared.decoder.Ahead.Ahead, specs.declared.decoder.Decoder.Decoder, specs.declared.decoder.Present.Present}
+use Rattle.lert_frames.{specs.Decoded.{ends_there, slots_there, found_by, end_by, floor_by}, specs.Steps.Steps, specs.Window.{place_of, to_come, IsRead}}
+use Rattle.lert_frames.{proofs.DecodedLaws.{given, slot_spot, word_gives, word_end}, proofs.FaultLaws.{not_err, same_place}}
+use Rattle.lert_frames.{proofs.FloorLaws.{bounded_by_limit, floor_high, block_rises, floor_none, floor_some}, proofs.SlotLaws.slots_len, proofs.StandsLaws.between_passed}
 
 -- the place of a slot, as it is answered
 pub spot_is : (place end there count at spot : ℕ) (fault : PieceFault) → at ≤ count → count ≤ there → (count ≤ at → there ≤ count) →

@@ -1,33 +1,18 @@
 -- What was put stands in the file and in the buffers, through each change of a writer.
-use Rattle.std.proofs.Common.{◌≡◌, ◌≢◌, ℕ, zero, suc, ◌+◌, ◌*◌, ◌/◌, ◌^◌, ◌<◌, ◌≤◌, ◌==◌, Bool, true, false, cond, List, [], ◌∷◌, ◌++◌, length, take, Option}
-use Rattle.std.proofs.Common.{Some, None, refl, sym, ap, ap₂, ◌∙◌, subst, inl, inr, arith}
-use Rattle.std.proofs.Common.{append-nil, append_assoc, length-append, length-take, eq-eqb, ne_eqb}
-use Rattle.std.proofs.lemmas.Bool.{cond-true, cond-false}
-use Rattle.std.proofs.lemmas.List.{take-append-le}
-use Rattle.std.proofs.Math.Nat.{mul-le-mul_right}
-use Rattle.std.proofs.Math.Seq.{get_or-append_seam}
+use Rattle.std.proofs.Common.{◌≡◌, ◌≢◌, ℕ, zero, suc, ◌+◌, ◌*◌, ◌/◌, ◌^◌, ◌<◌, ◌≤◌, ◌==◌, Bool, true, false, cond, List, [], ◌∷◌, ◌++◌, length, take, Option, Some, None, refl, sym, ap, ap₂}
+use Rattle.std.{proofs.Common.{◌∙◌, subst, inl, inr, arith, append-nil, append_assoc, length-append, length-take, eq-eqb, ne_eqb}, proofs.lemmas.Bool.{cond-true, cond-false}}
+use Rattle.std.{proofs.lemmas.List.take-append-le, proofs.Math.Nat.mul-le-mul_right, proofs.Math.Seq.get_or-append_seam}
 use Rattle.lert_bay.specs.Settled.{part}
-use Rattle.lert_blocks.specs.declared.block.Block.{Block}
-use Rattle.lert_blocks.specs.Filling.{IsFilled, IsNext}
+use Rattle.lert_blocks.{specs.declared.block.Block.Block, specs.Filling.{IsFilled, IsNext}}
 use Rattle.lert_blocks.specs.Text.{quotient_of, group_of, slots_of, ends_of, words_of, numbers_text, block_text, pieces_in, blocks_text}
 use Rattle.lert_blocks.proofs.BlockLaws.{slots_of-push, ends_before, ends_of-push, ends_of-push_two, last_of, length_ends}
 use Rattle.lert_blocks.proofs.PieceLaws.{block_grows, in_block, block_below, ascends_from, ascends_below, pieces_in-ascend}
-use Rattle.lert_frames.specs.declared.long.Long.{Long}
-use Rattle.lert_frames.specs.declared.outlet.Outlet.{Outlet}
-use Rattle.lert_frames.specs.Frame.{frame_text, HoldsFrame}
-use Rattle.lert_frames.specs.Outlet.{IsOut, next_place, unwritten}
-use Rattle.lert_frames.specs.Place.{block_count, frame_place, tail_limit}
-use Rattle.lert_frames.specs.Spilt.{IsSpilt, IsBehind}
-use Rattle.lert_frames.proofs.GrowingLaws.{not_long, same_long}
-use Rattle.lert_frames.proofs.OutletLaws.{out_whole}
+use Rattle.lert_frames.{specs.declared.long.Long.Long, specs.declared.outlet.Outlet.Outlet, specs.Frame.{frame_text, HoldsFrame}, specs.Outlet.{IsOut, next_place, unwritten}}
+use Rattle.lert_frames.{specs.Place.{block_count, frame_place, tail_limit}, specs.Spilt.{IsSpilt, IsBehind}, proofs.GrowingLaws.{not_long, same_long}, proofs.OutletLaws.out_whole}
 use Rattle.lert_frames.proofs.PlaceLaws.{tails_are}
-use Rattle.lert_spec.specs.declared.numbers.Numbers.{Numbers}
-use Rattle.lert_spec.specs.declared.piece.Piece.{Piece}
-use Rattle.lert_spec.specs.Edges.{width}
-use Rattle.lert_spec.specs.Limits.{IsValid}
-use Rattle.lert_counter.specs.Group.{IsCount}
-use Rattle.lert_spec.proofs.LimitLaws.{quotient_bits_by_zeros}
+use Rattle.lert_spec.{specs.declared.numbers.Numbers.Numbers, specs.declared.piece.Piece.Piece, specs.Edges.width, specs.Limits.IsValid, proofs.LimitLaws.quotient_bits_by_zeros}
 use Rattle.lert_spec.specs.Table.{AscendsFrom, AreGiven, total}
+use Rattle.lert_counter.specs.Group.{IsCount}
 
 -- ---- one piece more
 

@@ -1,26 +1,13 @@
 -- What the widths of the streams bound: the sums so far, and how many pieces still come.
-use Rattle.std.proofs.Common.{ℕ, zero, suc, ◌≡◌, ◌≢◌, ◌+◌, ◌-◌, ◌<◌, ◌≤◌, true, Option, None, List, [], ◌∷◌, ◌++◌, length, get_or, sum}
-use Rattle.std.proofs.Common.{ap, sym, ◌∙◌, subst, arith, inl, inr}
+use Rattle.std.proofs.Common.{ℕ, zero, suc, ◌≡◌, ◌≢◌, ◌+◌, ◌-◌, ◌<◌, ◌≤◌, true, Option, None, List, [], ◌∷◌, ◌++◌, length, get_or, sum, ap, sym, ◌∙◌, subst, arith, inl, inr}
 use Rattle.std.proofs.lemmas.Bool.{cases_eq}
-use Rattle.lert_frames.specs.Place.{tail_limit}
-use Rattle.lert_frames.proofs.ReadingLaws.{total-append}
-use Rattle.lert_levels.specs.landing.Landed.{taken, CanTake, IsLandingOf}
-use Rattle.lert_levels.specs.landing.Summed.{sums_of}
-use Rattle.lert_levels.specs.landing.Whole.{AreUpTo}
-use Rattle.lert_levels.specs.declared.landing.landing.Landing.{Landing}
-use Rattle.lert_levels.specs.declared.landing.sum.Sum.{Sum}
-use Rattle.lert_merge.specs.order.Fronts.{front_at}
-use Rattle.lert_merge.specs.order.Ordering.{Ordering, HasTaken}
-use Rattle.lert_merge.specs.declared.order.streams.Streams.{Ghosts as StreamsOf}
-use Rattle.lert_spec.specs.declared.numbers.Numbers.{Numbers}
-use Rattle.lert_spec.specs.declared.piece.Piece.{Piece}
-use Rattle.lert_spec.specs.Edges.{span}
-use Rattle.lert_spec.specs.Table.{total, plus}
-use Rattle.lert_spec.proofs.Tables.{total-plus}
-use Rattle.lert_levels.specs.flush.Merged.{is_of, picked, with_piece, AreWide}
-use Rattle.lert_levels.proofs.flush.PickLaws.{each-picked, sums_less, picked_less}
+use Rattle.lert_frames.{specs.Place.tail_limit, proofs.ReadingLaws.total-append}
+use Rattle.lert_levels.{specs.landing.Landed.{taken, CanTake, IsLandingOf}, specs.landing.Summed.sums_of, specs.landing.Whole.AreUpTo, specs.declared.landing.landing.Landing.Landing}
+use Rattle.lert_levels.{specs.declared.landing.sum.Sum.Sum, specs.flush.Merged.{is_of, picked, with_piece, AreWide}, proofs.flush.PickLaws.{each-picked, sums_less, picked_less}}
 use Rattle.lert_levels.proofs.flush.SumsLaws.{total-sums_of, up_to-sums_of}
 use Rattle.lert_levels.proofs.flush.GatheringLaws.{IsGathering, HasGiven, more, within, len_more, here_more, elsewhere_more, taken_more, sums_are, part_are, next_some, next_below}
+use Rattle.lert_merge.{specs.order.Fronts.front_at, specs.order.Ordering.{Ordering, HasTaken}, specs.declared.order.streams.Streams.{Ghosts as StreamsOf}}
+use Rattle.lert_spec.{specs.declared.numbers.Numbers.Numbers, specs.declared.piece.Piece.Piece, specs.Edges.span, specs.Table.{total, plus}, proofs.Tables.total-plus}
 
 -- ---- sums over the first streams
 

@@ -1,24 +1,14 @@
 -- A merge that goes on: what each stream gave so far, what is left of it, and the totals.
-use Rattle.std.proofs.Common.{ℕ, zero, suc, ◌≡◌, ◌≢◌, ◌+◌, ◌<◌, ◌≤◌, cond, Option, Some, None, List, [], ◌∷◌, ◌++◌, length, get_or, set, replicate}
-use Rattle.std.proofs.Common.{refl, ap, sym, ◌∙◌, subst, arith, inl, inr, append_assoc, append-nil}
-use Rattle.std.proofs.lemmas.Bool.{cases_eq, eq-eqb, ne_eqb}
-use Rattle.std.proofs.lemmas.List.{get_or-set_same, get_or-set_other, get_or-replicate, length-set, length-replicate, ext_get_or}
-use Rattle.std.proofs.lemmas.List.Elements.{All-nil, All-cons, All-append}
-use Rattle.lert_levels.specs.landing.Summed.{sums_of, AreTables}
-use Rattle.lert_levels.specs.landing.Whole.{AreUpTo, Takes}
-use Rattle.lert_levels.specs.declared.landing.sum.Sum.{Sum}
-use Rattle.lert_levels.proofs.landing.SumLaws.{takes_none}
+use Rattle.std.proofs.Common.{ℕ, zero, suc, ◌≡◌, ◌≢◌, ◌+◌, ◌<◌, ◌≤◌, cond, Option, Some, None, List, [], ◌∷◌, ◌++◌, length, get_or, set, replicate, refl, ap, sym, ◌∙◌, subst, arith, inl, inr}
+use Rattle.std.{proofs.Common.{append_assoc, append-nil}, proofs.lemmas.Bool.{cases_eq, eq-eqb, ne_eqb}}
+use Rattle.std.{proofs.lemmas.List.{get_or-set_same, get_or-set_other, get_or-replicate, length-set, length-replicate, ext_get_or}, proofs.lemmas.List.Elements.{All-nil, All-cons, All-append}}
+use Rattle.lert_levels.{specs.landing.Summed.{sums_of, AreTables}, specs.landing.Whole.{AreUpTo, Takes}, specs.declared.landing.sum.Sum.Sum, proofs.landing.SumLaws.takes_none}
+use Rattle.lert_levels.{specs.flush.Merged.{is_of, picked, with_piece, IsUnread, AreToCome, AreTaken}, specs.flush.Staying.ComesTheSame, proofs.flush.WholeLaws.all_to_come}
+use Rattle.lert_levels.proofs.flush.SumsLaws.{front_table, up_to-sums_of, sums_more, part_more}
 use Rattle.lert_merge.specs.order.Fronts.{front_at, pieces_of}
 use Rattle.lert_merge.specs.order.Ordering.{Ordering, HasTaken, Tells, AreOver, IsNext, IsNotBelow, IsBelow, AreEnded, AreKnown, AreWhole, AreSame, Breaks, part_in}
-use Rattle.lert_merge.specs.declared.order.streams.Streams.{Ghosts as StreamsOf}
-use Rattle.lert_merge.specs.tree.Race.{number_at}
-use Rattle.lert_spec.specs.declared.piece.Piece.{Piece}
-use Rattle.lert_spec.specs.Table.{total, plus, AreGiven, IsTable}
-use Rattle.lert_spec.proofs.GivenLaws.{given_wide}
-use Rattle.lert_levels.specs.flush.Merged.{is_of, picked, with_piece, IsUnread, AreToCome, AreTaken}
-use Rattle.lert_levels.specs.flush.Staying.{ComesTheSame}
-use Rattle.lert_levels.proofs.flush.WholeLaws.{all_to_come}
-use Rattle.lert_levels.proofs.flush.SumsLaws.{front_table, up_to-sums_of, sums_more, part_more}
+use Rattle.lert_merge.{specs.declared.order.streams.Streams.{Ghosts as StreamsOf}, specs.tree.Race.number_at}
+use Rattle.lert_spec.{specs.declared.piece.Piece.Piece, specs.Table.{total, plus, AreGiven, IsTable}, proofs.GivenLaws.given_wide}
 
 -- the lists of pieces that the streams gave so far, and what the totals have of them
 pub record IsGathering {S C T : Type 0} (members : StreamsOf S C) (took : T → List Piece → Type 0) (first : Ordering S) (start : C) (lists : List (List Piece))

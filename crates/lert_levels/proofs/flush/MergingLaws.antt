@@ -1,34 +1,16 @@
 -- A merge of bins of which some land.
 use Rattle.std.proofs.Common.{ℕ, ◌≡◌, ◌<◌, ◌≤◌, true, Option, Some, None, MatchOption, List, [], ◌∷◌, ◌++◌, length, get_or, set, refl, ap, sym, ◌∙◌, subst, arith}
-use Rattle.std.specs.Prelude.{IfSome, IsErrOf, Ok, Err}
-use Rattle.std.proofs.lemmas.Bool.{eq-eqb}
-use Rattle.std.proofs.lemmas.Option.{none-some}
-use Rattle.lert_base.specs.declared.pieces.PieceFault.TheVariants as fault
-use Rattle.lert_bay.specs.declared.bay.TheConstants.{FRAMES}
-use Rattle.lert_bay.specs.Files.{IfTold}
-use Rattle.lert_bay.specs.Kept.{Bays}
-use Rattle.lert_bay.proofs.KeptLaws.{IsLawful, reads_none}
-use Rattle.lert_levels.specs.landing.Landed.{taken}
-use Rattle.lert_levels.specs.landing.Landings.{IsOutside}
-use Rattle.lert_levels.specs.landing.Summed.{sums_of}
-use Rattle.lert_levels.specs.landing.Whole.{AreUpTo, Takes}
-use Rattle.lert_levels.specs.declared.landing.landing.Landing.{Landing}
-use Rattle.lert_levels.specs.declared.landing.sum.Sum.{Sum}
-use Rattle.lert_levels.proofs.landing.SummedLaws.{IsTable-sums_of}
-use Rattle.lert_merge.specs.order.Ordering.{Ordering, HasTaken, Tells, AreOver, IsNext, IsNotBelow, IsBelow, AreKnown, AreWhole, AreSame, part_in}
-use Rattle.lert_merge.proofs.StepLemmas.{StepSays}
+use Rattle.std.{specs.Prelude.{IfSome, IsErrOf, Ok, Err}, proofs.lemmas.Bool.eq-eqb, proofs.lemmas.Option.none-some}
+use Rattle.lert_bay.{specs.declared.bay.TheConstants.FRAMES, specs.Files.IfTold, specs.Kept.Bays, proofs.KeptLaws.{IsLawful, reads_none}}
+use Rattle.lert_levels.{specs.landing.Landed.taken, specs.landing.Landings.IsOutside, specs.landing.Summed.sums_of, specs.landing.Whole.{AreUpTo, Takes}}
+use Rattle.lert_levels.{specs.declared.landing.landing.Landing.Landing, specs.declared.landing.sum.Sum.Sum, proofs.landing.SummedLaws.IsTable-sums_of, specs.rows.Landing.LeavesRest}
+use Rattle.lert_levels.{proofs.rows.LandLaws.turns_fewer, specs.flush.Merged.{is_of, picked, with_piece, IsUnread}, specs.flush.Staying.NoneFailed, specs.flush.Writing.LandingsWrite}
+use Rattle.lert_levels.{proofs.flush.GatheringLaws.{IsGathering, HasGiven, nothing, gathering_none, gathering_more, gathering_on, more, part_are, tables_by}, proofs.flush.PartLaws.none_landed}
+use Rattle.lert_levels.{proofs.flush.WholeLaws.told_before, proofs.flush.SteadyLaws.{AreSteady, sure_stepped, comes_same, sure_written, apart_same, writes_read, writes_on, writes_as}}
+use Rattle.lert_merge.{specs.order.Ordering.{Ordering, HasTaken, Tells, AreOver, IsNext, IsNotBelow, IsBelow, AreKnown, AreWhole, AreSame, part_in}, proofs.StepLemmas.StepSays}
 use Rattle.lert_merge.specs.declared.order.streams.Streams.{Ghosts as StreamsOf}
-use Rattle.lert_levels.specs.rows.Landing.{LeavesRest}
-use Rattle.lert_levels.proofs.rows.LandLaws.{turns_fewer}
-use Rattle.lert_spec.specs.declared.piece.Piece.{Piece}
-use Rattle.lert_spec.specs.Table.{plus, AreGiven, IsTable}
-use Rattle.lert_levels.specs.flush.Merged.{is_of, picked, with_piece, IsUnread}
-use Rattle.lert_levels.specs.flush.Staying.{NoneFailed}
-use Rattle.lert_levels.specs.flush.Writing.{LandingsWrite}
-use Rattle.lert_levels.proofs.flush.GatheringLaws.{IsGathering, HasGiven, nothing, gathering_none, gathering_more, gathering_on, more, part_are, tables_by}
-use Rattle.lert_levels.proofs.flush.PartLaws.{none_landed}
-use Rattle.lert_levels.proofs.flush.WholeLaws.{told_before}
-use Rattle.lert_levels.proofs.flush.SteadyLaws.{AreSteady, sure_stepped, comes_same, sure_written, apart_same, writes_read, writes_on, writes_as}
+use Rattle.lert_spec.{specs.declared.piece.Piece.Piece, specs.Table.{plus, AreGiven, IsTable}}
+use Rattle.lert_base.specs.declared.pieces.PieceFault.TheVariants as fault
 
 -- what was taken so far, by the totals and by the landings
 pub record IsMerging {S B T : Type 0} (members : StreamsOf S B) (took : T → List Piece → Type 0) (bays : Bays B) (sure : S → List ℕ → Type 0) (parts : List (Option ℕ))

@@ -1,14 +1,9 @@
 -- The landings of the parts, as a piece lands.
 use Rattle.std.proofs.Common.{ℕ, suc, ◌≡◌, ◌<◌, true, Option, Some, List, [], ◌∷◌, fold, replicate, length, map, get_or, set, refl, ap, sym, ◌∙◌, arith, inl, inr}
-use Rattle.std.proofs.lemmas.Bool.{cases_eq, eq-eqb, ne_eqb}
-use Rattle.std.proofs.lemmas.List.{get_or-set_same, get_or-set_other, get_or-map, get_or-replicate, length-set, length-map, length-replicate}
-use Rattle.lert_levels.specs.landing.Landed.{taken}
-use Rattle.lert_levels.specs.declared.landing.landing.Landing.{Landing}
-use Rattle.lert_spec.specs.declared.piece.Piece.{Piece}
-use Rattle.lert_spec.specs.Table.{plus}
-use Rattle.lert_levels.specs.landing.Summed.{summed, sums_of}
-use Rattle.lert_levels.proofs.flush.PickLaws.{each-picked}
+use Rattle.std.{proofs.lemmas.Bool.{cases_eq, eq-eqb, ne_eqb}, proofs.lemmas.List.{get_or-set_same, get_or-set_other, get_or-map, get_or-replicate, length-set, length-map, length-replicate}}
+use Rattle.lert_levels.{specs.landing.Landed.taken, specs.declared.landing.landing.Landing.Landing, specs.landing.Summed.{summed, sums_of}, proofs.flush.PickLaws.each-picked}
 use Rattle.lert_levels.specs.flush.Merged.{is_of, picked, with_piece}
+use Rattle.lert_spec.{specs.declared.piece.Piece.Piece, specs.Table.plus}
 
 -- ---- nothing is taken yet
 

@@ -1,23 +1,13 @@
 -- Bins over a bay: what stays of them through reads, and through writes elsewhere.
 use Rattle.std.proofs.Common.{ℕ, ◌≡◌, ◌≢◌, ◌<◌, ◌≤◌, ◌⊎◌, ◌↔◌, Option, Some, None, List, length, map, get_or, refl, ap, sym, ◌∙◌, subst, arith, inl, inr}
 use Rattle.std.proofs.lemmas.List.{get_or-map, length-map}
-use Rattle.lert_bay.specs.declared.bay.TheConstants.{FRAMES}
-use Rattle.lert_bay.specs.Files.{Files, IfTold, Turns}
-use Rattle.lert_bay.specs.Kept.{Bays, OnlyReads}
-use Rattle.lert_bay.proofs.KeptLaws.{IsLawful, keeps_on}
-use Rattle.lert_frames.proofs.WriteLaws.{turns_back}
+use Rattle.lert_bay.{specs.declared.bay.TheConstants.FRAMES, specs.Files.{Files, IfTold, Turns}, specs.Kept.{Bays, OnlyReads}, proofs.KeptLaws.{IsLawful, keeps_on}}
+use Rattle.lert_frames.{proofs.WriteLaws.turns_back, proofs.CallLaws.keeps_turned}
 use Rattle.lert_io.specs.Fault.{HasRisen}
-use Rattle.lert_levels.specs.landing.Landings.{Home, home, AreLandings, AreLanding, IsOutside}
-use Rattle.lert_levels.specs.declared.landing.landing.Landing.{Landing}
-use Rattle.lert_merge.specs.order.Ordering.{Ordering, AreSame}
-use Rattle.lert_merge.specs.declared.order.streams.Streams.{Ghosts as StreamsOf}
-use Rattle.lert_levels.specs.rows.Landing.{IsApart, LeavesRest}
-use Rattle.lert_levels.proofs.rows.LandLaws.{rest_on, rest_fewer, read_rest}
-use Rattle.lert_spec.specs.declared.numbers.Numbers.{Numbers}
-use Rattle.lert_spec.specs.Table.{total}
-use Rattle.lert_levels.specs.flush.Staying.{ComesTheSame, NoneFailed}
-use Rattle.lert_levels.specs.flush.Writing.{LandingsWrite}
-use Rattle.lert_frames.proofs.CallLaws.{keeps_turned}
+use Rattle.lert_levels.{specs.landing.Landings.{Home, home, AreLandings, AreLanding, IsOutside}, specs.declared.landing.landing.Landing.Landing, specs.rows.Landing.{IsApart, LeavesRest}}
+use Rattle.lert_levels.{proofs.rows.LandLaws.{rest_on, rest_fewer, read_rest}, specs.flush.Staying.{ComesTheSame, NoneFailed}, specs.flush.Writing.LandingsWrite}
+use Rattle.lert_merge.{specs.order.Ordering.{Ordering, AreSame}, specs.declared.order.streams.Streams.{Ghosts as StreamsOf}}
+use Rattle.lert_spec.{specs.declared.numbers.Numbers.Numbers, specs.Table.total}
 
 -- the laws of bins
 pub record AreSteady {S B : Type 0} (members : StreamsOf S B) (bays : Bays B) (width : S → ℕ → ℕ) (reads : S → ℕ → ℕ → Type 0) (sure : S → List ℕ → Type 0) : Type 0 where

@@ -1,19 +1,11 @@
 -- The sums of what several streams gave, as one of them gives a piece.
-use Rattle.std.proofs.Common.{ℕ, suc, ◌≡◌, ◌+◌, ◌<◌, ◌≤◌, Bool, true, false, cond, eqb, Option, None, List, []}
-use Rattle.std.proofs.Common.{◌∷◌, ◌++◌, fold, length, sum_by, get_or, set, refl, ap, sym, ◌∙◌, subst, arith, inl, inr}
-use Rattle.std.proofs.lemmas.Bool.{cases_eq}
-use Rattle.std.proofs.lemmas.List.{get_or-set_same, get_or-set_other, length-set}
-use Rattle.std.proofs.lemmas.List.Elements.{All-nil, All-head, All-tail}
-use Rattle.std.proofs.lemmas.List.Sums.{sum_by-cons, sum_by-set, sum_by_push}
-use Rattle.lert_levels.specs.landing.Summed.{summed, sums_of, AreTables}
-use Rattle.lert_levels.specs.landing.Whole.{AreUpTo}
-use Rattle.lert_levels.proofs.landing.SummedLaws.{total-summed, tally-table, IsTable-sums_of, count_of-sums_of, plus_up_to}
-use Rattle.lert_spec.specs.declared.piece.Piece.{Piece}
-use Rattle.lert_spec.specs.Table.{count_of, total, plus, AscendsFrom, IsTable}
-use Rattle.lert_spec.proofs.Tables.{AscendsFrom-plus, count_of-plus}
-use Rattle.lert_spec.proofs.TallyLaws.{one_table}
-use Rattle.lert_levels.specs.flush.Merged.{is_of, picked, with_piece}
+use Rattle.std.proofs.Common.{ℕ, suc, ◌≡◌, ◌+◌, ◌<◌, ◌≤◌, Bool, true, false, cond, eqb, Option, None, List, [], ◌∷◌, ◌++◌, fold, length, sum_by, get_or, set, refl, ap, sym, ◌∙◌, subst, arith}
+use Rattle.std.{proofs.Common.{inl, inr}, proofs.lemmas.Bool.cases_eq, proofs.lemmas.List.{get_or-set_same, get_or-set_other, length-set}}
+use Rattle.std.{proofs.lemmas.List.Elements.{All-nil, All-head, All-tail}, proofs.lemmas.List.Sums.{sum_by-cons, sum_by-set, sum_by_push}}
+use Rattle.lert_levels.{specs.landing.Summed.{summed, sums_of, AreTables}, specs.landing.Whole.AreUpTo}
+use Rattle.lert_levels.{proofs.landing.SummedLaws.{total-summed, tally-table, IsTable-sums_of, count_of-sums_of, plus_up_to}, specs.flush.Merged.{is_of, picked, with_piece}}
 use Rattle.lert_levels.proofs.flush.PickLaws.{sum_by-picked-set, each-picked}
+use Rattle.lert_spec.{specs.declared.piece.Piece.Piece, specs.Table.{count_of, total, plus, AscendsFrom, IsTable}, proofs.Tables.{AscendsFrom-plus, count_of-plus}, proofs.TallyLaws.one_table}
 
 -- ---- totals, and what is no greater than a tail
 

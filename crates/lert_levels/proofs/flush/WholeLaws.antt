@@ -1,10 +1,8 @@
 -- Streams that are all told.
-use Rattle.std.proofs.Common.{ℕ, zero, suc, ◌≡◌, ◌≢◌, ◌<◌, Option, Some, None, List, [], ◌∷◌, length, get_or, refl, ap, sym, ◌∙◌, arith, inl, inr}
-use Rattle.std.proofs.lemmas.Option.{none-some}
+use Rattle.std.{proofs.Common.{ℕ, zero, suc, ◌≡◌, ◌≢◌, ◌<◌, Option, Some, None, List, [], ◌∷◌, length, get_or, refl, ap, sym, ◌∙◌, arith, inl, inr}, proofs.lemmas.Option.none-some}
 use Rattle.lert_bay.specs.Files.{Files, Turns}
 use Rattle.lert_levels.specs.flush.Merged.{AreToCome}
-use Rattle.lert_merge.proofs.order.AskLemmas.{none_or}
-use Rattle.lert_merge.specs.declared.order.streams.Streams.{Ghosts as StreamsOf}
+use Rattle.lert_merge.{proofs.order.AskLemmas.none_or, specs.declared.order.streams.Streams.{Ghosts as StreamsOf}}
 use Rattle.lert_spec.specs.declared.piece.Piece.{Piece}
 
 -- some pieces for each number below one

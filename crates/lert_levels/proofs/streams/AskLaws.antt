@@ -1,27 +1,15 @@
 -- A stream of a set that is asked, and a frame that is begun.
-use Rattle.std.proofs.Common.{ℕ, ◌≡◌, ◌≢◌, ◌+◌, ◌-◌, ◌<◌, ◌≤◌, ◌↔◌, ◌++◌, Option, Some, None, MatchOption, IfOk, Result, Ok, List, [], ◌∷◌, length, map, set, take, get_or}
-use Rattle.std.proofs.Common.{refl, sym, ap, ap₂, ◌∙◌, subst, inl, inr, arith, length-set, length-append, length-take, append_assoc}
-use Rattle.std.specs.Prelude.{option_to_list}
-use Rattle.std.proofs.Math.Seq.{take-set-lt}
+use Rattle.std.proofs.Common.{ℕ, ◌≡◌, ◌≢◌, ◌+◌, ◌-◌, ◌<◌, ◌≤◌, ◌↔◌, ◌++◌, Option, Some, None, MatchOption, IfOk, Result, Ok, List, [], ◌∷◌, length, map, set, take, get_or, refl, sym, ap, ap₂}
+use Rattle.std.{proofs.Common.{◌∙◌, subst, inl, inr, arith, length-set, length-append, length-take, append_assoc}, specs.Prelude.option_to_list, proofs.Math.Seq.take-set-lt}
 use Rattle.std.proofs.lemmas.List.{get_or-map, map-set, map-append, length-map, take_at, take_more_set, get_or-take, get_or-append_right, set-append_left, set-append_right}
-use Rattle.std.proofs.Math.ListN.{get_or-append}
-use Rattle.std.proofs.lemmas.Option.{none-some}
+use Rattle.std.{proofs.Math.ListN.get_or-append, proofs.lemmas.Option.none-some}
 use Rattle.lert_base.specs.declared.pieces.PieceFault.{PieceFault}
-use Rattle.lert_bay.specs.declared.bay.TheConstants.{FRAMES}
-use Rattle.lert_bay.specs.Files.{Files}
-use Rattle.lert_frames.proofs.CheckLaws.{whole_from}
-use Rattle.lert_frames.specs.ToCome.{Breaks, IsOver, if_whole, left_of, pieces_of, told_of}
-use Rattle.lert_frames.specs.declared.reader.FrameReader.{FrameReader}
+use Rattle.lert_bay.{specs.declared.bay.TheConstants.FRAMES, specs.Files.Files}
+use Rattle.lert_frames.{proofs.CheckLaws.whole_from, specs.ToCome.{Breaks, IsOver, if_whole, left_of, pieces_of, told_of}, specs.declared.reader.FrameReader.FrameReader}
 use Rattle.lert_merge.proofs.order.AskLemmas.{none_or}
-use Rattle.lert_spec.specs.declared.numbers.Numbers.{Numbers}
-use Rattle.lert_spec.specs.declared.piece.Piece.{Piece}
-use Rattle.lert_spec.specs.Table.{AreGiven}
-use Rattle.lert_spec.proofs.GivenLaws.{given_take}
-use Rattle.lert_levels.specs.streams.Asked.{Answers, Asked}
-use Rattle.lert_levels.specs.streams.Bin.{TableBin, of_table, of_frame, all_of, table_to_come}
-use Rattle.lert_levels.specs.streams.BinLaws.{table_told}
-use Rattle.lert_levels.specs.streams.BinSet.{BinSet}
-use Rattle.lert_levels.specs.streams.Tables.{bin_at, bins_at, all_streams, IsOrdered, AreOrdered, IsBinSet}
+use Rattle.lert_spec.{specs.declared.numbers.Numbers.Numbers, specs.declared.piece.Piece.Piece, specs.Table.AreGiven, proofs.GivenLaws.given_take}
+use Rattle.lert_levels.{specs.streams.Asked.{Answers, Asked}, specs.streams.Bin.{TableBin, of_table, of_frame, all_of, table_to_come}, specs.streams.BinLaws.table_told}
+use Rattle.lert_levels.{specs.streams.BinSet.BinSet, specs.streams.Tables.{bin_at, bins_at, all_streams, IsOrdered, AreOrdered, IsBinSet}}
 use Rattle.lert_levels.proofs.streams.TableLaws.{bins_length, cursors_length, stands_here, stand_with, bin_here, bins_with, ordered_here, ordered_with, reader_here, readers_with}
 
 -- ---- the places of a set's streams

@@ -1,18 +1,9 @@
 -- A frame that is begun behind the other streams.
-use Rattle.std.proofs.Common.{ℕ, ◌≡◌, ◌+◌, ◌-◌, ◌<◌, ◌≤◌, ◌++◌, List, [], ◌∷◌, length, set, get_or}
-use Rattle.std.proofs.Common.{ap, ◌∙◌, arith, length-set}
-use Rattle.lert_frames.specs.Frame.{frame_left, frame_pieces}
-use Rattle.lert_frames.specs.Place.{frame_place}
-use Rattle.lert_frames.specs.ToCome.{left_of, pieces_of, IsWithin}
-use Rattle.lert_frames.specs.declared.reader.FrameReader.{FrameReader}
-use Rattle.lert_spec.specs.declared.numbers.Numbers.{Numbers}
-use Rattle.lert_spec.specs.declared.piece.Piece.{Piece}
-use Rattle.lert_levels.specs.streams.Asked.{Begins}
-use Rattle.lert_levels.specs.streams.Bin.{Bin, of_frame}
-use Rattle.lert_levels.specs.streams.BinSet.{BinSet}
-use Rattle.lert_levels.specs.streams.Tables.{bins_at, all_streams, IsBinSet}
-use Rattle.lert_levels.proofs.streams.AskLaws.{frame_begun}
-use Rattle.lert_levels.proofs.streams.TableLaws.{reader_here, readers_with}
+use Rattle.std.proofs.Common.{ℕ, ◌≡◌, ◌+◌, ◌-◌, ◌<◌, ◌≤◌, ◌++◌, List, [], ◌∷◌, length, set, get_or, ap, ◌∙◌, arith, length-set}
+use Rattle.lert_frames.{specs.Frame.{frame_left, frame_pieces}, specs.Place.frame_place, specs.ToCome.{left_of, pieces_of, IsWithin}, specs.declared.reader.FrameReader.FrameReader}
+use Rattle.lert_spec.{specs.declared.numbers.Numbers.Numbers, specs.declared.piece.Piece.Piece}
+use Rattle.lert_levels.{specs.streams.Asked.Begins, specs.streams.Bin.{Bin, of_frame}, specs.streams.BinSet.BinSet, specs.streams.Tables.{bins_at, all_streams, IsBinSet}}
+use Rattle.lert_levels.{proofs.streams.AskLaws.frame_begun, proofs.streams.TableLaws.{reader_here, readers_with}}
 
 -- a reader that was started, as the call's contract says it
 abbrev pub IsStart : FrameReader → FrameReader → ℕ → ℕ → ℕ → Type 0

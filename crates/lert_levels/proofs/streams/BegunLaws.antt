@@ -1,17 +1,11 @@
 -- What a frame that was begun has to come, and what it reads.
-use Rattle.std.proofs.Common.{ℕ, zero, suc, ◌≡◌, ◌+◌, ◌<◌, ◌≤◌, ◌⊎◌, ◌↔◌, ◌++◌, Option, Some, None, List, [], ◌∷◌, length, map, get_or}
-use Rattle.std.proofs.Common.{refl, sym, ap, ap₂, ◌∙◌, subst, arith, inl, inr, ⊎_elim, length-append}
-use Rattle.lert_bay.specs.declared.bay.TheConstants.{FRAMES}
-use Rattle.lert_bay.specs.Files.{Files}
-use Rattle.lert_frames.specs.Frame.{frame_left}
-use Rattle.lert_frames.specs.Place.{frame_place, frame_len, tail_limit}
-use Rattle.lert_frames.specs.ToCome.{if_whole, told_of}
-use Rattle.lert_merge.specs.order.Members.{given_at, limit_at}
-use Rattle.lert_merge.specs.order.Untouched.{IsUntouched}
-use Rattle.lert_levels.specs.streams.Asked.{Begins, frame_to_come, FrameLeavesAt}
-use Rattle.lert_levels.specs.streams.Bin.{Bin, of_frame, to_come_of, given_of, limit_of, wide_of, LeavesAt, ReadsIn, IsSureBin}
-use Rattle.lert_levels.specs.streams.BinSet.{BinSet, AreSure, Reads}
-use Rattle.lert_levels.specs.streams.SetLaws.{to_come_at, LeavesIn}
+use Rattle.std.proofs.Common.{ℕ, zero, suc, ◌≡◌, ◌+◌, ◌<◌, ◌≤◌, ◌⊎◌, ◌↔◌, ◌++◌, Option, Some, None, List, [], ◌∷◌, length, map, get_or, refl, sym, ap, ap₂, ◌∙◌, subst, arith, inl, inr, ⊎_elim}
+use Rattle.std.proofs.Common.{length-append}
+use Rattle.lert_bay.{specs.declared.bay.TheConstants.FRAMES, specs.Files.Files}
+use Rattle.lert_frames.{specs.Frame.frame_left, specs.Place.{frame_place, frame_len, tail_limit}, specs.ToCome.{if_whole, told_of}}
+use Rattle.lert_merge.{specs.order.Members.{given_at, limit_at}, specs.order.Untouched.IsUntouched}
+use Rattle.lert_levels.{specs.streams.Asked.{Begins, frame_to_come, FrameLeavesAt}, specs.streams.Bin.{Bin, of_frame, to_come_of, given_of, limit_of, wide_of, LeavesAt, ReadsIn, IsSureBin}}
+use Rattle.lert_levels.{specs.streams.BinSet.{BinSet, AreSure, Reads}, specs.streams.SetLaws.{to_come_at, LeavesIn}}
 
 -- ---- one bin more
 

@@ -1,15 +1,9 @@
 -- Tables of which nothing was given yet.
-use Rattle.std.proofs.Common.{ℕ, zero, suc, ◌≡◌, ◌<◌, ◌^◌, Option, Some, List, [], ◌∷◌, length, map, get_or}
-use Rattle.std.proofs.Common.{refl, ◌∙◌, arith, inl, inr}
-use Rattle.std.proofs.lemmas.List.{length-map}
+use Rattle.std.{proofs.Common.{ℕ, zero, suc, ◌≡◌, ◌<◌, ◌^◌, Option, Some, List, [], ◌∷◌, length, map, get_or, refl, ◌∙◌, arith, inl, inr}, proofs.lemmas.List.length-map}
 use Rattle.lert_bay.specs.Files.{Files}
 use Rattle.lert_merge.specs.order.Members.{given_at, limit_at}
-use Rattle.lert_spec.specs.declared.piece.Piece.{Piece}
-use Rattle.lert_spec.specs.Table.{total}
-use Rattle.lert_levels.specs.streams.Bin.{of_table, given_of, limit_of, wide_of}
-use Rattle.lert_levels.specs.streams.BinLaws.{table_told}
-use Rattle.lert_levels.specs.streams.BinSet.{AreSure, Reads}
-use Rattle.lert_levels.specs.streams.SetLaws.{to_come_at}
+use Rattle.lert_spec.{specs.declared.piece.Piece.Piece, specs.Table.total}
+use Rattle.lert_levels.{specs.streams.Bin.{of_table, given_of, limit_of, wide_of}, specs.streams.BinLaws.table_told, specs.streams.BinSet.{AreSure, Reads}, specs.streams.SetLaws.to_come_at}
 use Rattle.lert_levels.specs.streams.Tables.{fresh_bin, AreOrdered}
 
 module _ {T : Type 0} (bits : T → ℕ) (pieces : T → List Piece) where

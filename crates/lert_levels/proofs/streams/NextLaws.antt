@@ -1,20 +1,13 @@
 -- What an answer of one stream says of the set.
-use Rattle.std.proofs.Common.{ℕ, zero, suc, ◌≡◌, ◌≢◌, ◌<◌, ◌↔◌, ◌++◌, Option, Some, None, MatchOption, Result, Ok, Err, IfOk, OnErr, List, [], ◌∷◌, length, map, set, get_or}
-use Rattle.std.proofs.Common.{refl, sym, ap, ◌∙◌, subst, arith, length-set}
-use Rattle.std.specs.Prelude.{option_to_list}
-use Rattle.lert_base.specs.declared.pieces.PieceFault.{PieceFault}
-use Rattle.lert_base.specs.declared.pieces.PieceFault.TheVariants.{Malformed}
+use Rattle.std.proofs.Common.{ℕ, zero, suc, ◌≡◌, ◌≢◌, ◌<◌, ◌↔◌, ◌++◌, Option, Some, None, MatchOption, Result, Ok, Err, IfOk, OnErr, List, [], ◌∷◌, length, map, set, get_or, refl, sym, ap}
+use Rattle.std.{proofs.Common.{◌∙◌, subst, arith, length-set}, specs.Prelude.option_to_list}
+use Rattle.lert_base.{specs.declared.pieces.PieceFault.PieceFault, specs.declared.pieces.PieceFault.TheVariants.Malformed}
 use Rattle.lert_bay.specs.Files.{Files}
-use Rattle.lert_merge.specs.order.Members.{told_at, given_at, limit_at, BreaksAt}
-use Rattle.lert_merge.specs.order.Untouched.{IsUntouched}
+use Rattle.lert_merge.{specs.order.Members.{told_at, given_at, limit_at, BreaksAt}, specs.order.Untouched.IsUntouched}
 use Rattle.lert_merge.proofs.order.EachLemmas.{at_old, at_new, same_breaks, breaks_here, others_stay, told_turned}
-use Rattle.lert_spec.specs.declared.piece.Piece.{Piece}
-use Rattle.lert_spec.specs.Table.{AreGiven}
-use Rattle.lert_levels.specs.streams.Asked.{Asked}
-use Rattle.lert_levels.specs.streams.Bin.{Bin, to_come_of, given_of, limit_of, LeavesAt, IsSameBin}
-use Rattle.lert_levels.specs.streams.BinLaws.{same_bin, same_bins}
-use Rattle.lert_levels.specs.streams.BinSet.{BinSet, AreSameBins, IsSameSet}
-use Rattle.lert_levels.specs.streams.SetLaws.{to_come_at, LeavesIn}
+use Rattle.lert_spec.{specs.declared.piece.Piece.Piece, specs.Table.AreGiven}
+use Rattle.lert_levels.{specs.streams.Asked.Asked, specs.streams.Bin.{Bin, to_come_of, given_of, limit_of, LeavesAt, IsSameBin}, specs.streams.BinLaws.{same_bin, same_bins}}
+use Rattle.lert_levels.{specs.streams.BinSet.{BinSet, AreSameBins, IsSameSet}, specs.streams.SetLaws.{to_come_at, LeavesIn}}
 
 same_with : (bins : List Bin) (i : ℕ) (was becomes : Bin) → i < length bins → was ≡ get_or bins i was → IsSameBin was becomes → AreSameBins bins (set bins i becomes)
 same_with [] i was becomes within here same = absurd (omega arith)

@@ -1,16 +1,8 @@
-use Rattle.std.proofs.Common.{◌≡◌, ℕ, ◌+◌, ◌*◌, ◌^◌, ◌≤◌, Option, sym, subst, arith}
-use Rattle.std.specs.Prelude.{OnOk}
+use Rattle.std.{proofs.Common.{◌≡◌, ℕ, ◌+◌, ◌*◌, ◌^◌, ◌≤◌, Option, sym, subst, arith}, specs.Prelude.OnOk}
 use Rattle.lert_bay.specs.declared.bay.TheConstants.{FRAMES}
-use Rattle.lert_blocks.specs.Text.{block_text}
-use Rattle.lert_blocks.proofs.LengthLaws.{block_text_len}
-use Rattle.lert_frames.specs.declared.long.Long.{Long}
-use Rattle.lert_frames.specs.declared.outlet.Outlet.{Outlet}
-use Rattle.lert_frames.specs.Outlet.{next_place}
-use Rattle.lert_frames.specs.Spilt.{Reaches, block_bytes, closed_place, first_place, last_place}
-use Rattle.lert_frames.proofs.CallLaws.{both_ok, three_ok}
-use Rattle.lert_frames.proofs.ClosingLaws.{before_stays, out_behind}
-use Rattle.lert_frames.proofs.OrderLaws.{here, at_least}
-use Rattle.lert_frames.proofs.WriteLaws.{on_ok, if_ok}
+use Rattle.lert_blocks.{specs.Text.block_text, proofs.LengthLaws.block_text_len}
+use Rattle.lert_frames.{specs.declared.long.Long.Long, specs.declared.outlet.Outlet.Outlet, specs.Outlet.next_place, specs.Spilt.{Reaches, block_bytes, closed_place, first_place, last_place}}
+use Rattle.lert_frames.{proofs.CallLaws.{both_ok, three_ok}, proofs.ClosingLaws.{before_stays, out_behind}, proofs.OrderLaws.{here, at_least}, proofs.WriteLaws.{on_ok, if_ok}}
 use Rattle.lert_frames.proofs.closing.close.Goals as goal
 
 -- where a long block begins

@@ -1,11 +1,7 @@
-use Rattle.std.proofs.Common.{◌≤◌, ◌∙◌, ◌++◌, refl, sym, subst}
-use Rattle.std.proofs.lemmas.Result.{err_from_is_err_and}
+use Rattle.std.{proofs.Common.{◌≤◌, ◌∙◌, ◌++◌, refl, sym, subst}, proofs.lemmas.Result.err_from_is_err_and}
 use Rattle.lert_bay.specs.declared.bay.TheConstants.{FRAMES}
 use Rattle.lert_blocks.specs.Text.{block_text}
-use Rattle.lert_frames.specs.Spilt.{first_place, last_place}
-use Rattle.lert_frames.proofs.CallLaws.{both_ok, told_then, writes_as, writes_on}
-use Rattle.lert_frames.proofs.OutletLaws.{out_whole}
-use Rattle.lert_frames.proofs.OrderLaws.{here, at_least}
+use Rattle.lert_frames.{specs.Spilt.{first_place, last_place}, proofs.CallLaws.{both_ok, told_then, writes_as, writes_on}, proofs.OutletLaws.out_whole, proofs.OrderLaws.{here, at_least}}
 use Rattle.lert_frames.proofs.closing.close_last.Goals as goal
 
 pub close-requires : goal.close-requires

@@ -1,23 +1,11 @@
 use Rattle.std.proofs.Common.{◌≡◌, ℕ, ◌+◌, ◌*◌, ◌^◌, ◌<◌, ◌≤◌, ◌∙◌, Bool, List, ◌++◌, length, take, drop, sym, ap, ap₂, subst, refl, inr, arith, length-drop}
-use Rattle.std.proofs.lemmas.Result.{err_from_is_err_and}
-use Rattle.std.specs.Int.{div_ceil}
-use Rattle.lert_bay.specs.declared.bay.TheConstants.{FRAMES}
+use Rattle.std.{proofs.lemmas.Result.err_from_is_err_and, specs.Int.div_ceil}
+use Rattle.lert_bay.{specs.declared.bay.TheConstants.FRAMES, specs.Settled.part}
 use Rattle.byteorder.specs.Endian.{little_bytes}
-use Rattle.lert_bay.specs.Settled.{part}
-use Rattle.lert_blocks.specs.declared.block.Block.{Block}
-use Rattle.lert_blocks.specs.Text.{ends_of, slots_of, word_count, words_of, numbers_text}
-use Rattle.lert_blocks.proofs.FieldLaws.{length-numbers_text}
-use Rattle.lert_blocks.proofs.FillingLaws.{length_left}
-use Rattle.lert_frames.specs.declared.long.Long.{Long}
-use Rattle.lert_frames.specs.declared.outlet.Outlet.{Outlet}
-use Rattle.lert_frames.specs.Outlet.{next_place}
-use Rattle.lert_frames.specs.Spilt.{Reaches, block_bytes}
-use Rattle.lert_frames.proofs.OrderLaws.{at_least, here}
-use Rattle.lert_frames.proofs.SpiltLaws.{counted_slots, counted_ends, all_end, begin_first, ends_fit, moved_places, words_end}
-use Rattle.lert_frames.proofs.CallLaws.{writes_on, writes_as, told_then}
-use Rattle.lert_frames.proofs.ClosingLaws.{long_text, moved_as, ends_written, slots_written, parts_stay}
-use Rattle.lert_frames.proofs.OutletLaws.{out_reaches, out_within}
-use Rattle.lert_frames.proofs.WriteLaws.{on_ok, if_ok}
+use Rattle.lert_blocks.{specs.declared.block.Block.Block, specs.Text.{ends_of, slots_of, word_count, words_of, numbers_text}, proofs.FieldLaws.length-numbers_text, proofs.FillingLaws.length_left}
+use Rattle.lert_frames.{specs.declared.long.Long.Long, specs.declared.outlet.Outlet.Outlet, specs.Outlet.next_place, specs.Spilt.{Reaches, block_bytes}, proofs.OrderLaws.{at_least, here}}
+use Rattle.lert_frames.{proofs.SpiltLaws.{counted_slots, counted_ends, all_end, begin_first, ends_fit, moved_places, words_end}, proofs.CallLaws.{writes_on, writes_as, told_then}}
+use Rattle.lert_frames.{proofs.ClosingLaws.{long_text, moved_as, ends_written, slots_written, parts_stay}, proofs.OutletLaws.{out_reaches, out_within}, proofs.WriteLaws.{on_ok, if_ok}}
 use Rattle.lert_frames.proofs.closing.close_long.Goals as goal
 
 -- ---- numbers

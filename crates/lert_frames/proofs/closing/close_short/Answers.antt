@@ -1,8 +1,6 @@
-use Rattle.std.proofs.Common.{◌∙◌, ◌+◌, ◌≤◌, ap, refl, sym, subst}
-use Rattle.std.proofs.lemmas.Result.{err_from_is_err_and}
+use Rattle.std.{proofs.Common.{◌∙◌, ◌+◌, ◌≤◌, ap, refl, sym, subst}, proofs.lemmas.Result.err_from_is_err_and}
 use Rattle.lert_bay.specs.declared.bay.TheConstants.{FRAMES}
-use Rattle.lert_frames.specs.Laid.{laid_len}
-use Rattle.lert_frames.proofs.CallLaws.{writes_as}
+use Rattle.lert_frames.{specs.Laid.laid_len, proofs.CallLaws.writes_as}
 use Rattle.lert_frames.proofs.closing.close_short.Goals as goal
 
 pub returns-in_err-make_room : goal.returns-in_err-make_room

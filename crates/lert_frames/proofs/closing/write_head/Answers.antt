@@ -1,10 +1,8 @@
 use Rattle.std.proofs.Common.{◌≡◌, ◌+◌, ◌∙◌, List, ℕ, [], ◌++◌, length, take, drop, ap, ap₂, subst}
-use borrow.Rule.Slice.PartMut.{put_mid}
 use Rattle.byteorder.specs.Endian.{little_bytes}
-use Rattle.lert_bay.specs.Settled.{part}
-use Rattle.lert_bay.specs.declared.bay.TheConstants.{FRAMES}
-use Rattle.lert_frames.proofs.CallLaws.{both_ok}
-use Rattle.lert_frames.proofs.OutletLaws.{out_whole}
+use Rattle.lert_bay.{specs.Settled.part, specs.declared.bay.TheConstants.FRAMES}
+use Rattle.lert_frames.{proofs.CallLaws.both_ok, proofs.OutletLaws.out_whole}
+use borrow.Rule.Slice.PartMut.{put_mid}
 use Rattle.lert_frames.proofs.closing.write_head.Goals as goal
 
 pub returns-clause-there : goal.returns-clause-there

@@ -1,11 +1,7 @@
-use Rattle.std.proofs.Common.{◌≡◌, ℕ, ◌+◌, ◌*◌, ◌^◌, ◌<◌, ◌≤◌, ◌∙◌, ◌++◌, length, ap, sym, subst, refl, arith}
-use Rattle.std.proofs.lemmas.Result.{err_from_is_err_and}
+use Rattle.std.{proofs.Common.{◌≡◌, ℕ, ◌+◌, ◌*◌, ◌^◌, ◌<◌, ◌≤◌, ◌∙◌, ◌++◌, length, ap, sym, subst, refl, arith}, proofs.lemmas.Result.err_from_is_err_and}
 use Rattle.lert_bay.specs.declared.bay.TheConstants.{FRAMES}
 use Rattle.lert_blocks.specs.Text.{numbers_text}
-use Rattle.lert_frames.specs.Outlet.{next_place}
-use Rattle.lert_frames.proofs.CallLaws.{writes_on, writes_as, told_then}
-use Rattle.lert_frames.proofs.OrderLaws.{here}
-use Rattle.lert_frames.proofs.WriteLaws.{if_ok}
+use Rattle.lert_frames.{specs.Outlet.next_place, proofs.CallLaws.{writes_on, writes_as, told_then}, proofs.OrderLaws.here, proofs.WriteLaws.if_ok}
 use Rattle.lert_frames.proofs.closing.write_numbers.Goals as goal
 
 -- the places of the numbers

@@ -1,12 +1,6 @@
-use Rattle.std.proofs.Common.{◌≡◌, ℕ, ◌<◌, ◌≤◌, ◌∙◌, Bool, false, List, length, inl, inr, sym, ap, subst}
-use Rattle.std.specs.Prelude.{◌↔◌, IsTrue}
-use Rattle.std.proofs.lemmas.Bool.{cases_lt, false≢true}
+use Rattle.std.{proofs.Common.{◌≡◌, ℕ, ◌<◌, ◌≤◌, ◌∙◌, Bool, false, List, length, inl, inr, sym, ap, subst}, specs.Prelude.{◌↔◌, IsTrue}, proofs.lemmas.Bool.{cases_lt, false≢true}}
 use Rattle.std.proofs.lemmas.Result.{err_from_is_err_and}
-use Rattle.lert_frames.specs.Window.{count_of}
-use Rattle.lert_frames.proofs.FaultLaws.{fault_is, no_place, not_err}
-use Rattle.lert_frames.proofs.FieldLaws.{length_hand}
-use Rattle.lert_frames.proofs.WriteLaws.{same_err}
-use Rattle.lert_frames.proofs.CallLaws.{reads_turned, reads_then}
+use Rattle.lert_frames.{specs.Window.count_of, proofs.FaultLaws.{fault_is, no_place, not_err}, proofs.FieldLaws.length_hand, proofs.WriteLaws.same_err, proofs.CallLaws.{reads_turned, reads_then}}
 use Rattle.lert_frames.proofs.ending.demand.Goals as goal
 
 pub returns-in_err-need : goal.returns-in_err-need

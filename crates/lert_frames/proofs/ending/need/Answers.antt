@@ -1,6 +1,5 @@
 use Rattle.std.proofs.Common.{refl}
-use Rattle.lert_frames.proofs.FaultLaws.{not_err}
-use Rattle.lert_frames.proofs.CallLaws.{reads_turned}
+use Rattle.lert_frames.{proofs.FaultLaws.not_err, proofs.CallLaws.reads_turned}
 use Rattle.lert_frames.proofs.ending.need.Goals as goal
 
 pub returns-in-Ok : goal.returns-in-Ok

@@ -1,16 +1,9 @@
-use Rattle.std.proofs.Common.{◌≡◌, ℕ, ◌+◌, ◌*◌, ◌-◌, ◌^◌, ◌<◌, ◌≤◌, ◌∙◌, Some, length, drop, ap, ap₂, sym, subst, refl, arith, true, false}
-use Rattle.std.proofs.lemmas.Result.{err_from_is_err_and}
+use Rattle.std.{proofs.Common.{◌≡◌, ℕ, ◌+◌, ◌*◌, ◌-◌, ◌^◌, ◌<◌, ◌≤◌, ◌∙◌, Some, length, drop, ap, ap₂, sym, subst, refl, arith, true, false}, proofs.lemmas.Result.err_from_is_err_and}
 use Rattle.lert_bay.specs.declared.bay.TheConstants.{FRAMES}
-use Rattle.lert_blocks.specs.Frame.{ends_agree}
-use Rattle.lert_blocks.specs.Text.{word_count}
-use Rattle.lert_frames.specs.declared.fields.Head.{Head}
-use Rattle.lert_frames.specs.Steps.{fields_len}
-use Rattle.lert_frames.specs.Window.{at_hand, place_of, to_come}
-use Rattle.lert_frames.proofs.FaultLaws.{not_err, not_failed, fault_is, same_place}
+use Rattle.lert_blocks.{specs.Frame.ends_agree, specs.Text.word_count}
+use Rattle.lert_frames.{specs.declared.fields.Head.Head, specs.Steps.fields_len, specs.Window.{at_hand, place_of, to_come}, proofs.FaultLaws.{not_err, not_failed, fault_is, same_place}}
 use Rattle.lert_frames.proofs.FieldLaws.{fields_told, length_hand, come_far, run_ends_short, run_ends_agree, run_ends_differ}
-use Rattle.lert_frames.proofs.NearLaws.{agrees_as, block_words, far_short, far_long, far_words, far_held, far_read}
-use Rattle.lert_frames.proofs.WriteLaws.{same_err}
-use Rattle.lert_frames.proofs.CallLaws.{reads_turned}
+use Rattle.lert_frames.{proofs.NearLaws.{agrees_as, block_words, far_short, far_long, far_words, far_held, far_read}, proofs.WriteLaws.same_err, proofs.CallLaws.reads_turned}
 use Rattle.lert_frames.proofs.fields.pass_far_fields.Goals as goal
 
 near_place : (place len : ℕ) → place + len < 2 ^ 43 → place < 2 ^ 43

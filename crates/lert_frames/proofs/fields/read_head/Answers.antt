@@ -1,12 +1,7 @@
-use Rattle.std.proofs.Common.{◌+◌, ◌∙◌, ℕ, List, Some, length, ap, refl, sym, subst}
-use Rattle.std.proofs.lemmas.Result.{err_from_is_err_and}
+use Rattle.std.{proofs.Common.{◌+◌, ◌∙◌, ℕ, List, Some, length, ap, refl, sym, subst}, proofs.lemmas.Result.err_from_is_err_and}
 use Rattle.lert_bay.specs.declared.bay.TheConstants.{FRAMES}
-use Rattle.lert_frames.specs.Steps.{AreFields}
-use Rattle.lert_frames.specs.Window.{place_of, to_come}
-use Rattle.lert_frames.proofs.FaultLaws.{not_err, not_failed, place_is}
-use Rattle.lert_frames.proofs.FieldLaws.{fields_told, head_short, head_unfit}
-use Rattle.lert_frames.proofs.WriteLaws.{same_err}
-use Rattle.lert_frames.proofs.CallLaws.{reads_turned}
+use Rattle.lert_frames.{specs.Steps.AreFields, specs.Window.{place_of, to_come}, proofs.FaultLaws.{not_err, not_failed, place_is}, proofs.FieldLaws.{fields_told, head_short, head_unfit}}
+use Rattle.lert_frames.{proofs.WriteLaws.same_err, proofs.CallLaws.reads_turned}
 use Rattle.lert_frames.proofs.fields.read_head.Goals as goal
 
 pub returns-in_err-demand : goal.returns-in_err-demand

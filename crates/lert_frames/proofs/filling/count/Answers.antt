@@ -1,5 +1,4 @@
-use Rattle.std.proofs.Common.{arith, ap, ◌∙◌}
-use Rattle.std.proofs.lemmas.List.{take_all}
+use Rattle.std.{proofs.Common.{arith, ap, ◌∙◌}, proofs.lemmas.List.take_all}
 use Rattle.lert_spec.specs.Table.{total}
 use Rattle.lert_frames.proofs.ReadingLaws.{total-take_more}
 use Rattle.lert_frames.proofs.filling.count.Goals as goal

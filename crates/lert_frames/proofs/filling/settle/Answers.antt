@@ -1,5 +1,4 @@
-use Rattle.std.proofs.Common.{◌≡◌, ◌≤◌, ◌+◌, ◌-◌, ◌∙◌, ◌^◌, ℕ, List, length, take, drop, sym, ap, arith, length-drop, length-take}
-use Rattle.std.proofs.lemmas.List.{take_all, take-append-drop}
+use Rattle.std.{proofs.Common.{◌≡◌, ◌≤◌, ◌+◌, ◌-◌, ◌∙◌, ◌^◌, ℕ, List, length, take, drop, sym, ap, arith, length-drop, length-take}, proofs.lemmas.List.{take_all, take-append-drop}}
 use Rattle.std.proofs.lemmas.List.Elements.{All-same}
 use Rattle.lert_spec.specs.declared.piece.Piece.{Piece}
 use Rattle.lert_frames.specs.Reading.{pieces_kept, sum_less}

@@ -1,8 +1,6 @@
 use Rattle.std.proofs.Common.{◌≡◌, ℕ, ◌+◌, ◌*◌, ◌^◌, ◌<◌, ◌≤◌, refl, sym, subst, arith}
 use Rattle.lert_blocks.specs.Text.{word_count}
-use Rattle.lert_frames.specs.Outlet.{next_place}
-use Rattle.lert_frames.specs.Spilt.{Reaches, block_bytes}
-use Rattle.lert_frames.specs.declared.outlet.Outlet.{Outlet}
+use Rattle.lert_frames.{specs.Outlet.next_place, specs.Spilt.{Reaches, block_bytes}, specs.declared.outlet.Outlet.Outlet}
 use Rattle.lert_frames.proofs.long.begin_long.Goals as goal
 
 -- nothing is out yet

@@ -1,17 +1,9 @@
 use Rattle.std.proofs.Common.{ℕ, ◌+◌, ◌*◌, ◌-◌, ◌/◌, ◌^◌, ◌<◌, ◌≤◌, ◌≡◌, ◌∙◌, Bool, List, length, take, drop, ap, ap₂, sym, subst, refl, inl, inr, arith, length-drop}
-use Rattle.std.proofs.lemmas.List.{length-take-le}
-use Rattle.std.proofs.lemmas.Result.{err_from_is_err_and}
+use Rattle.std.{proofs.lemmas.List.length-take-le, proofs.lemmas.Result.err_from_is_err_and}
 use Rattle.lert_bay.specs.declared.bay.TheConstants.{FRAMES}
-use Rattle.lert_blocks.specs.Filling.{IsFilled}
-use Rattle.lert_blocks.specs.Text.{ends_of, slots_of, word_count, numbers_text}
-use Rattle.lert_blocks.proofs.FillingLaws.{length_left}
-use Rattle.lert_frames.specs.Outlet.{IsOut, next_place}
-use Rattle.lert_frames.specs.Spilt.{Reaches}
-use Rattle.lert_frames.specs.declared.long.Long.{Long}
-use Rattle.lert_frames.specs.declared.outlet.Outlet.{Outlet}
-use Rattle.lert_frames.proofs.CallLaws.{writes_on, writes_as, told_then}
-use Rattle.lert_frames.proofs.OutletLaws.{out_within}
-use Rattle.lert_frames.proofs.OrderLaws.{here}
+use Rattle.lert_blocks.{specs.Filling.IsFilled, specs.Text.{ends_of, slots_of, word_count, numbers_text}, proofs.FillingLaws.length_left}
+use Rattle.lert_frames.{specs.Outlet.{IsOut, next_place}, specs.Spilt.Reaches, specs.declared.long.Long.Long, specs.declared.outlet.Outlet.Outlet}
+use Rattle.lert_frames.{proofs.CallLaws.{writes_on, writes_as, told_then}, proofs.OutletLaws.out_within, proofs.OrderLaws.here}
 use Rattle.lert_frames.proofs.SpiltLaws.{counted_slots, counted_ends, slots_more, ends_more, reaches_on, reaches_more, begin_first, ends_fit, ends_last}
 use Rattle.lert_frames.proofs.long.let_go.Goals as goal
 

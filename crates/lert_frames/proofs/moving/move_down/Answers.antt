@@ -1,13 +1,7 @@
-use Rattle.std.proofs.Common.{◌≡◌, ℕ, ◌+◌, ◌≤◌, ◌∙◌, ◌++◌, List, ap, sym, subst, refl, inr, arith}
-use Rattle.std.proofs.lemmas.Result.{err_from_is_err_and}
-use Rattle.lert_bay.specs.declared.bay.TheConstants.{FRAMES}
-use Rattle.lert_bay.specs.Settled.{part}
-use Rattle.lert_frames.specs.Outlet.{IsOut}
-use Rattle.lert_frames.proofs.CallLaws.{writes_none, writes_on, writes_as, writes_wider, told_then, no_shorter}
-use Rattle.lert_frames.proofs.OutletLaws.{out_all}
-use Rattle.lert_frames.proofs.PartLaws.{part_is, part_join}
-use Rattle.lert_frames.proofs.WithinLaws.{part_within}
-use Rattle.lert_frames.specs.Calls.{bays_of}
+use Rattle.std.{proofs.Common.{◌≡◌, ℕ, ◌+◌, ◌≤◌, ◌∙◌, ◌++◌, List, ap, sym, subst, refl, inr, arith}, proofs.lemmas.Result.err_from_is_err_and}
+use Rattle.lert_bay.{specs.declared.bay.TheConstants.FRAMES, specs.Settled.part}
+use Rattle.lert_frames.{specs.Outlet.IsOut, proofs.CallLaws.{writes_none, writes_on, writes_as, writes_wider, told_then, no_shorter}, proofs.OutletLaws.out_all}
+use Rattle.lert_frames.{proofs.PartLaws.{part_is, part_join}, proofs.WithinLaws.part_within, specs.Calls.bays_of}
 use Rattle.lert_frames.proofs.moving.move_down.Goals as goal
 
 pub returns-in_err-move_part : goal.returns-in_err-move_part

@@ -1,11 +1,6 @@
 use Rattle.std.proofs.Common.{◌≡◌, ℕ, ◌+◌, ◌-◌, ◌≤◌, length}
-use Rattle.lert_bay.specs.declared.bay.TheConstants.{FRAMES}
-use Rattle.lert_bay.specs.Files.{IfTold}
-use Rattle.lert_bay.specs.Kept.{Bays}
-use Rattle.lert_bay.specs.Settled.{part}
-use Rattle.lert_frames.specs.Calls.{Writes, bays_of}
-use Rattle.lert_frames.specs.Outlet.{IsOut, size_of}
-use Rattle.lert_frames.specs.declared.outlet.Outlet.{Outlet}
+use Rattle.lert_bay.{specs.declared.bay.TheConstants.FRAMES, specs.Files.IfTold, specs.Kept.Bays, specs.Settled.part}
+use Rattle.lert_frames.{specs.Calls.{Writes, bays_of}, specs.Outlet.{IsOut, size_of}, specs.declared.outlet.Outlet.Outlet}
 use Rattle.lert_frames.proofs.moving.move_down.Given as goal
 
 -- so many bytes are moved, and those behind them are as they were

@@ -1,8 +1,5 @@
-use Rattle.std.proofs.Common.{◌≡◌, ℕ, ◌+◌, ◌-◌, ◌≤◌, ◌∙◌, refl, sym, subst, arith}
-use Rattle.std.proofs.lemmas.Result.{err_from_is_err_and}
-use Rattle.lert_frames.proofs.CallLaws.{writes_on, writes_as, writes_reads}
-use Rattle.lert_frames.specs.Outlet.{size_of}
-use Rattle.lert_frames.proofs.WriteLaws.{on_ok}
+use Rattle.std.{proofs.Common.{◌≡◌, ℕ, ◌+◌, ◌-◌, ◌≤◌, ◌∙◌, refl, sym, subst, arith}, proofs.lemmas.Result.err_from_is_err_and}
+use Rattle.lert_frames.{proofs.CallLaws.{writes_on, writes_as, writes_reads}, specs.Outlet.size_of, proofs.WriteLaws.on_ok}
 use Rattle.lert_frames.proofs.moving.move_part.Goals as goal
 
 -- the place behind the bytes

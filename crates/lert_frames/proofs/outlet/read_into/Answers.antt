@@ -1,10 +1,6 @@
-use Rattle.std.proofs.Common.{◌≡◌, ◌+◌, ◌∙◌, length, take, drop, refl, sym, ap, arith}
-use Rattle.std.proofs.lemmas.Bool.{false≢true}
-use Rattle.lert_bay.specs.declared.bay.TheConstants.{JOURNAL, FRAMES}
-use Rattle.lert_bay.proofs.KeptLaws.{IsLawful, apart_from_frames, reads_call}
-use Rattle.lert_frames.proofs.OutletLaws.{laid_behind}
-use Rattle.lert_frames.proofs.PartLaws.{part_is}
-use Rattle.lert_frames.specs.Calls.{bays_of}
+use Rattle.std.{proofs.Common.{◌≡◌, ◌+◌, ◌∙◌, length, take, drop, refl, sym, ap, arith}, proofs.lemmas.Bool.false≢true}
+use Rattle.lert_bay.{specs.declared.bay.TheConstants.{JOURNAL, FRAMES}, proofs.KeptLaws.{IsLawful, apart_from_frames, reads_call}}
+use Rattle.lert_frames.{proofs.OutletLaws.laid_behind, proofs.PartLaws.part_is, specs.Calls.bays_of}
 use Rattle.lert_frames.proofs.outlet.read_into.Given as given
 use Rattle.lert_frames.proofs.outlet.read_into.Goals as goal
 

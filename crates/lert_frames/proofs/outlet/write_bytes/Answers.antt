@@ -1,10 +1,6 @@
 use Rattle.std.proofs.Common.{ℕ, length, ap}
-use Rattle.lert_bay.specs.declared.bay.TheConstants.{JOURNAL, FRAMES}
-use Rattle.lert_bay.specs.Files.{Holds, LeftByFailure}
-use Rattle.lert_bay.proofs.KeptLaws.{IsLawful, keeps_call}
-use Rattle.lert_frames.proofs.WithinLaws.{held_within, left_within, within_wrote}
-use Rattle.lert_frames.proofs.WriteLaws.{either_way, wrote_once}
-use Rattle.lert_frames.specs.Calls.{bays_of}
+use Rattle.lert_bay.{specs.declared.bay.TheConstants.{JOURNAL, FRAMES}, specs.Files.{Holds, LeftByFailure}, proofs.KeptLaws.{IsLawful, keeps_call}}
+use Rattle.lert_frames.{proofs.WithinLaws.{held_within, left_within, within_wrote}, proofs.WriteLaws.{either_way, wrote_once}, specs.Calls.bays_of}
 use Rattle.lert_frames.proofs.outlet.write_bytes.Given as given
 use Rattle.lert_frames.proofs.outlet.write_bytes.Goals as goal
 

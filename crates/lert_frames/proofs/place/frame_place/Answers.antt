@@ -1,7 +1,6 @@
 use Rattle.std.proofs.Common.{◌≡◌, ◌+◌, ◌*◌, ◌-◌, ◌≤◌, ◌<◌, ◌^◌, ℕ, arith, subst, ap, ap₂, sym, ◌∙◌, ◌⊎◌}
 use Rattle.lert_spec.specs.Limits.{IsValid}
-use Rattle.lert_frames.specs.Place.{frame_len, frame_lens, frame_place}
-use Rattle.lert_frames.proofs.PlaceLaws.{lens_within, place_ends, places_within, places_apart, frame_lens-more}
+use Rattle.lert_frames.{specs.Place.{frame_len, frame_lens, frame_place}, proofs.PlaceLaws.{lens_within, place_ends, places_within, places_apart, frame_lens-more}}
 use Rattle.lert_frames.proofs.place.frame_place.Goals as goal
 
 -- the place as it is summed up

@@ -1,13 +1,7 @@
-use Rattle.std.proofs.Common.{◌≡◌, ◌<◌, ◌≤◌, ◌∙◌, ◌+◌, ◌-◌, ◌*◌, ◌/◌, ◌^◌, ℕ, length, drop, ap, ap₂, sym, subst, arith}
-use Rattle.std.proofs.Math.Nat.{pow-le-pow_right}
-use Rattle.std.proofs.Common.{lit<}
+use Rattle.std.{proofs.Common.{◌≡◌, ◌<◌, ◌≤◌, ◌∙◌, ◌+◌, ◌-◌, ◌*◌, ◌/◌, ◌^◌, ℕ, length, drop, ap, ap₂, sym, subst, arith, lit<}, proofs.Math.Nat.pow-le-pow_right}
 use Rattle.lert_blocks.specs.Frame.{blocks_found, blocks_len}
-use Rattle.lert_spec.specs.Edges.{span}
-use Rattle.lert_spec.specs.Limits.{IsValid}
-use Rattle.lert_frames.specs.Decoded.{IsBetween}
-use Rattle.lert_frames.specs.Place.{block_count, blocks_bytes, frame_len, tail_limit}
-use Rattle.lert_frames.proofs.PlaceLaws.{span_half, tails_are}
-use Rattle.lert_frames.proofs.StandsLaws.{stands_as}
+use Rattle.lert_spec.{specs.Edges.span, specs.Limits.IsValid}
+use Rattle.lert_frames.{specs.Decoded.IsBetween, specs.Place.{block_count, blocks_bytes, frame_len, tail_limit}, proofs.PlaceLaws.{span_half, tails_are}, proofs.StandsLaws.stands_as}
 use Rattle.lert_frames.proofs.read.begin.Goals as goal
 
 valid : (c : goal.After-block_count) → IsValid c.args.settings.now

@@ -1,10 +1,5 @@
-use Rattle.std.proofs.Common.{◌≡◌, ℕ, ◌∙◌, arith, subst}
-use Rattle.std.proofs.lemmas.Result.{err_from_is_err_and}
-use Rattle.lert_frames.proofs.PassLaws.{words_none, words_more, words_short}
-use Rattle.lert_frames.specs.Steps.{PassesWords}
-use Rattle.lert_frames.proofs.FaultLaws.{not_err}
-use Rattle.lert_frames.proofs.WriteLaws.{same_err}
-use Rattle.lert_frames.specs.Calls.{bays_of}
+use Rattle.std.{proofs.Common.{◌≡◌, ℕ, ◌∙◌, arith, subst}, proofs.lemmas.Result.err_from_is_err_and}
+use Rattle.lert_frames.{proofs.PassLaws.{words_none, words_more, words_short}, specs.Steps.PassesWords, proofs.FaultLaws.not_err, proofs.WriteLaws.same_err, specs.Calls.bays_of}
 use Rattle.lert_frames.proofs.CallLaws.{reads_turned, reads_then, reads_same}
 use Rattle.lert_frames.proofs.run_ends.pass_run_ends.Goals as goal
 

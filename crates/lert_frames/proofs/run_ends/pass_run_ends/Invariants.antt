@@ -1,6 +1,5 @@
 use Rattle.lert_bay.specs.Kept.{OnlyReads}
-use Rattle.lert_frames.specs.Steps.{PassesWords}
-use Rattle.lert_frames.specs.Calls.{bays_of}
+use Rattle.lert_frames.{specs.Steps.PassesWords, specs.Calls.bays_of}
 use Rattle.lert_frames.proofs.run_ends.pass_run_ends.Given as goal
 
 abbrev pub invariant-loop-word : goal.invariant-loop-word

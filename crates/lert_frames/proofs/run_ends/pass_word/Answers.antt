@@ -1,12 +1,7 @@
-use Rattle.std.proofs.Common.{◌+◌, ◌∙◌, length, drop, sym, ap, arith, length-append}
-use Rattle.std.proofs.lemmas.Result.{err_from_is_err_and}
+use Rattle.std.{proofs.Common.{◌+◌, ◌∙◌, length, drop, sym, ap, arith, length-append}, proofs.lemmas.Result.err_from_is_err_and}
 use Rattle.byteorder.specs.Endian.{little_number}
 use Rattle.lert_bay.specs.declared.bay.TheConstants.{FRAMES}
-use Rattle.lert_frames.specs.Window.{at_hand}
-use Rattle.lert_frames.proofs.FaultLaws.{not_err}
-use Rattle.lert_frames.proofs.FieldLaws.{length_hand}
-use Rattle.lert_frames.proofs.NumberLaws.{little_number-append}
-use Rattle.lert_frames.proofs.WriteLaws.{same_err}
+use Rattle.lert_frames.{specs.Window.at_hand, proofs.FaultLaws.not_err, proofs.FieldLaws.length_hand, proofs.NumberLaws.little_number-append, proofs.WriteLaws.same_err}
 use Rattle.lert_frames.proofs.CallLaws.{reads_turned}
 use Rattle.lert_frames.proofs.run_ends.pass_word.Goals as goal
 

@@ -1,14 +1,8 @@
-use Rattle.std.proofs.Common.{ℕ, ◌≡◌, ◌<◌, ◌≤◌, ◌+◌, ◌*◌, ◌/◌, ◌∙◌, ◌++◌, List, [], length, drop, min, ap, arith, subst, length-append}
-use Rattle.std.proofs.lemmas.List.{drop_all}
+use Rattle.std.{proofs.Common.{ℕ, ◌≡◌, ◌<◌, ◌≤◌, ◌+◌, ◌*◌, ◌/◌, ◌∙◌, ◌++◌, List, [], length, drop, min, ap, arith, subst, length-append}, proofs.lemmas.List.drop_all}
+use Rattle.std.proofs.lemmas.Result.{err_from_is_err_and}
 use Rattle.lert_bay.specs.declared.bay.TheConstants.{FRAMES}
 use Rattle.lert_blocks.specs.Text.{word_count}
-use Rattle.lert_frames.specs.Steps.{AreEnds}
-use Rattle.lert_frames.specs.Window.{count_of, to_come}
-use Rattle.lert_frames.proofs.WindowLaws.{off_of}
-use Rattle.std.proofs.lemmas.Result.{err_from_is_err_and}
-use Rattle.lert_frames.proofs.FaultLaws.{not_err}
-use Rattle.lert_frames.proofs.WriteLaws.{same_err}
-use Rattle.lert_frames.proofs.CallLaws.{reads_turned}
+use Rattle.lert_frames.{specs.Steps.AreEnds, specs.Window.{count_of, to_come}, proofs.WindowLaws.off_of, proofs.FaultLaws.not_err, proofs.WriteLaws.same_err, proofs.CallLaws.reads_turned}
 use Rattle.lert_frames.proofs.slots.read_ends.Goals as goal
 
 at_hand_too : (had now bytes : ℕ) → had ≤ now → bytes ≡ now → 8 ≤ had → 8 ≤ bytes

@@ -1,5 +1,4 @@
-use Rattle.std.proofs.Common.{◌∙◌, drop, arith}
-use Rattle.std.proofs.lemmas.List.{length-take-le}
+use Rattle.std.{proofs.Common.{◌∙◌, drop, arith}, proofs.lemmas.List.length-take-le}
 use Rattle.lert_frames.proofs.NumberLaws.{numbers_into}
 use Rattle.lert_frames.proofs.slots.read_numbers.Goals as goal
 

@@ -1,11 +1,6 @@
-use Rattle.std.proofs.Common.{◌≡◌, ◌<◌, ◌*◌, ◌/◌, ◌∙◌, ℕ, min, length, ap, ap₂, arith}
-use Rattle.std.proofs.lemmas.Result.{err_from_is_err_and}
+use Rattle.std.{proofs.Common.{◌≡◌, ◌<◌, ◌*◌, ◌/◌, ◌∙◌, ℕ, min, length, ap, ap₂, arith}, proofs.lemmas.Result.err_from_is_err_and}
 use Rattle.lert_blocks.specs.Frame.{numbers_in}
-use Rattle.lert_frames.specs.Window.{count_of}
-use Rattle.lert_frames.proofs.FaultLaws.{not_err}
-use Rattle.lert_frames.proofs.WindowLaws.{off_of}
-use Rattle.lert_frames.proofs.WriteLaws.{same_err}
-use Rattle.lert_frames.proofs.CallLaws.{reads_turned}
+use Rattle.lert_frames.{specs.Window.count_of, proofs.FaultLaws.not_err, proofs.WindowLaws.off_of, proofs.WriteLaws.same_err, proofs.CallLaws.reads_turned}
 use Rattle.lert_frames.proofs.slots.read_slots.Goals as goal
 
 pub returns-in_err-need : goal.returns-in_err-need

@@ -1,13 +1,8 @@
-use Rattle.std.proofs.Common.{◌≡◌, ℕ, ◌+◌, ◌-◌, ◌≤◌, ◌<◌, ◌∙◌, ◌++◌, List, []}
-use Rattle.std.proofs.Common.{length, take, drop, ap, sym, subst, arith, append-nil, length-append, length-drop}
-use Rattle.std.proofs.lemmas.List.{drop_all, drop_at, take_at, length-take-le}
-use Rattle.std.proofs.lemmas.List.Elements.{All-from_get_or}
-use Rattle.std.proofs.lemmas.Result.{IfOk-weaker}
-use borrow.Rule.Slice.PartMut.{put_mid}
-use Rattle.lert_bay.specs.Files.{CopiesFrom}
-use Rattle.lert_bay.specs.declared.bay.TheConstants.{FRAMES, JOURNAL}
-use Rattle.lert_bay.proofs.KeptLaws.{IsLawful, apart_from_frames, reads_call}
+use Rattle.std.proofs.Common.{◌≡◌, ℕ, ◌+◌, ◌-◌, ◌≤◌, ◌<◌, ◌∙◌, ◌++◌, List, [], length, take, drop, ap, sym, subst, arith, append-nil, length-append, length-drop}
+use Rattle.std.{proofs.lemmas.List.{drop_all, drop_at, take_at, length-take-le}, proofs.lemmas.List.Elements.All-from_get_or, proofs.lemmas.Result.IfOk-weaker}
+use Rattle.lert_bay.{specs.Files.CopiesFrom, specs.declared.bay.TheConstants.{FRAMES, JOURNAL}, proofs.KeptLaws.{IsLawful, apart_from_frames, reads_call}}
 use Rattle.lert_frames.specs.Calls.{bays_of}
+use borrow.Rule.Slice.PartMut.{put_mid}
 use Rattle.lert_frames.proofs.window.read_behind.Given as given
 use Rattle.lert_frames.proofs.window.read_behind.Goals as goal
 

@@ -1,11 +1,6 @@
-use Rattle.std.proofs.Common.{◌≤◌, ◌∙◌, ◌++◌, List, get_or, map, subst, sym, arith, append-nil, refl}
-use Rattle.std.proofs.lemmas.List.{take_all}
-use Rattle.lert_spec.specs.declared.numbers.Numbers.{Numbers}
-use Rattle.lert_spec.specs.Edges.{span}
-use Rattle.lert_levels.specs.declared.rows.bin_at.BinAt.{BinAt}
-use Rattle.lert_levels.specs.rows.Loading.{width_of}
-use Rattle.lert_levels.specs.Sources.{Source, of_bin, placed_at, AreBegun}
-use Rattle.lert_levels.proofs.PlacedLaws.{begun_bin}
+use Rattle.std.{proofs.Common.{◌≤◌, ◌∙◌, ◌++◌, List, get_or, map, subst, sym, arith, append-nil, refl}, proofs.lemmas.List.take_all}
+use Rattle.lert_spec.{specs.declared.numbers.Numbers.Numbers, specs.Edges.span}
+use Rattle.lert_levels.{specs.declared.rows.bin_at.BinAt.BinAt, specs.rows.Loading.width_of, specs.Sources.{Source, of_bin, placed_at, AreBegun}, proofs.PlacedLaws.begun_bin}
 use Rattle.lert_levels.proofs.reading.read_row.Goals as goal
 
 abbrev nothing : BinAt

@@ -1,17 +1,9 @@
-use Rattle.std.proofs.Common.{ℕ, ◌+◌, ◌<◌, ◌≤◌, ◌∙◌, length, map, subst, sym, arith}
-use Rattle.std.proofs.lemmas.List.{take_all, length-map}
-use Rattle.std.proofs.lemmas.Result.{err_from_is_err_and}
+use Rattle.std.{proofs.Common.{ℕ, ◌+◌, ◌<◌, ◌≤◌, ◌∙◌, length, map, subst, sym, arith}, proofs.lemmas.List.{take_all, length-map}, proofs.lemmas.Result.err_from_is_err_and}
 use Rattle.lert_bay.specs.declared.bay.TheConstants.{FRAMES}
-use Rattle.lert_frames.proofs.FaultLaws.{not_err}
-use Rattle.lert_frames.proofs.WriteLaws.{same_err}
+use Rattle.lert_frames.{proofs.FaultLaws.not_err, proofs.WriteLaws.same_err, proofs.CallLaws.{reads_then, reads_same, reads_turned}, specs.Calls.bays_of}
 use Rattle.lert_spec.specs.declared.numbers.Numbers.{Numbers}
-use Rattle.lert_levels.specs.rows.Loading.{RowBreaks}
-use Rattle.lert_levels.specs.rows.Rows.{IsRow}
-use Rattle.lert_levels.proofs.rows.ReadLaws.{row_here, hand_to, hand_from}
-use Rattle.lert_levels.specs.Sources.{of_bin, placed_at, AllOf, IsSecure, AreSecure}
+use Rattle.lert_levels.{specs.rows.Loading.RowBreaks, specs.rows.Rows.IsRow, proofs.rows.ReadLaws.{row_here, hand_to, hand_from}, specs.Sources.{of_bin, placed_at, AllOf, IsSecure, AreSecure}}
 use Rattle.lert_levels.proofs.PlacedLaws.{rows_more}
-use Rattle.lert_frames.proofs.CallLaws.{reads_then, reads_same, reads_turned}
-use Rattle.lert_frames.specs.Calls.{bays_of}
 use Rattle.lert_levels.proofs.secure.secure_levels.Goals as goal
 
 some_more : (n : ℕ) → 1 ≤ n + 1

@@ -1,7 +1,5 @@
 use Rattle.std.proofs.Common.{◌≡◌, ◌≤◌, Some, map, take, length}
-use Rattle.lert_bay.specs.declared.bay.TheConstants.{FRAMES}
-use Rattle.lert_bay.specs.Files.{Files}
-use Rattle.lert_bay.specs.Kept.{OnlyReads}
+use Rattle.lert_bay.{specs.declared.bay.TheConstants.FRAMES, specs.Files.Files, specs.Kept.OnlyReads}
 use Rattle.lert_levels.specs.Sources.{AreSecure}
 use Rattle.lert_frames.specs.Calls.{bays_of}
 use Rattle.lert_levels.proofs.secure.secure_levels.Given as goal

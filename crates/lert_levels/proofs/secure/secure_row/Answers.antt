@@ -1,20 +1,10 @@
-use Rattle.std.proofs.Common.{ℕ, ◌≡◌, ◌+◌, ◌≤◌, ◌∙◌, ◌⊎◌, Some, None, get_or, length, map, refl, subst, sym, arith}
-use Rattle.std.proofs.lemmas.List.{take_all}
-use Rattle.std.proofs.lemmas.List.Elements.{Contains-get_or}
+use Rattle.std.{proofs.Common.{ℕ, ◌≡◌, ◌+◌, ◌≤◌, ◌∙◌, ◌⊎◌, Some, None, get_or, length, map, refl, subst, sym, arith}, proofs.lemmas.List.take_all, proofs.lemmas.List.Elements.Contains-get_or}
 use Rattle.std.proofs.lemmas.Result.{err_from_is_err_and}
 use Rattle.lert_bay.specs.declared.bay.TheConstants.{FRAMES}
-use Rattle.lert_frames.specs.Frame.{frame_left}
-use Rattle.lert_frames.specs.Place.{frame_place, frame_len}
-use Rattle.lert_frames.proofs.FaultLaws.{not_err}
-use Rattle.lert_frames.proofs.WriteLaws.{same_err}
-use Rattle.lert_spec.specs.Edges.{span}
-use Rattle.lert_spec.specs.declared.numbers.Numbers.{Numbers}
-use Rattle.lert_levels.specs.declared.rows.bin_at.BinAt.{BinAt}
-use Rattle.lert_levels.specs.rows.Loading.{width_of}
-use Rattle.lert_levels.specs.Sources.{of_bin, placed_at, AllOf, IsSecure}
-use Rattle.lert_levels.proofs.PlacedLaws.{row_more}
-use Rattle.lert_frames.proofs.CallLaws.{reads_then, reads_same, reads_turned}
+use Rattle.lert_frames.{specs.Frame.frame_left, specs.Place.{frame_place, frame_len}, proofs.FaultLaws.not_err, proofs.WriteLaws.same_err, proofs.CallLaws.{reads_then, reads_same, reads_turned}}
 use Rattle.lert_frames.specs.Calls.{bays_of}
+use Rattle.lert_spec.{specs.Edges.span, specs.declared.numbers.Numbers.Numbers}
+use Rattle.lert_levels.{specs.declared.rows.bin_at.BinAt.BinAt, specs.rows.Loading.width_of, specs.Sources.{of_bin, placed_at, AllOf, IsSecure}, proofs.PlacedLaws.row_more}
 use Rattle.lert_levels.proofs.secure.secure_row.Goals as goal
 
 abbrev nothing : BinAt

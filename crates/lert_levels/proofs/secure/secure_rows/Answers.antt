@@ -1,13 +1,7 @@
-use Rattle.std.proofs.Common.{◌≡◌, ◌∙◌, ap, arith, refl}
-use Rattle.std.specs.Prelude.{Err}
-use Rattle.std.proofs.lemmas.Result.{err_from_is_err_and}
-use Rattle.lert_bay.specs.declared.bay.TheConstants.{JOURNAL}
-use Rattle.lert_bay.proofs.KeptLaws.{IsLawful, reads_call}
-use Rattle.lert_frames.proofs.FaultLaws.{not_err}
-use Rattle.lert_levels.proofs.rows.ReadLaws.{failed_there, malformed_there}
-use Rattle.lert_levels.proofs.ReachLaws.{no_place}
-use Rattle.lert_frames.specs.Calls.{bays_of}
-use Rattle.lert_frames.proofs.CallLaws.{reads_then, reads_turned}
+use Rattle.std.{proofs.Common.{◌≡◌, ◌∙◌, ap, arith, refl}, specs.Prelude.Err, proofs.lemmas.Result.err_from_is_err_and}
+use Rattle.lert_bay.{specs.declared.bay.TheConstants.JOURNAL, proofs.KeptLaws.{IsLawful, reads_call}}
+use Rattle.lert_frames.{proofs.FaultLaws.not_err, specs.Calls.bays_of, proofs.CallLaws.{reads_then, reads_turned}}
+use Rattle.lert_levels.{proofs.rows.ReadLaws.{failed_there, malformed_there}, proofs.ReachLaws.no_place}
 use Rattle.lert_levels.proofs.secure.secure_rows.Given as given
 use Rattle.lert_levels.proofs.secure.secure_rows.Goals as goal
 

@@ -1,16 +1,9 @@
-use Rattle.std.proofs.Common.{◌+◌, ◌*◌, ◌^◌, ◌<◌, ◌∙◌, ℕ, List, length, ap, sym, refl, subst, arith}
-use Rattle.std.proofs.lemmas.Result.{err_from_is_err_and}
+use Rattle.std.{proofs.Common.{◌+◌, ◌*◌, ◌^◌, ◌<◌, ◌∙◌, ℕ, List, length, ap, sym, refl, subst, arith}, proofs.lemmas.Result.err_from_is_err_and}
 use Rattle.lert_bay.specs.declared.bay.TheConstants.{FRAMES}
-use Rattle.lert_blocks.specs.Frame.{words_in}
-use Rattle.lert_blocks.specs.Text.{word_count}
-use Rattle.lert_frames.specs.Steps.{AreWords, fields_len, run_ends_left}
-use Rattle.lert_frames.specs.Window.{at_hand, count_of, place_of, to_come}
-use Rattle.lert_frames.proofs.AheadLaws.{ahead_on, passes_on, standing_ahead, standing_begun, standing_decoded, window_near, ends_near, fields_near}
-use Rattle.lert_frames.proofs.FaultLaws.{err_of, not_err}
-use Rattle.lert_frames.proofs.FieldLaws.{fields_told, head_fits}
-use Rattle.lert_frames.proofs.OrderLaws.{here}
-use Rattle.lert_frames.proofs.StepLaws.{next_fits, steps_begun, steps_unbegun}
-use Rattle.lert_frames.proofs.WriteLaws.{same_err}
+use Rattle.lert_blocks.{specs.Frame.words_in, specs.Text.word_count}
+use Rattle.lert_frames.{specs.Steps.{AreWords, fields_len, run_ends_left}, specs.Window.{at_hand, count_of, place_of, to_come}}
+use Rattle.lert_frames.{proofs.AheadLaws.{ahead_on, passes_on, standing_ahead, standing_begun, standing_decoded, window_near, ends_near, fields_near}, proofs.FaultLaws.{err_of, not_err}}
+use Rattle.lert_frames.{proofs.FieldLaws.{fields_told, head_fits}, proofs.OrderLaws.here, proofs.StepLaws.{next_fits, steps_begun, steps_unbegun}, proofs.WriteLaws.same_err}
 use Rattle.lert_frames.proofs.CallLaws.{reads_turned, reads_then}
 use Rattle.lert_frames.proofs.decoder.Decoder.begin.Goals as goal
 

@@ -1,16 +1,8 @@
-use Rattle.std.proofs.Common.{◌≡◌, ◌≤◌, ◌*◌, ◌/◌, ◌∙◌, ℕ, min, List, refl, sym, ap, subst, arith, take}
-use Rattle.std.specs.Vec.{with_items}
-use Rattle.std.proofs.lemmas.List.{with_items_is}
+use Rattle.std.{proofs.Common.{◌≡◌, ◌≤◌, ◌*◌, ◌/◌, ◌∙◌, ℕ, min, List, refl, sym, ap, subst, arith, take}, specs.Vec.with_items, proofs.lemmas.List.with_items_is}
 use Rattle.std.proofs.lemmas.Result.{err_from_is_err_and}
 use Rattle.lert_bay.specs.declared.bay.TheConstants.{FRAMES}
-use Rattle.lert_frames.specs.Steps.{AreEnds}
-use Rattle.lert_frames.specs.Window.{count_of, to_come}
-use Rattle.lert_frames.proofs.AheadLaws.{ahead_none, ahead_since, standing_ahead, window_near, ends_near}
-use Rattle.lert_frames.proofs.FaultLaws.{not_err}
-use Rattle.lert_frames.proofs.SlotLaws.{hand_from, hand_read}
-use Rattle.lert_frames.proofs.OrderLaws.{here}
-use Rattle.lert_frames.proofs.WriteLaws.{same_err}
-use Rattle.lert_frames.proofs.CallLaws.{reads_turned, reads_then}
+use Rattle.lert_frames.{specs.Steps.AreEnds, specs.Window.{count_of, to_come}, proofs.AheadLaws.{ahead_none, ahead_since, standing_ahead, window_near, ends_near}, proofs.FaultLaws.not_err}
+use Rattle.lert_frames.{proofs.SlotLaws.{hand_from, hand_read}, proofs.OrderLaws.here, proofs.WriteLaws.same_err, proofs.CallLaws.{reads_turned, reads_then}}
 use Rattle.lert_frames.proofs.decoder.Decoder.read_word.Goals as goal
 
 -- the slots that were read

@@ -1,9 +1,6 @@
-use Rattle.std.proofs.Common.{◌≡◌, ◌+◌, ◌*◌, ◌^◌, ◌<◌, ◌≤◌, ◌∙◌, ℕ, drop, refl, ap, ap₂, subst, arith}
-use Rattle.std.proofs.Math.Nat.{mul-le-mul_right}
-use Rattle.lert_blocks.specs.Frame.{blocks_len}
-use Rattle.lert_blocks.specs.Text.{word_count}
-use Rattle.lert_frames.specs.Window.{place_of}
-use Rattle.lert_frames.proofs.StepLaws.{found_started}
+use Rattle.std.{proofs.Common.{◌≡◌, ◌+◌, ◌*◌, ◌^◌, ◌<◌, ◌≤◌, ◌∙◌, ℕ, drop, refl, ap, ap₂, subst, arith}, proofs.Math.Nat.mul-le-mul_right}
+use Rattle.lert_blocks.{specs.Frame.blocks_len, specs.Text.word_count}
+use Rattle.lert_frames.{specs.Window.place_of, proofs.StepLaws.found_started}
 use Rattle.lert_frames.proofs.decoder.Decoder.start.Goals as goal
 
 pub returns-clause-found : goal.returns-clause-found

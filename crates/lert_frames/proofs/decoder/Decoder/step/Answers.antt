@@ -1,9 +1,5 @@
-use Rattle.std.proofs.Common.{◌≡◌, ◌≢◌, ℕ, ◌<◌, ◌≤◌, ◌+◌, ◌*◌, ◌^◌, List, [], length, drop, refl, sym, subst, arith}
-use Rattle.std.proofs.lemmas.List.{drop_all, take_all}
-use Rattle.lert_frames.specs.Calls.{bays_of}
-use Rattle.lert_frames.specs.Steps.{Steps}
-use Rattle.lert_frames.proofs.OrderLaws.{here}
-use Rattle.lert_frames.proofs.WriteLaws.{on_err}
+use Rattle.std.{proofs.Common.{◌≡◌, ◌≢◌, ℕ, ◌<◌, ◌≤◌, ◌+◌, ◌*◌, ◌^◌, List, [], length, drop, refl, sym, subst, arith}, proofs.lemmas.List.{drop_all, take_all}}
+use Rattle.lert_frames.{specs.Calls.bays_of, specs.Steps.Steps, proofs.OrderLaws.here, proofs.WriteLaws.on_err}
 use Rattle.lert_spec.specs.declared.piece.Piece.{Piece}
 use Rattle.lert_frames.proofs.decoder.Decoder.step.Goals as goal
 

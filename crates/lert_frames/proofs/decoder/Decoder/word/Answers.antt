@@ -1,24 +1,12 @@
 use Rattle.std.proofs.Common.{◌≡◌, ℕ, ◌<◌, ◌≤◌, ◌+◌, ◌*◌, ◌-◌, ◌∙◌, min, List, Ok, Err, length, take, drop, ap, sym, subst, refl, arith, length-take}
-use Rattle.std.proofs.lemmas.List.{length-take-le, take_all}
-use Rattle.std.proofs.lemmas.Result.{err_from_is_err_and}
+use Rattle.std.{proofs.lemmas.List.{length-take-le, take_all}, proofs.lemmas.Result.err_from_is_err_and}
 use Rattle.lert_bay.specs.declared.bay.TheConstants.{FRAMES}
-use Rattle.lert_frames.specs.declared.decoder.Decoder.{Decoder}
-use Rattle.lert_frames.specs.declared.decoder.Present.{Present}
-use Rattle.lert_frames.specs.declared.step.Word.{Word}
-use Rattle.lert_frames.specs.declared.window.Window.{Window}
-use Rattle.lert_frames.specs.Decoded.{ends_there, found_by, slots_there}
-use Rattle.lert_frames.specs.Steps.{IsAtHand}
-use Rattle.lert_frames.specs.Window.{count_of, place_of, to_come}
-use Rattle.lert_frames.proofs.AheadLaws.{ahead_none, window_near}
-use Rattle.lert_frames.proofs.DecodedLaws.{word_left}
-use Rattle.lert_frames.proofs.FaultLaws.{fault_is, no_place, not_err}
-use Rattle.lert_frames.proofs.SlotLaws.{hand_end, hand_slots, hand_there, hand_within, slots_len}
-use Rattle.lert_frames.proofs.OrderLaws.{here}
-use Rattle.lert_frames.proofs.StepLaws.{steps_refused, steps_since}
-use Rattle.lert_frames.proofs.WordStepLaws.{all_decoded, all_left, spot_is, steps_word}
-use Rattle.lert_frames.proofs.WriteLaws.{same_err}
-use Rattle.lert_spec.specs.declared.piece.Piece.{Piece}
+use Rattle.lert_frames.{specs.declared.decoder.Decoder.Decoder, specs.declared.decoder.Present.Present, specs.declared.step.Word.Word, specs.declared.window.Window.Window}
+use Rattle.lert_frames.{specs.Decoded.{ends_there, found_by, slots_there}, specs.Steps.IsAtHand, specs.Window.{count_of, place_of, to_come}, proofs.AheadLaws.{ahead_none, window_near}}
+use Rattle.lert_frames.{proofs.DecodedLaws.word_left, proofs.FaultLaws.{fault_is, no_place, not_err}, proofs.SlotLaws.{hand_end, hand_slots, hand_there, hand_within, slots_len}}
+use Rattle.lert_frames.{proofs.OrderLaws.here, proofs.StepLaws.{steps_refused, steps_since}, proofs.WordStepLaws.{all_decoded, all_left, spot_is, steps_word}, proofs.WriteLaws.same_err}
 use Rattle.lert_frames.proofs.CallLaws.{reads_turned, reads_then}
+use Rattle.lert_spec.specs.declared.piece.Piece.{Piece}
 use Rattle.lert_frames.proofs.decoder.Decoder.word.Goals as goal
 
 -- ---- numbers

@@ -1,9 +1,6 @@
-use Rattle.std.proofs.Common.{◌≡◌, ◌∙◌, ℕ, ◌+◌, refl, arith}
-use Rattle.std.proofs.lemmas.Result.{err_from_is_err_and}
-use Rattle.lert_bay.specs.declared.bay.TheConstants.{FRAMES}
-use Rattle.lert_bay.specs.Settled.{part}
-use Rattle.lert_frames.proofs.OutletLaws.{out_laid}
-use Rattle.lert_frames.proofs.CallLaws.{reads_turned}
+use Rattle.std.{proofs.Common.{◌≡◌, ◌∙◌, ℕ, ◌+◌, refl, arith}, proofs.lemmas.Result.err_from_is_err_and}
+use Rattle.lert_bay.{specs.declared.bay.TheConstants.FRAMES, specs.Settled.part}
+use Rattle.lert_frames.{proofs.OutletLaws.out_laid, proofs.CallLaws.reads_turned}
 use Rattle.lert_frames.proofs.outlet.Outlet.copy.Goals as goal
 
 place_behind : (at len count : ℕ) → at + (len + count) ≡ at + len + count

@@ -1,13 +1,6 @@
-use Rattle.std.proofs.Common.{◌≡◌, ◌+◌, ◌≤◌, ◌∙◌, List, ℕ, length, length-take, take, ap, sym, subst, refl, arith}
-use Rattle.std.proofs.lemmas.Bool.{false≢true}
-use Rattle.std.proofs.lemmas.Result.{err_from_is_err_and}
-use Rattle.lert_bay.specs.declared.bay.TheConstants.{FRAMES}
-use Rattle.lert_bay.specs.Files.{Changes, Files, Holds}
-use Rattle.lert_frames.specs.Outlet.{IsOut}
-use Rattle.lert_frames.proofs.CallLaws.{reads_same, same_files}
-use Rattle.lert_frames.proofs.OutletLaws.{out_flushed}
-use Rattle.lert_frames.proofs.OrderLaws.{here}
-use Rattle.lert_frames.proofs.WithinLaws.{turns_to, within_reads}
+use Rattle.std.{proofs.Common.{◌≡◌, ◌+◌, ◌≤◌, ◌∙◌, List, ℕ, length, length-take, take, ap, sym, subst, refl, arith}, proofs.lemmas.Bool.false≢true, proofs.lemmas.Result.err_from_is_err_and}
+use Rattle.lert_bay.{specs.declared.bay.TheConstants.FRAMES, specs.Files.{Changes, Files, Holds}}
+use Rattle.lert_frames.{specs.Outlet.IsOut, proofs.CallLaws.{reads_same, same_files}, proofs.OutletLaws.out_flushed, proofs.OrderLaws.here, proofs.WithinLaws.{turns_to, within_reads}}
 use Rattle.lert_frames.specs.Calls.{bays_of}
 use Rattle.lert_frames.proofs.outlet.Outlet.flush.Goals as goal
 

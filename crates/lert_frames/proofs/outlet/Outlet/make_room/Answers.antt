@@ -1,11 +1,6 @@
-use Rattle.std.proofs.Common.{◌≡◌, ◌∙◌, ℕ, ◌-◌, ◌≤◌, sym, subst, arith}
-use Rattle.std.proofs.lemmas.Bool.{false≢true}
-use Rattle.lert_bay.specs.Files.{Files}
-use Rattle.lert_bay.specs.declared.bay.TheConstants.{FRAMES}
-use Rattle.lert_frames.specs.Outlet.{IsOut}
-use Rattle.lert_frames.proofs.CallLaws.{writes_none, same_files}
-use Rattle.lert_frames.proofs.WriteLaws.{on_ok}
-use Rattle.lert_frames.specs.Calls.{bays_of}
+use Rattle.std.{proofs.Common.{◌≡◌, ◌∙◌, ℕ, ◌-◌, ◌≤◌, sym, subst, arith}, proofs.lemmas.Bool.false≢true}
+use Rattle.lert_bay.{specs.Files.Files, specs.declared.bay.TheConstants.FRAMES}
+use Rattle.lert_frames.{specs.Outlet.IsOut, proofs.CallLaws.{writes_none, same_files}, proofs.WriteLaws.on_ok, specs.Calls.bays_of}
 use Rattle.lert_frames.proofs.outlet.Outlet.make_room.Goals as goal
 
 pub returns-then-count-room-clause-out : goal.returns-then-count-room-clause-out

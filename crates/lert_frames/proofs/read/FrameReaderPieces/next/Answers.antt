@@ -1,18 +1,10 @@
-use Rattle.std.proofs.Common.{◌≡◌, ◌∙◌, ◌++◌, Option, None, Some, ap, refl, subst}
-use Rattle.std.specs.Prelude.{option_to_list}
-use Rattle.std.proofs.lemmas.Result.{err_from_is_err_and}
-use Rattle.lert_bay.specs.declared.bay.TheConstants.{FRAMES}
-use Rattle.lert_bay.specs.Files.{Files}
-use Rattle.lert_frames.specs.InOrder.{gave_given}
-use Rattle.lert_frames.specs.Place.{tail_limit}
-use Rattle.lert_spec.specs.declared.piece.Piece.{Piece}
-use Rattle.lert_frames.specs.ToCome.{told_of, Breaks, HandsOut, IsSameToCome}
+use Rattle.std.{proofs.Common.{◌≡◌, ◌∙◌, ◌++◌, Option, None, Some, ap, refl, subst}, specs.Prelude.option_to_list, proofs.lemmas.Result.err_from_is_err_and}
+use Rattle.lert_bay.{specs.declared.bay.TheConstants.FRAMES, specs.Files.Files}
+use Rattle.lert_frames.{specs.InOrder.gave_given, specs.Place.tail_limit, specs.ToCome.{told_of, Breaks, HandsOut, IsSameToCome}}
 use Rattle.lert_frames.proofs.FaultLaws.{not_err, ok_not_err, err_not_ok, some_not_none, same_ok}
-use Rattle.lert_frames.proofs.ToComeLaws.{same_to_come_on, left_before, told_stays, broken_stays, broken_untold, handed_broken, handed_gave, handed_over}
-use Rattle.lert_frames.proofs.ToComeLaws.{handed_untold, handed_within, handed_none, told_first, told_next, given_within, given_all}
-use Rattle.lert_frames.proofs.WriteLaws.{same_err}
-use Rattle.lert_frames.proofs.CallLaws.{reads_turned, reads_same}
-use Rattle.lert_frames.specs.Calls.{bays_of}
+use Rattle.lert_frames.proofs.ToComeLaws.{same_to_come_on, left_before, told_stays, broken_stays, broken_untold, handed_broken, handed_gave, handed_over, handed_untold, handed_within}
+use Rattle.lert_frames.{proofs.ToComeLaws.{handed_none, told_first, told_next, given_within, given_all}, proofs.WriteLaws.same_err, proofs.CallLaws.{reads_turned, reads_same}, specs.Calls.bays_of}
+use Rattle.lert_spec.specs.declared.piece.Piece.{Piece}
 use Rattle.lert_frames.proofs.read.FrameReaderPieces.next.Goals as goal
 
 -- ---- a piece that was ready

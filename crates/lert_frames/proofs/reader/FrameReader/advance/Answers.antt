@@ -2,11 +2,8 @@ use Rattle.std.proofs.Common.{◌≡◌, ℕ, ◌≤◌, ◌+◌, ◌^◌, ◌�
 use Rattle.lert_bay.specs.declared.bay.TheConstants.{FRAMES}
 use Rattle.lert_blocks.specs.Walk.{Found}
 use Rattle.lert_spec.specs.declared.piece.Piece.{Piece}
-use Rattle.lert_frames.specs.Decoded.{decoder_found}
-use Rattle.lert_frames.specs.Reading.{verdict}
-use Rattle.lert_frames.specs.ToCome.{known_or}
-use Rattle.lert_frames.proofs.AdvanceLaws.{left_stopped, left_broken, reading_stopped, less_behind, kept_behind, left_on, pieces_on, reading_on}
-use Rattle.lert_frames.proofs.FaultLaws.{not_err}
+use Rattle.lert_frames.{specs.Decoded.decoder_found, specs.Reading.verdict, specs.ToCome.known_or}
+use Rattle.lert_frames.{proofs.AdvanceLaws.{left_stopped, left_broken, reading_stopped, less_behind, kept_behind, left_on, pieces_on, reading_on}, proofs.FaultLaws.not_err}
 use Rattle.lert_frames.proofs.reader.FrameReader.advance.Goals as goal
 
 -- ---- what calls want

@@ -1,17 +1,8 @@
-use Rattle.std.proofs.Common.{◌≡◌, ℕ, ◌-◌, ◌<◌, ◌≤◌, ◌∙◌, ◌++◌, ◌∷◌, [], Ok, None, refl, sym, ap, subst, arith}
-use Rattle.std.specs.Prelude.{option_to_list}
-use Rattle.std.proofs.lemmas.Result.{err_from_is_err_and}
-use Rattle.lert_bay.specs.declared.bay.TheConstants.{FRAMES}
-use Rattle.lert_bay.specs.Files.{IfTold}
+use Rattle.std.{proofs.Common.{◌≡◌, ℕ, ◌-◌, ◌<◌, ◌≤◌, ◌∙◌, ◌++◌, ◌∷◌, [], Ok, None, refl, sym, ap, subst, arith}, specs.Prelude.option_to_list, proofs.lemmas.Result.err_from_is_err_and}
+use Rattle.lert_bay.{specs.declared.bay.TheConstants.FRAMES, specs.Files.IfTold}
 use Rattle.lert_spec.specs.Table.{total, AreGiven}
-use Rattle.lert_frames.specs.Frame.{frame_left}
-use Rattle.lert_frames.specs.Place.{frame_place, tail_limit}
-use Rattle.lert_frames.specs.ToCome.{IsOver}
-use Rattle.lert_frames.proofs.CheckLaws.{total_grows, whole_bin, left_started, whole_from, stands_from}
-use Rattle.lert_frames.proofs.FaultLaws.{not_err}
-use Rattle.lert_frames.proofs.WriteLaws.{same_err}
-use Rattle.lert_frames.proofs.CallLaws.{reads_turned, reads_then, reads_same}
-use Rattle.lert_frames.specs.Calls.{bays_of}
+use Rattle.lert_frames.{specs.Frame.frame_left, specs.Place.{frame_place, tail_limit}, specs.ToCome.IsOver, proofs.CheckLaws.{total_grows, whole_bin, left_started, whole_from, stands_from}}
+use Rattle.lert_frames.{proofs.FaultLaws.not_err, proofs.WriteLaws.same_err, proofs.CallLaws.{reads_turned, reads_then, reads_same}, specs.Calls.bays_of}
 use Rattle.lert_frames.proofs.reader.FrameReader.check.Given as given
 use Rattle.lert_frames.proofs.reader.FrameReader.check.Goals as goal
 

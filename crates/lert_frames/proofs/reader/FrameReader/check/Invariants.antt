@@ -1,10 +1,7 @@
 use Rattle.std.proofs.Common.{◌≡◌, ◌-◌, ◌↔◌, ℕ, Some}
-use Rattle.lert_bay.specs.Files.{Files}
-use Rattle.lert_bay.specs.Kept.{OnlyReads}
-use Rattle.lert_bay.specs.declared.bay.TheConstants.{FRAMES}
+use Rattle.lert_bay.{specs.Files.Files, specs.Kept.OnlyReads, specs.declared.bay.TheConstants.FRAMES}
 use Rattle.lert_spec.specs.Table.{total}
-use Rattle.lert_frames.specs.ToCome.{Breaks, IsWithin}
-use Rattle.lert_frames.specs.Calls.{bays_of}
+use Rattle.lert_frames.{specs.ToCome.{Breaks, IsWithin}, specs.Calls.bays_of}
 use Rattle.lert_frames.proofs.reader.FrameReader.check.Given as goal
 
 -- the frame is the same, it leaves its text where it did, and nothing was changed

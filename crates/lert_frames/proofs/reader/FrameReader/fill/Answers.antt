@@ -1,14 +1,7 @@
-use Rattle.std.proofs.Common.{◌∙◌, Some, refl, ap}
-use Rattle.std.proofs.lemmas.Result.{err_from_is_err_and}
+use Rattle.std.{proofs.Common.{◌∙◌, Some, refl, ap}, proofs.lemmas.Result.err_from_is_err_and}
 use Rattle.lert_bay.specs.declared.bay.TheConstants.{FRAMES}
-use Rattle.lert_frames.specs.Decoded.{decoder_found}
-use Rattle.lert_frames.specs.Reading.{verdict}
-use Rattle.lert_frames.specs.ToCome.{known_or}
-use Rattle.lert_frames.proofs.FaultLaws.{not_failed, place_is}
-use Rattle.lert_frames.proofs.ToComeLaws.{same_frame_on, same_to_come_on, left_before}
-use Rattle.lert_frames.proofs.WriteLaws.{same_err}
-use Rattle.lert_frames.proofs.CallLaws.{reads_turned, reads_then, reads_same}
-use Rattle.lert_frames.specs.Calls.{bays_of}
+use Rattle.lert_frames.{specs.Decoded.decoder_found, specs.Reading.verdict, specs.ToCome.known_or, proofs.FaultLaws.{not_failed, place_is}}
+use Rattle.lert_frames.{proofs.ToComeLaws.{same_frame_on, same_to_come_on, left_before}, proofs.WriteLaws.same_err, proofs.CallLaws.{reads_turned, reads_then, reads_same}, specs.Calls.bays_of}
 use Rattle.lert_frames.proofs.reader.FrameReader.fill.Goals as goal
 
 pub loop-self-init : goal.loop-self-init

@@ -1,10 +1,6 @@
 use Rattle.std.proofs.Common.{◌≡◌, None, Some}
-use Rattle.lert_bay.specs.Files.{Files}
-use Rattle.lert_bay.specs.Kept.{OnlyReads}
-use Rattle.lert_bay.specs.declared.bay.TheConstants.{FRAMES}
-use Rattle.lert_frames.specs.Decoded.{work_of}
-use Rattle.lert_frames.specs.ToCome.{IsSameFrame, IsSameToCome, IsWithin}
-use Rattle.lert_frames.specs.Calls.{bays_of}
+use Rattle.lert_bay.{specs.Files.Files, specs.Kept.OnlyReads, specs.declared.bay.TheConstants.FRAMES}
+use Rattle.lert_frames.{specs.Decoded.work_of, specs.ToCome.{IsSameFrame, IsSameToCome, IsWithin}, specs.Calls.bays_of}
 use Rattle.lert_frames.proofs.reader.FrameReader.fill.Given as goal
 
 -- the same is to come, and nothing was changed

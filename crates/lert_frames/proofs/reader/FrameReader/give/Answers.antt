@@ -1,10 +1,6 @@
-use Rattle.std.proofs.Common.{◌≡◌, ◌+◌, ◌<◌, ◌++◌, List, length, drop, refl, subst, arith}
-use Rattle.std.proofs.lemmas.List.{drop_all}
-use Rattle.lert_spec.specs.declared.piece.Piece.{Piece}
-use Rattle.lert_spec.specs.Table.{AreGiven, total}
-use Rattle.lert_frames.specs.Decoded.{decoder_floor}
-use Rattle.lert_frames.specs.Reading.{SumsUp}
-use Rattle.lert_frames.proofs.GiveLaws.{ready_is, same_pieces}
+use Rattle.std.{proofs.Common.{◌≡◌, ◌+◌, ◌<◌, ◌++◌, List, length, drop, refl, subst, arith}, proofs.lemmas.List.drop_all}
+use Rattle.lert_spec.{specs.declared.piece.Piece.Piece, specs.Table.{AreGiven, total}}
+use Rattle.lert_frames.{specs.Decoded.decoder_floor, specs.Reading.SumsUp, proofs.GiveLaws.{ready_is, same_pieces}}
 use Rattle.lert_frames.proofs.reader.FrameReader.give.Goals as goal
 
 -- ---- none is ready

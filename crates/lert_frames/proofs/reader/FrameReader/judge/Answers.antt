@@ -1,11 +1,7 @@
 use Rattle.std.proofs.Common.{◌≡◌, ◌≢◌, ℕ, ◌<◌, ◌⊎◌, inl, inr, Bool, false, List, [], length, drop, ◌∙◌, ap, sym, refl, Some, arith, length-drop}
-use Rattle.std.proofs.lemmas.Bool.{eqb-true, false≢true, true≢false}
-use Rattle.std.specs.Bool.{IsTrue}
+use Rattle.std.{proofs.lemmas.Bool.{eqb-true, false≢true, true≢false}, specs.Bool.IsTrue}
 use Rattle.lert_spec.specs.declared.piece.Piece.{Piece}
-use Rattle.lert_frames.specs.Decoded.{work_of}
-use Rattle.lert_frames.specs.declared.reader.Sum.{Sum}
-use Rattle.lert_frames.specs.declared.reader.Sum.TheVariants.{Left, Over}
-use Rattle.lert_frames.proofs.AdvanceLaws.{left_unsummed}
+use Rattle.lert_frames.{specs.Decoded.work_of, specs.declared.reader.Sum.Sum, specs.declared.reader.Sum.TheVariants.{Left, Over}, proofs.AdvanceLaws.left_unsummed}
 use Rattle.lert_frames.proofs.FaultLaws.{not_err, not_failed}
 use Rattle.lert_frames.proofs.reader.FrameReader.judge.Goals as goal
 

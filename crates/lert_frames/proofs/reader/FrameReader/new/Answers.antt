@@ -1,6 +1,5 @@
 use Rattle.std.proofs.Common.{arith}
-use Rattle.lert_frames.specs.Decoded.{decoder_floor}
-use Rattle.lert_frames.proofs.ReadingLaws.{given_none, total_none}
+use Rattle.lert_frames.{specs.Decoded.decoder_floor, proofs.ReadingLaws.{given_none, total_none}}
 use Rattle.lert_frames.proofs.reader.FrameReader.new.Goals as goal
 
 pub invariant_of-result : goal.invariant_of-result

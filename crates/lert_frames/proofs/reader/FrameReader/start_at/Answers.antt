@@ -1,8 +1,6 @@
 use Rattle.std.proofs.Common.{◌++◌, ◌∙◌, ap₂, arith}
 use Rattle.lert_blocks.specs.Walk.{Found}
-use Rattle.lert_frames.specs.Decoded.{decoder_floor}
-use Rattle.lert_frames.specs.Frame.{judged}
-use Rattle.lert_frames.proofs.ReadingLaws.{given_none, total_none}
+use Rattle.lert_frames.{specs.Decoded.decoder_floor, specs.Frame.judged, proofs.ReadingLaws.{given_none, total_none}}
 use Rattle.lert_frames.proofs.reader.FrameReader.start_at.Goals as goal
 
 pub invariant_of-self : goal.invariant_of-self

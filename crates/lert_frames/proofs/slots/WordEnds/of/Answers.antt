@@ -1,6 +1,5 @@
 use Rattle.std.proofs.Common.{◌≡◌, ◌-◌, length, take, drop, refl, ◌∙◌, arith}
-use Rattle.byteorder.specs.Endian.{little_number}
-use Rattle.byteorder.specs.Numbers.{little_from-take}
+use Rattle.byteorder.{specs.Endian.little_number, specs.Numbers.little_from-take}
 use Rattle.lert_frames.proofs.EndLaws.{no_words, only_word, second_missing, two_words}
 use Rattle.lert_frames.proofs.slots.WordEnds.of.Goals as goal
 

@@ -1,11 +1,6 @@
-use Rattle.std.proofs.Common.{◌≡◌, ℕ, ◌≤◌, ◌++◌, ◌∙◌, take, drop, refl, sym, ap, ap₂, subst, arith}
-use Rattle.std.proofs.lemmas.Result.{err_from_is_err_and}
-use Rattle.lert_bay.specs.declared.bay.TheConstants.{FRAMES}
-use Rattle.lert_bay.specs.Settled.{part}
-use Rattle.lert_frames.specs.declared.window.Window.{Window}
-use Rattle.lert_frames.specs.Window.{count_of, place_of}
-use Rattle.lert_frames.specs.Bytes.{AreBytes}
-use Rattle.lert_frames.proofs.WindowLaws.{hand_kept, filled_come, filled_all, read_more}
+use Rattle.std.{proofs.Common.{◌≡◌, ℕ, ◌≤◌, ◌++◌, ◌∙◌, take, drop, refl, sym, ap, ap₂, subst, arith}, proofs.lemmas.Result.err_from_is_err_and}
+use Rattle.lert_bay.{specs.declared.bay.TheConstants.FRAMES, specs.Settled.part}
+use Rattle.lert_frames.{specs.declared.window.Window.Window, specs.Window.{count_of, place_of}, specs.Bytes.AreBytes, proofs.WindowLaws.{hand_kept, filled_come, filled_all, read_more}}
 use Rattle.lert_frames.proofs.CallLaws.{reads_turned}
 use Rattle.lert_frames.proofs.window.Window.fill.Goals as goal
 

@@ -1,8 +1,5 @@
-use Rattle.std.proofs.Common.{length, refl, arith}
-use Rattle.std.proofs.lemmas.Result.{err_from_is_err_and}
-use Rattle.lert_frames.specs.Window.{count_of}
-use Rattle.lert_frames.proofs.WindowLaws.{is_enough, too_few}
-use Rattle.lert_frames.proofs.CallLaws.{reads_turned}
+use Rattle.std.{proofs.Common.{length, refl, arith}, proofs.lemmas.Result.err_from_is_err_and}
+use Rattle.lert_frames.{specs.Window.count_of, proofs.WindowLaws.{is_enough, too_few}, proofs.CallLaws.reads_turned}
 use Rattle.lert_frames.proofs.window.Window.need.Goals as goal
 
 pub returns-in_err-fill : goal.returns-in_err-fill

@@ -1,10 +1,6 @@
-use Rattle.std.proofs.Common.{◌≡◌, refl, arith}
-use Rattle.std.proofs.lemmas.Result.{err_from_is_err_and}
+use Rattle.std.{proofs.Common.{◌≡◌, refl, arith}, proofs.lemmas.Result.err_from_is_err_and}
 use Rattle.lert_bay.specs.declared.bay.TheConstants.{FRAMES}
-use Rattle.lert_frames.specs.Place.{block_count}
-use Rattle.lert_frames.proofs.CallLaws.{told_then}
-use Rattle.lert_frames.proofs.ProceedLaws.{frame_writes, frame_outside, holds_same, proceeds_as, proceeds_on}
-use Rattle.lert_frames.proofs.WriteLaws.{on_ok}
+use Rattle.lert_frames.{specs.Place.block_count, proofs.CallLaws.told_then, proofs.ProceedLaws.{frame_writes, frame_outside, holds_same, proceeds_as, proceeds_on}, proofs.WriteLaws.on_ok}
 use Rattle.lert_frames.proofs.writer.FrameWriter.end.Goals as goal
 
 pub reach-requires : goal.reach-requires

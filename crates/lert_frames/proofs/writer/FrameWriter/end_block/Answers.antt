@@ -1,9 +1,7 @@
 use Rattle.std.proofs.Common.{◌+◌, refl, arith}
 use Rattle.lert_bay.specs.declared.bay.TheConstants.{FRAMES}
 use Rattle.lert_blocks.specs.Text.{blocks_text, pieces_in}
-use Rattle.lert_frames.specs.Writing.{end_of}
-use Rattle.lert_frames.proofs.CallLaws.{writes_as}
-use Rattle.lert_frames.proofs.GrowingLaws.{growing_room, growing_again, growing_next, first_within, last_within}
+use Rattle.lert_frames.{specs.Writing.end_of, proofs.CallLaws.writes_as, proofs.GrowingLaws.{growing_room, growing_again, growing_next, first_within, last_within}}
 use Rattle.lert_frames.proofs.WritingLaws.{in_block-ascend, passed_next, stands_next}
 use Rattle.lert_frames.proofs.writer.FrameWriter.end_block.Goals as goal
 

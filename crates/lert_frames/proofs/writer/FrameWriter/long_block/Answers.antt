@@ -1,17 +1,9 @@
-use Rattle.std.proofs.Common.{◌≡◌, ℕ, ◌+◌, ◌*◌, ◌^◌, ◌<◌, ◌≤◌, ◌∙◌, None, length, ap, subst, refl, arith}
-use Rattle.std.proofs.lemmas.Bool.{false≢true}
-use Rattle.std.proofs.lemmas.List.{length-take-le}
+use Rattle.std.{proofs.Common.{◌≡◌, ℕ, ◌+◌, ◌*◌, ◌^◌, ◌<◌, ◌≤◌, ◌∙◌, None, length, ap, subst, refl, arith}, proofs.lemmas.Bool.false≢true, proofs.lemmas.List.length-take-le}
 use Rattle.std.proofs.lemmas.Result.{err_from_is_err_and}
 use Rattle.lert_bay.specs.declared.bay.TheConstants.{FRAMES}
 use Rattle.lert_blocks.specs.Text.{blocks_text, pieces_in}
-use Rattle.lert_frames.specs.declared.writer.FrameWriter.{FrameWriter}
-use Rattle.lert_frames.specs.Outlet.{next_place}
-use Rattle.lert_frames.specs.Spilt.{Reaches, block_bytes}
-use Rattle.lert_frames.specs.Writing.{end_of}
-use Rattle.lert_frames.proofs.GrowingLaws.{growing_flushed, growing_long, long_fits}
-use Rattle.lert_frames.proofs.ProceedLaws.{proceeds_none, stays_none}
-use Rattle.lert_frames.proofs.WritingLaws.{behind_long}
-use Rattle.lert_frames.specs.Calls.{bays_of}
+use Rattle.lert_frames.{specs.declared.writer.FrameWriter.FrameWriter, specs.Outlet.next_place, specs.Spilt.{Reaches, block_bytes}, specs.Writing.end_of}
+use Rattle.lert_frames.{proofs.GrowingLaws.{growing_flushed, growing_long, long_fits}, proofs.ProceedLaws.{proceeds_none, stays_none}, proofs.WritingLaws.behind_long, specs.Calls.bays_of}
 use Rattle.lert_frames.proofs.writer.FrameWriter.long_block.Goals as goal
 
 pub returns-in-Some : goal.returns-in-Some

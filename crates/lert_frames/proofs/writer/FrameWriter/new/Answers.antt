@@ -1,5 +1,4 @@
-use Rattle.std.proofs.Common.{◌∙◌}
-use Rattle.std.proofs.lemmas.Result.{err_from_is_err_and}
+use Rattle.std.{proofs.Common.◌∙◌, proofs.lemmas.Result.err_from_is_err_and}
 use Rattle.lert_frames.proofs.writer.FrameWriter.new.Goals as goal
 
 pub returns-in_err-outlet : goal.returns-in_err-outlet

@@ -1,10 +1,6 @@
 use Rattle.std.proofs.Common.{List, sym, ap, subst, ◌∙◌, arith}
-use Rattle.lert_frames.specs.Place.{tail_limit}
-use Rattle.lert_spec.specs.declared.piece.Piece.{Piece}
-use Rattle.lert_spec.specs.Limits.{IsValid}
-use Rattle.lert_spec.specs.Table.{AreGiven, total}
-use Rattle.lert_frames.proofs.GrowingLaws.{growing_new, some_block}
-use Rattle.lert_frames.proofs.WritingLaws.{given_none}
+use Rattle.lert_frames.{specs.Place.tail_limit, proofs.GrowingLaws.{growing_new, some_block}, proofs.WritingLaws.given_none}
+use Rattle.lert_spec.{specs.declared.piece.Piece.Piece, specs.Limits.IsValid, specs.Table.{AreGiven, total}}
 use Rattle.lert_frames.proofs.writer.FrameWriter.of.Goals as goal
 
 pub invariant_of-result-clause-growing : goal.invariant_of-result-clause-growing

@@ -1,14 +1,8 @@
-use Rattle.std.proofs.Common.{◌≡◌, ◌/◌, ◌∷◌, ◌++◌, ◌∙◌, List, [], sym, ap, subst, refl, arith}
-use Rattle.std.proofs.lemmas.Result.{err_from_is_err_and}
+use Rattle.std.{proofs.Common.{◌≡◌, ◌/◌, ◌∷◌, ◌++◌, ◌∙◌, List, [], sym, ap, subst, refl, arith}, proofs.lemmas.Result.err_from_is_err_and}
 use Rattle.lert_bay.specs.declared.bay.TheConstants.{FRAMES}
 use Rattle.lert_blocks.specs.Text.{quotient_of}
-use Rattle.lert_frames.specs.Place.{tail_limit}
-use Rattle.lert_spec.specs.declared.numbers.Numbers.{Numbers}
-use Rattle.lert_spec.specs.declared.piece.Piece.{Piece}
-use Rattle.lert_spec.specs.Edges.{span}
-use Rattle.lert_spec.specs.Table.{AreGiven, total}
-use Rattle.lert_frames.proofs.ProceedLaws.{frame_writes, frame_outside, proceeds_as}
-use Rattle.lert_frames.proofs.WritingLaws.{last_piece}
+use Rattle.lert_frames.{specs.Place.tail_limit, proofs.ProceedLaws.{frame_writes, frame_outside, proceeds_as}, proofs.WritingLaws.last_piece}
+use Rattle.lert_spec.{specs.declared.numbers.Numbers.Numbers, specs.declared.piece.Piece.Piece, specs.Edges.span, specs.Table.{AreGiven, total}}
 use Rattle.lert_frames.proofs.writer.FrameWriter.put.Goals as goal
 
 pub ready-requires : goal.ready-requires

@@ -1,8 +1,6 @@
 use Rattle.std.proofs.Common.{◌≤◌, ℕ, ◌-◌, max}
 use Rattle.lert_bay.specs.Kept.{Bays}
-use Rattle.lert_frames.specs.Writing.{Proceeds, Stays}
-use Rattle.lert_frames.specs.declared.writer.FrameWriter.{FrameWriter}
-use Rattle.lert_frames.specs.Calls.{bays_of}
+use Rattle.lert_frames.{specs.Writing.{Proceeds, Stays}, specs.declared.writer.FrameWriter.FrameWriter, specs.Calls.bays_of}
 use Rattle.lert_frames.proofs.writer.FrameWriter.reach.Given as goal
 
 -- blocks were ended up to this one at most

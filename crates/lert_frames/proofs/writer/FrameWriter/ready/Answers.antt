@@ -1,11 +1,6 @@
-use Rattle.std.proofs.Common.{◌<◌, ◌≤◌, refl, arith}
-use Rattle.std.proofs.lemmas.Result.{err_from_is_err_and}
-use Rattle.lert_spec.specs.Edges.{quotient_bits}
-use Rattle.lert_spec.proofs.LimitLaws.{quotient_bits_by_zeros}
-use Rattle.lert_frames.specs.declared.writer.FrameWriter.{FrameWriter}
-use Rattle.lert_frames.proofs.ProceedLaws.{proceeds_as, proceeds_on, stays_on}
-use Rattle.lert_frames.proofs.WritingLaws.{block_within}
-use Rattle.lert_frames.proofs.WriteLaws.{on_ok}
+use Rattle.std.{proofs.Common.{◌<◌, ◌≤◌, refl, arith}, proofs.lemmas.Result.err_from_is_err_and}
+use Rattle.lert_spec.{specs.Edges.quotient_bits, proofs.LimitLaws.quotient_bits_by_zeros}
+use Rattle.lert_frames.{specs.declared.writer.FrameWriter.FrameWriter, proofs.ProceedLaws.{proceeds_as, proceeds_on, stays_on}, proofs.WritingLaws.block_within, proofs.WriteLaws.on_ok}
 use Rattle.lert_frames.proofs.writer.FrameWriter.ready.Goals as goal
 
 -- a remainder is shorter than a word

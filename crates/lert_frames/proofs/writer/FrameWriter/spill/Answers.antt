@@ -1,13 +1,8 @@
 use Rattle.std.proofs.Common.{◌+◌, ◌*◌, ◌∙◌, ap, refl, arith}
-use Rattle.lert_bay.specs.declared.bay.TheConstants.{FRAMES}
-use Rattle.lert_bay.specs.Settled.{part}
+use Rattle.lert_bay.{specs.declared.bay.TheConstants.FRAMES, specs.Settled.part}
 use Rattle.lert_blocks.specs.Text.{blocks_text, pieces_in}
-use Rattle.lert_frames.specs.Writing.{end_of}
-use Rattle.lert_frames.proofs.CallLaws.{writes_as}
-use Rattle.lert_frames.proofs.ClosingLaws.{before_stays}
-use Rattle.lert_frames.proofs.GrowingLaws.{growing_room, growing_gone, growing_kept}
-use Rattle.lert_frames.proofs.ProceedLaws.{proceeds_on, stays_on}
-use Rattle.lert_frames.proofs.WritingLaws.{behind_some, in_block-ascend}
+use Rattle.lert_frames.{specs.Writing.end_of, proofs.CallLaws.writes_as, proofs.ClosingLaws.before_stays, proofs.GrowingLaws.{growing_room, growing_gone, growing_kept}}
+use Rattle.lert_frames.{proofs.ProceedLaws.{proceeds_on, stays_on}, proofs.WritingLaws.{behind_some, in_block-ascend}}
 use Rattle.lert_frames.proofs.writer.FrameWriter.spill.Goals as goal
 
 pub let_go-requires-clause-reach : goal.let_go-requires-clause-reach

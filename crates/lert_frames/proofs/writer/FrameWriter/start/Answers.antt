@@ -1,11 +1,7 @@
 use Rattle.std.proofs.Common.{[], List, sym, ap, subst, ◌∙◌, ◌+◌, ◌*◌, ◌^◌, None, arith}
 use Rattle.lert_blocks.specs.Text.{blocks_text, pieces_in}
-use Rattle.lert_frames.specs.Place.{tail_limit}
-use Rattle.lert_frames.specs.Spilt.{IsBehind}
-use Rattle.lert_spec.specs.declared.piece.Piece.{Piece}
-use Rattle.lert_spec.specs.Table.{AreGiven, AscendsFrom, total}
-use Rattle.lert_frames.proofs.GrowingLaws.{growing_new, some_block}
-use Rattle.lert_frames.proofs.WritingLaws.{given_none, behind_none}
+use Rattle.lert_frames.{specs.Place.tail_limit, specs.Spilt.IsBehind, proofs.GrowingLaws.{growing_new, some_block}, proofs.WritingLaws.{given_none, behind_none}}
+use Rattle.lert_spec.{specs.declared.piece.Piece.Piece, specs.Table.{AreGiven, AscendsFrom, total}}
 use Rattle.lert_frames.proofs.writer.FrameWriter.start.Goals as goal
 
 pub invariant_of-self-clause-growing : goal.invariant_of-self-clause-growing

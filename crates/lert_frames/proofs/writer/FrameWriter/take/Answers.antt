@@ -1,13 +1,8 @@
 use Rattle.std.proofs.Common.{◌+◌, ◌*◌, ◌%◌, ◌-◌, ◌^◌, ◌∷◌, ◌++◌, List, [], sym, subst, arith}
-use Rattle.lert_blocks.specs.Text.{blocks_text, pieces_in}
-use Rattle.lert_blocks.proofs.LengthLaws.{group_short}
-use Rattle.lert_frames.specs.Growing.{IsHolding}
-use Rattle.lert_frames.specs.Place.{tail_limit}
-use Rattle.lert_frames.specs.Spilt.{IsBehind}
-use Rattle.lert_spec.specs.declared.piece.Piece.{Piece}
-use Rattle.lert_spec.specs.Table.{AscendsFrom}
-use Rattle.lert_frames.proofs.GrowingLaws.{growing_take}
+use Rattle.lert_blocks.{specs.Text.{blocks_text, pieces_in}, proofs.LengthLaws.group_short}
+use Rattle.lert_frames.{specs.Growing.IsHolding, specs.Place.tail_limit, specs.Spilt.IsBehind, proofs.GrowingLaws.growing_take}
 use Rattle.lert_frames.proofs.WritingLaws.{last_count, total_push, width_from, passed_take, ahead_take, stands_take}
+use Rattle.lert_spec.{specs.declared.piece.Piece.Piece, specs.Table.AscendsFrom}
 use Rattle.lert_frames.proofs.writer.FrameWriter.take.Goals as goal
 
 pub put-requires-clause-narrow : goal.put-requires-clause-narrow

@@ -1,5 +1,4 @@
-use Rattle.lert_levels.proofs.flush.BoundLaws.{left_over}
-use Rattle.lert_levels.proofs.flush.MergingLaws.{IsMerging}
+use Rattle.lert_levels.{proofs.flush.BoundLaws.left_over, proofs.flush.MergingLaws.IsMerging}
 use Rattle.lert_frames.specs.Calls.{bays_of}
 use Rattle.lert_levels.proofs.flush.merge.merge_bins.Given as goal
 

@@ -1,11 +1,7 @@
 use Rattle.std.proofs.Common.{ℕ, Option, refl, ap, sym, get_or}
-use Rattle.lert_levels.specs.landing.Landed.{taken}
-use Rattle.lert_levels.specs.flush.Merged.{is_of, with_piece}
-use Rattle.lert_levels.proofs.flush.MergingLaws.{never_failed, not_malformed}
-use Rattle.lert_levels.proofs.flush.PartLaws.{landed_one}
+use Rattle.lert_levels.{specs.landing.Landed.taken, specs.flush.Merged.{is_of, with_piece}, proofs.flush.MergingLaws.{never_failed, not_malformed}, proofs.flush.PartLaws.landed_one}
 use Rattle.lert_levels.proofs.flush.SteadyLaws.{writes_read, writes_as}
-use Rattle.lert_frames.proofs.CallLaws.{reads_same, keeps_turned}
-use Rattle.lert_frames.specs.Calls.{bays_of}
+use Rattle.lert_frames.{proofs.CallLaws.{reads_same, keeps_turned}, specs.Calls.bays_of}
 use Rattle.lert_levels.proofs.flush.put.put_piece.Goals as goal
 
 -- ---- of no part

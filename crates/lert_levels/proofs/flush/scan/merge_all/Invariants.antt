@@ -1,8 +1,7 @@
 use Rattle.std.proofs.Common.{List}
 use Rattle.lert_bay.specs.Kept.{OnlyReads}
 use Rattle.lert_spec.specs.declared.piece.Piece.{Piece}
-use Rattle.lert_levels.proofs.flush.BoundLaws.{left_over}
-use Rattle.lert_levels.proofs.flush.GatheringLaws.{IsGathering}
+use Rattle.lert_levels.{proofs.flush.BoundLaws.left_over, proofs.flush.GatheringLaws.IsGathering}
 use Rattle.lert_frames.specs.Calls.{bays_of}
 use Rattle.lert_levels.proofs.flush.scan.merge_all.Given as goal
 

@@ -1,6 +1,4 @@
-use Rattle.std.proofs.Common.{◌≡◌, ◌+◌, ◌++◌, ◌∷◌, [], length, true, sym, ap, ◌∙◌, arith, length-append}
-use Rattle.std.proofs.lemmas.Bool.{cond-true}
-use Rattle.std.specs.Result.{is_ok}
+use Rattle.std.{proofs.Common.{◌≡◌, ◌+◌, ◌++◌, ◌∷◌, [], length, true, sym, ap, ◌∙◌, arith, length-append}, proofs.lemmas.Bool.cond-true, specs.Result.is_ok}
 use Rattle.lert_levels.proofs.streams.TableLaws.{started_next}
 use Rattle.lert_levels.proofs.streams.room.start_all.Goals as goal
 

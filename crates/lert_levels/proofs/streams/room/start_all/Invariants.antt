@@ -1,5 +1,4 @@
-use Rattle.std.proofs.Common.{◌≡◌, ◌+◌, ◌≤◌, length, take}
-use Rattle.std.specs.Vec.{vec_capacity}
+use Rattle.std.{proofs.Common.{◌≡◌, ◌+◌, ◌≤◌, length, take}, specs.Vec.vec_capacity}
 use Rattle.lert_levels.specs.streams.Tables.{AreStartedOn}
 use Rattle.lert_levels.proofs.streams.room.start_all.Given as goal
 

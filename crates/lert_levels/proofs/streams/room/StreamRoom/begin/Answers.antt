@@ -1,12 +1,7 @@
-use Rattle.std.proofs.Common.{ℕ, ◌≡◌, ◌+◌, ◌-◌, ◌*◌, ◌^◌, arith, length, Some, List, [], map, sym, ap, ◌∙◌, subst, append-nil}
-use Rattle.std.specs.Prelude.{slice_index_or}
+use Rattle.std.{proofs.Common.{ℕ, ◌≡◌, ◌+◌, ◌-◌, ◌*◌, ◌^◌, arith, length, Some, List, [], map, sym, ap, ◌∙◌, subst, append-nil}, specs.Prelude.slice_index_or}
 use Rattle.lert_merge.specs.order.Members.{given_at, limit_at}
-use Rattle.lert_spec.specs.declared.numbers.Numbers.{Numbers}
-use Rattle.lert_spec.specs.Table.{total}
-use Rattle.lert_levels.specs.streams.Bin.{Bin, of_table, given_of, limit_of, wide_of}
-use Rattle.lert_levels.specs.streams.BinSet.{AreSure, Reads}
-use Rattle.lert_levels.specs.streams.SetLaws.{to_come_at}
-use Rattle.lert_levels.specs.streams.Tables.{AreOrdered}
+use Rattle.lert_spec.{specs.declared.numbers.Numbers.Numbers, specs.Table.total}
+use Rattle.lert_levels.{specs.streams.Bin.{Bin, of_table, given_of, limit_of, wide_of}, specs.streams.BinSet.{AreSure, Reads}, specs.streams.SetLaws.to_come_at, specs.streams.Tables.AreOrdered}
 use Rattle.lert_levels.proofs.streams.FreshLaws.{fresh_count, fresh_coming, fresh_given, fresh_limit, fresh_width, fresh_sure, fresh_reads}
 use Rattle.lert_levels.proofs.streams.room.StreamRoom.begin.Goals as goal
 

@@ -1,8 +1,7 @@
 use Rattle.std.proofs.Common.{ℕ, ◌≡◌, ◌∙◌, ◌≤◌, List, sym, subst, arith, inr}
 use Rattle.lert_bay.specs.declared.bay.TheConstants.{FRAMES}
 use Rattle.lert_frames.specs.Frame.{frame_left}
-use Rattle.lert_spec.specs.declared.numbers.Numbers.{Numbers}
-use Rattle.lert_spec.specs.Edges.{span}
+use Rattle.lert_spec.{specs.declared.numbers.Numbers.Numbers, specs.Edges.span}
 use Rattle.lert_levels.proofs.streams.TableLaws.{reader_here, readers_with, when_ok}
 use Rattle.lert_levels.proofs.streams.room.StreamRoom.secure.Goals as goal
 

@@ -1,8 +1,5 @@
 use Rattle.std.proofs.Common.{◌+◌, ◌∙◌, sym, ap, length, arith}
-use Rattle.lert_levels.proofs.streams.AskLaws.{set_length}
-use Rattle.lert_levels.proofs.streams.TableLaws.{bins_length}
-use Rattle.lert_levels.specs.streams.BinSet.{BinSet}
-use Rattle.lert_levels.specs.streams.Tables.{bins_at}
+use Rattle.lert_levels.{proofs.streams.AskLaws.set_length, proofs.streams.TableLaws.bins_length, specs.streams.BinSet.BinSet, specs.streams.Tables.bins_at}
 use Rattle.lert_levels.proofs.streams.streams.BinStreams.count.Goals as goal
 
 pub overflow_add-result : goal.overflow_add-result
