@@ -54,21 +54,11 @@ module _ (log : LogPlace) (kind : LogKind) (n0 : ℕ) (directory : List ℕ) (re
 
 -- ---- a record fits a log
 
--- the directory of rows
-pub directory_few : (s : Numbers) (rows : List (List BinAt)) → AreRows s rows → length (directory_text rows) ≤ s.levels * (1 + s.bins)
-directory_few s rows are =
-    let few : All (λ row. length row ≤ s.bins) rows =
-    λ k d below. (
-    let place : k + 1 - 1 ≡ k = omega arith in
-    let is : row_of rows (k + 1) ≡ get_or rows k d = ap (λ n. get_or rows n []) place ∙ get_or_default rows k [] d below in
-    omega (arith, (are.each (k + 1) (omega arith) (omega (arith, are.levels, below))).few, ap (length {A = BinAt}) is)) in
-    omega (arith, directory_short s.bins rows few, ap (λ n. n * (1 + s.bins)) are.levels)
-
 pub record_fits : (s : Numbers) (rows : List (List BinAt)) (log : LogPlace) (directory : List ℕ) (reports all : List Report) → AreRows s rows → log.most ≡ most_record s →
     directory ≡ directory_text rows → reports ≡ all → length all ≤ s.room →
     payload_len log directory reports ≤ log.most
 record_fits s rows log directory reports all are most_is directory_is reports_are few =
-    omega (arith, most_is, ap (length {A = ℕ}) directory_is, directory_few s rows are, ap (length {A = Report}) reports_are, few, length-drop log.named reports)
+    omega (arith, most_is, ap (length {A = ℕ}) directory_is, directory_short s rows are, ap (length {A = Report}) reports_are, few, length-drop log.named reports)
 
 -- no payload is long
 pub most_few : (s : Numbers) → IsValid s → most_record s ≤ 67109029

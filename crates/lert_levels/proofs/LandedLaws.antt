@@ -36,7 +36,7 @@ use Rattle.lert_levels.proofs.PlacedLaws.{begun_reads}
 use Rattle.lert_levels.proofs.WholeLaws.{begun_whole}
 use Rattle.lert_levels.proofs.ReadyLaws.{first_landings, first_started}
 use Rattle.lert_levels.proofs.SourceLaws.{begun_length, begun_limit, begun_width, begun_told, sources_length, sources_pieces, sources_widths, sources_stand, bins_from}
-use Rattle.lert_levels.specs.rows.Rows.{IsRow}
+use Rattle.lert_levels.specs.rows.Rows.{AreFirst}
 
 pub on_ok : {T E : Type 0} (result : Result T E) (P Q : Type 0) → (P → Q) → OnOk result P → OnOk result Q
 on_ok (Ok value) P Q weaker is = weaker is
@@ -63,8 +63,7 @@ begun_wide s young rows bins k begun =
 
 -- ---- what a merge took
 
-module _ (s : Numbers) (valid : IsValid s) (young : List Bin) (rows : List (List BinAt)) (few : length rows ≤ s.levels)
-    (are : (k : ℕ) → k < length rows → IsRow s (k + 1) (get_or rows k [])) (bins : List Stream) (begun : AreBegun s (sources young rows) bins)
+module _ (s : Numbers) (valid : IsValid s) (young : List Bin) (rows : List (List BinAt)) (are : AreFirst s rows) (bins : List Stream) (begun : AreBegun s (sources young rows) bins)
     (took : List Piece → Type 0) (before : Option Files) (lists : List (List Piece)) (len : length lists ≡ length bins)
     (given : (k : ℕ) → k < length bins → AreGiven (limit_at limit_of bins k) (get_or lists k []))
     (fits : (k : ℕ) → k < length bins → total (get_or lists k []) ≤ limit_at wide_of bins k) (totals_are : took (sums_of lists))
@@ -81,7 +80,7 @@ module _ (s : Numbers) (valid : IsValid s) (young : List Bin) (rows : List (List
   told_lists : (file : List ℕ) → IsFrames before file → (held : BinAt → List Piece) → AllStand s file held rows → lists ≡ streams_of young held rows
   told_lists file here held stand =
       let there : AllStand s (here.seen FRAMES) held rows = subst (λ (bytes : List ℕ). AllStand s bytes held rows) here.is stand in
-      let hold = sources_stand s (here.seen FRAMES) held young rows few are there in
+      let hold = sources_stand s (here.seen FRAMES) held young rows are there in
       let pieces = sources_pieces held young rows in
       told (streams_of young held rows)
       (sym (ap (length {A = List Piece}) pieces) ∙ length-map (sources young rows) (pieces_from held) ∙ sym (begun_length s (sources young rows) bins begun))
@@ -118,17 +117,18 @@ pub record AreLaid (s : Numbers) (m : ℕ) (young : List Bin) (rows : List (List
   pub count : length landings ≡ length rows
 
 -- by other words for the settings and the numbers, of the first ones of all landings
-pub laid : (s t : Numbers) (m count : ℕ) (young : List Bin) (rows : List (List BinAt)) (n : ℕ) (parts : List (Option ℕ)) (all : List Landing) → t ≡ s → count ≡ length young →
-    length rows ≡ n → n ≤ length all → ArePartsOf t m count rows (streams_to count rows n) n parts → AreLandings t all → AreStarted t m rows all →
-    AreLaid s m young rows parts (take n all)
-laid s t m count young rows n parts all settings same number enough are landings started = record {
-  of_parts = subst (λ (k : ℕ). ArePartsOf s m (length young) rows (streams_to (length young) rows k) k parts) (sym number)
-      (subst (λ (y : ℕ). ArePartsOf s m y rows (streams_to y rows n) n parts) same
-      (subst (λ (r : Numbers). ArePartsOf r m count rows (streams_to count rows n) n parts) settings are));
-  are = first_landings s n all (subst (λ (r : Numbers). AreLandings r all) settings landings);
-  started = first_started s m rows n all (omega (arith, number)) (subst (λ (r : Numbers). AreStarted r m rows all) settings started);
-  count = omega (arith, length-take n all, enough, number);
-}
+pub laid : (s t : Numbers) (m count : ℕ) (young : List Bin) (rows : List (List BinAt)) (parts : List (Option ℕ)) (all : List Landing) → t ≡ s → count ≡ length young →
+    length rows ≤ length all → ArePartsOf t m count rows (streams_to count rows (length rows)) (length rows) parts → AreLandings t all → AreStarted t m rows all →
+    AreLaid s m young rows parts (take (length rows) all)
+laid s t m count young rows parts all settings same enough are landings started =
+    let n = length rows in
+    record {
+      of_parts = subst (λ (y : ℕ). ArePartsOf s m y rows (streams_to y rows n) n parts) same
+          (subst (λ (r : Numbers). ArePartsOf r m count rows (streams_to count rows n) n parts) settings are);
+      are = first_landings s n all (subst (λ (r : Numbers). AreLandings r all) settings landings);
+      started = first_started s m rows n all (omega arith) (subst (λ (r : Numbers). AreStarted r m rows all) settings started);
+      count = omega (arith, length-take n all, enough);
+    }
 
 module _ (s : Numbers) (m : ℕ) (young : List Bin) (rows : List (List BinAt)) (reached : AreReached s m young rows) (parts : List (Option ℕ)) (landings : List Landing)
     (laid : AreLaid s m young rows parts landings) where
@@ -156,7 +156,7 @@ module _ (s : Numbers) (m : ℕ) (young : List Bin) (rows : List (List BinAt)) (
       (subst (λ (frame : ℕ). IsApart s (k + 1) frame from to) (sym (laid.started.frame k d within)) (apart k within)))
 
   pub reads_apart : (bins : List Stream) → AreBegun s (sources young rows) bins → (from to : ℕ) → Reads bins from to → IsOutside landings from to
-  reads_apart bins begun from to reads = apart_landings from to (reached.apart from to (begun_reads s young rows bins from to reached.few begun reads))
+  reads_apart bins begun from to reads = apart_landings from to (reached.apart from to (begun_reads s young rows bins from to reached.are.few begun reads))
 
   -- what stands in the landings' frames are the new bins
   pub has_made : (took : List Piece → Type 0) (before after : Option Files) (lists : List (List Piece)) → length lists ≡ streams_to (length young) rows (length rows) →

@@ -1,3 +1,4 @@
+pub mod Bays
 pub mod PartLaws
 pub mod PickLaws
 pub mod ArrivalLaws

@@ -188,6 +188,14 @@ is_of oldest (Some other) stream = elim (cases_eq stream oldest) [
   ]
 ]
 
+-- the streams of a level more, whose part is to be set
+pub record IsAdded (s : Numbers) (m young : ℕ) (rows : List (List BinAt)) (i : ℕ) (added : List (Option ℕ)) : Type 0 where
+  pub len : length added ≡ streams_to young rows (i + 1)
+  pub oldest : oldest_stream young rows i < length added
+  pub newest : (stream : ℕ) → (part_at s m young rows i).newest ≡ Some stream → stream < length added
+  pub more : (after : List (Option ℕ)) → after ≡ set_two added (oldest_stream young rows i) (part_at s m young rows i).newest i →
+      ArePartsOf s m young rows (streams_to young rows (i + 1)) (i + 1) after
+
 module _ (s : Numbers) (m young : ℕ) (rows : List (List BinAt)) (some : 1 ≤ young) (have : HaveParts s m rows) where
   pub parts_none : (parts : List (Option ℕ)) → parts ≡ [] ++ replicate young None → ArePartsOf s m young rows (streams_to young rows 0) 0 parts
   parts_none parts is = record {
@@ -197,30 +205,30 @@ module _ (s : Numbers) (m young : ℕ) (rows : List (List BinAt)) (some : 1 ≤ 
   }
 
   -- the streams of the part of the next level are among those so far
-  module _ (i : ℕ) (below : i < length rows) (parts added : List (Option ℕ)) (are : ArePartsOf s m young rows (streams_to young rows i) i parts)
-      (added_is : added ≡ parts ++ replicate (length (get_or rows i [])) None) where
-    pub added_length : length added ≡ streams_to young rows (i + 1)
+  module _ (i : ℕ) (below : i < length rows) (count : ℕ) (count_is : count ≡ length (get_or rows i [])) (parts added : List (Option ℕ))
+      (are : ArePartsOf s m young rows (streams_to young rows i) i parts) (added_is : added ≡ parts ++ replicate count None) where
+    added_length : length added ≡ streams_to young rows (i + 1)
     added_length =
-        let count = length (get_or rows i []) in
         omega (
           arith,
           ap (length {A = Option ℕ}) added_is ∙ length-append parts (replicate count None),
           length-replicate {A = Option ℕ} count None,
+          count_is,
           are.len,
           streams_more young rows i below,
         )
 
-    pub oldest_added : oldest_stream young rows i < length added
+    oldest_added : oldest_stream young rows i < length added
     oldest_added = omega (arith, added_length, streams_more young rows i below, oldest_below s m young rows some have i below)
 
-    pub newest_added : (stream : ℕ) → (part_at s m young rows i).newest ≡ Some stream → stream < length added
+    newest_added : (stream : ℕ) → (part_at s m young rows i).newest ≡ Some stream → stream < length added
     newest_added stream is = omega (arith, added_length, (newest_above s m young rows some have i stream below is).1)
 
     kept_at : (stream : ℕ) → get_or added stream None ≡ get_or parts stream None
-    kept_at stream = ap (λ ps. get_or ps stream None) added_is ∙ padded parts (length (get_or rows i [])) stream
+    kept_at stream = ap (λ ps. get_or ps stream None) added_is ∙ padded parts count stream
 
     -- and once its part is set, one part more
-    pub parts_more : (after : List (Option ℕ)) → after ≡ set_two added (oldest_stream young rows i) (part_at s m young rows i).newest i →
+    parts_more : (after : List (Option ℕ)) → after ≡ set_two added (oldest_stream young rows i) (part_at s m young rows i).newest i →
         ArePartsOf s m young rows (streams_to young rows (i + 1)) (i + 1) after
     parts_more after after_is =
         let oldest = oldest_stream young rows i in
@@ -267,6 +275,9 @@ module _ (s : Numbers) (m young : ℕ) (rows : List (List BinAt)) (some : 1 ≤ 
               ∙ sym (two_there added (oldest_stream young rows i) (part_at s m young rows i).newest i stream elsewhere.0 elsewhere.1) ∙ there) in
               (omega (arith, old.0), old.1))
         ]
+
+    pub level_added : IsAdded s m young rows i added
+    level_added = record { len = added_length; oldest = oldest_added; newest = newest_added; more = parts_more }
 
 -- one more stream that goes to no new bin
 pub one_added : (old parts new : List (Option ℕ)) (k : ℕ) → parts ≡ old ++ replicate k None → new ≡ parts ++ None ∷ [] → new ≡ old ++ replicate (k + 1) None

@@ -11,9 +11,9 @@ use Rattle.lert_levels.specs.declared.rows.fault.FlushFault.{FlushFault}
 use Rattle.lert_levels.specs.declared.rows.fault.FlushFault.TheVariants.{Failed, Malformed}
 use Rattle.lert_levels.specs.rows.Landing.{LeavesRest, AreApart}
 use Rattle.lert_levels.specs.rows.Loading.{width_of, Stands, AllStand, OneBreaks}
-use Rattle.lert_levels.specs.rows.Rows.{IsAt, IsRow, AreRows, HoldsBins, moved}
+use Rattle.lert_levels.specs.rows.Rows.{IsAt, AreFirst, AreRows, HoldsBins, moved}
 use Rattle.lert_levels.proofs.rows.RangeLaws.{edge_within}
-use Rattle.lert_levels.proofs.rows.RowLaws.{row_among}
+use Rattle.lert_levels.proofs.rows.RowLaws.{first_rows}
 use Rattle.lert_spec.specs.Bins.{Bin}
 use Rattle.lert_spec.specs.Edges.{span, edge, depth, capacity}
 use Rattle.lert_spec.specs.Limits.{IsValid}
@@ -42,24 +42,18 @@ module _ (s : Numbers) (valid : IsValid s) (m : ℕ) (first : 1 ≤ m) (fits : m
   pub deep : depth s m ≤ s.levels
   deep = deepest_within s (omega (arith, valid.limits.base_from)) (omega (arith, valid.limits.ratio_from)) s.levels m
 
-  pub reached_rows : (k : ℕ) → k < length (take (depth s m) rows) → IsRow s (k + 1) (get_or (take (depth s m) rows) k [])
-  reached_rows k below =
-      let less : k < depth s m = omega (arith, below, length-take (depth s m) rows) in
-      subst (IsRow s (k + 1)) (row_among rows (depth s m) k less) (are.each (k + 1) (omega arith) (omega (arith, less, deep)))
+  pub reached_first : AreFirst s (take (depth s m) rows)
+  reached_first = first_rows s rows are (depth s m) deep
 
   pub reached_count : length (take (depth s m) rows) ≡ depth s m
   reached_count = omega (arith, length-take (depth s m) rows, are.levels, deep)
-
-  pub reached_few : length (take (depth s m) rows) ≤ s.levels
-  reached_few = omega (arith, length-take (depth s m) rows, deep)
 
   -- the rows that it reaches make up the new bins
   pub reached_are : (young : List Bin) → 1 ≤ length young → All (λ (bin : Bin). bin.to - bin.from ≤ span s 0) young → AreReached s m young (take (depth s m) rows)
   reached_are young some narrow = record {
     some = some;
     narrow = narrow;
-    few = reached_few;
-    are = reached_rows;
+    are = reached_first;
     parts = parts_have s valid m first fits rows at;
     fits = λ k below. part_widths s valid m first fits rows at young some narrow k (omega (arith, below, length-take (depth s m) rows));
     apart = λ from to inside. named_apart s m rows are (depth s m) deep from to (named_more s rows (depth s m) from to are.levels inside);
@@ -95,16 +89,16 @@ young_some s m from to first from_is to_is = omega (arith, edge_within s 0 (m - 
 
 -- ---- frames that stand don't break
 
-pub no_break : (s : Numbers) (valid : IsValid s) (rows : List (List BinAt)) (file : List ℕ) (hold : BinAt → List Piece) (at : ℕ) → length rows ≤ s.levels →
-    ((k : ℕ) → k < length rows → IsRow s (k + 1) (get_or rows k [])) → AllStand s file hold rows → OneBreaks s rows file at → ⊥
-no_break s valid rows file hold at few are stand breaks =
+pub no_break : (s : Numbers) (valid : IsValid s) (rows : List (List BinAt)) (file : List ℕ) (hold : BinAt → List Piece) (at : ℕ) → AreFirst s rows →
+    AllStand s file hold rows → OneBreaks s rows file at → ⊥
+no_break s valid rows file hold at are stand breaks =
     let bin = breaks.breaks.bin in
     let named = breaks.breaks.named in
     let k = breaks.number in
     let below = breaks.within in
     let stands : Stands s (k + 1) file hold bin = subst (Stands s (k + 1) file hold) named.2 (stand k below named.0 bin named.1) in
-    let narrow : width_of bin ≤ span s (k + 1) = subst (λ (b : BinAt). width_of b ≤ span s (k + 1)) named.2 ((are k below).widths named.0 bin named.1) in
-    none-some at (sym (left_is s (k + 1) bin.frame (width_of bin) file (hold bin) valid (omega (arith, below, few)) narrow stands.are stands.text) ∙ breaks.breaks.breaks.left)
+    let narrow : width_of bin ≤ span s (k + 1) = subst (λ (b : BinAt). width_of b ≤ span s (k + 1)) named.2 ((are.each k below).widths named.0 bin named.1) in
+    none-some at (sym (left_is s (k + 1) bin.frame (width_of bin) file (hold bin) valid (omega (arith, below, are.few)) narrow stands.are stands.text) ∙ breaks.breaks.breaks.left)
 
 -- where no frame is malformed, only a call failed
 pub sound_by : {T : Type 0} (result : Result T FlushFault) → ((at : ℕ) → result ≡ Err (Malformed at) → ⊥) → IfErr result (λ fault. fault ≡ Failed)

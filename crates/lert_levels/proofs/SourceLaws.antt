@@ -16,7 +16,7 @@ use Rattle.lert_frames.proofs.PlaceLaws.{span_fits}
 use Rattle.lert_merge.specs.order.Members.{given_at, limit_at}
 use Rattle.lert_levels.specs.declared.rows.bin_at.BinAt.{BinAt}
 use Rattle.lert_levels.specs.rows.Loading.{width_of, Stands, AllStand, held_in, widths_in}
-use Rattle.lert_levels.specs.rows.Rows.{IsRow}
+use Rattle.lert_levels.specs.rows.Rows.{AreFirst}
 use Rattle.lert_spec.specs.Bins.{Bin}
 use Rattle.lert_spec.specs.Edges.{span}
 use Rattle.lert_spec.specs.Limits.{IsValid}
@@ -193,14 +193,14 @@ young_hold s file held [] = tt
 young_hold s file held (bin ∷ young) = (tt, young_hold s file held young)
 
 -- where all frames stand, so do the sources
-pub sources_stand : (s : Numbers) (file : List ℕ) (held : BinAt → List Piece) (young : List Bin) (rows : List (List BinAt)) → length rows ≤ s.levels →
-    ((k : ℕ) → k < length rows → IsRow s (k + 1) (get_or rows k [])) → AllStand s file held rows → SourcesStand s file held (sources young rows)
-sources_stand s file held young rows few are stand =
+pub sources_stand : (s : Numbers) (file : List ℕ) (held : BinAt → List Piece) (young : List Bin) (rows : List (List BinAt)) → AreFirst s rows →
+    AllStand s file held rows → SourcesStand s file held (sources young rows)
+sources_stand s file held young rows are stand =
     stand_append s file held (map of_young young) (map of_bin (placed 1 rows)) (young_hold s file held young)
     (rows_hold s file held 1 rows (λ k below. (
     let same : k + 1 ≡ 1 + k = omega arith in
     subst (λ l. RowHolds s file held l (get_or rows k [])) same
-    (record { last = omega (arith, few, below); widths = (are k below).widths; stand = stand k below }))))
+    (record { last = omega (arith, are.few, below); widths = (are.each k below).widths; stand = stand k below }))))
 
 one_told : (s : Numbers) (valid : IsValid s) (source : Source) (stream : Stream) (told : Option Files) (seen : Files) (held : BinAt → List Piece) → told ≡ Some seen →
     IsBegun s source stream → SourceStands s (seen FRAMES) held source → to_come_of told stream ≡ Some (pieces_from held source)
@@ -267,11 +267,11 @@ few_rows bins [] each = omega arith
 few_rows bins (row ∷ rows) each =
     omega (arith, sum_by-cons (λ (r : List BinAt). length r) row rows, each 0 (omega arith), few_rows bins rows (λ k below. each (suc k) (omega (arith, below))), suc-mul (length rows) bins)
 
-pub sources_few : (s : Numbers) (young : List Bin) (rows : List (List BinAt)) → length young ≤ s.bins → length rows ≤ s.levels →
-    ((k : ℕ) → k < length rows → IsRow s (k + 1) (get_or rows k [])) → length (sources young rows) ≤ (s.levels + 1) * s.bins
-sources_few s young rows few_young few are =
-    let rows_few = few_rows s.bins rows (λ k below. (are k below).few) in
-    let product = mul-le-mul_right s.bins few in
+pub sources_few : (s : Numbers) (young : List Bin) (rows : List (List BinAt)) → length young ≤ s.bins → AreFirst s rows →
+    length (sources young rows) ≤ (s.levels + 1) * s.bins
+sources_few s young rows few_young are =
+    let rows_few = few_rows s.bins rows (λ k below. (are.each k below).few) in
+    let product = mul-le-mul_right s.bins are.few in
     let next : (s.levels + 1) * s.bins ≡ s.levels * s.bins + s.bins = ap (λ n. n * s.bins) (add-one s.levels) ∙ suc-mul s.levels s.bins in
     omega (arith, sources_length young rows, rows_few, product, few_young)
 
@@ -336,15 +336,15 @@ narrow_rows s valid level (row ∷ rows) each =
     (omega (arith, there.0), subst (λ l. All (λ bin. width_of bin ≤ span s l) (get_or rows k [])) next there.1)))))
 
 -- so they can be added up
-pub widths_small : (s : Numbers) (valid : IsValid s) (young : List Bin) (rows : List (List BinAt)) → length young ≤ s.bins → length rows ≤ s.levels →
-    All (λ (bin : Bin). bin.to - bin.from ≤ span s 0) young → ((k : ℕ) → k < length rows → IsRow s (k + 1) (get_or rows k [])) → sum (widths_of young rows) < 2 ^ 63
-widths_small s valid young rows few_young few narrow are =
+pub widths_small : (s : Numbers) (valid : IsValid s) (young : List Bin) (rows : List (List BinAt)) → length young ≤ s.bins → AreFirst s rows →
+    All (λ (bin : Bin). bin.to - bin.from ≤ span s 0) young → sum (widths_of young rows) < 2 ^ 63
+widths_small s valid young rows few_young are narrow =
     let all : AreNarrow (sources young rows) = narrow_append (map of_young young) (map of_bin (placed 1 rows)) (narrow_young s valid young narrow)
     (narrow_rows s valid 1 rows (λ k below. (let next : k + 1 ≡ 1 + k = omega arith in
-    (omega (arith, below, few), subst (λ l. All (λ bin. width_of bin ≤ span s l) (get_or rows k [])) next (are k below).widths)))) in
+    (omega (arith, below, are.few), subst (λ l. All (λ bin. width_of bin ≤ span s l) (get_or rows k [])) next (are.each k below).widths)))) in
     let most = sum_few (2 ^ 47) (map width_in (sources young rows)) all in
     let count = length-map (sources young rows) width_in in
-    let number = mul-le-mul_right (2 ^ 47) (let few_all : length (map width_in (sources young rows)) ≤ 144 = omega (arith, count, sources_few s young rows few_young few are, sources_number s valid) in
+    let number = mul-le-mul_right (2 ^ 47) (let few_all : length (map width_in (sources young rows)) ≤ 144 = omega (arith, count, sources_few s young rows few_young are, sources_number s valid) in
     few_all) in
     let same = ap sum (sources_widths young rows) in
     omega (arith, most, number, same)

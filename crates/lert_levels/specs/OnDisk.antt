@@ -1,5 +1,5 @@
 -- The levels on disk.
-use Rattle.std.specs.Prelude.{◌≡◌, ℕ, ◌+◌, ◌*◌, ◌<◌, ◌≤◌, List, map, All}
+use Rattle.std.specs.Prelude.{◌≡◌, ℕ, ◌+◌, ◌*◌, ◌≤◌, List}
 use Rattle.lert_frames.specs.declared.reader.FrameReader.{FrameReader}
 use Rattle.lert_spec.specs.declared.numbers.Numbers.{Numbers}
 use Rattle.lert_levels.specs.declared.rows.bin_at.BinAt.{BinAt}
@@ -10,12 +10,9 @@ pub record OnDisk : Type 0 where
   pub settings : Numbers
   pub rows : List (List BinAt)
 
--- what stands between two calls: rows, each with room for a bin more than a level has, their directory, and what reads the
--- frames, of the same settings
-pub record AreKept {V : Type 0} (items : V → List BinAt) (capacity : V → ℕ) (s : Numbers) (rows : List V) (directory : List ℕ) (room : ℕ) (reader : FrameReader) : Type 0
-  where
-    pub are : AreRows s (map items rows)
-    pub roomy : All (λ row. s.bins < capacity row) rows
-    pub directory_is : directory ≡ directory_text (map items rows)
-    pub directory_room : s.levels * (1 + s.bins) ≤ room
-    pub read_by : reader.settings ≡ s
+-- what stands between two calls: rows, their directory, and what reads the frames, of the same settings
+pub record AreKept (s : Numbers) (rows : List (List BinAt)) (directory : List ℕ) (room : ℕ) (reader : FrameReader) : Type 0 where
+  pub are : AreRows s rows
+  pub directory_is : directory ≡ directory_text rows
+  pub directory_room : s.levels * (1 + s.bins) ≤ room
+  pub read_by : reader.settings ≡ s

@@ -11,7 +11,7 @@ use Rattle.lert_levels.specs.declared.landing.landing.Landing.{Landing}
 use Rattle.lert_merge.specs.declared.order.streams.Streams.{Ghosts as StreamsOf}
 use Rattle.lert_levels.specs.declared.rows.bin_at.BinAt.{BinAt}
 use Rattle.lert_levels.specs.rows.Landing.{AreApart, AreLanded, landing_frame}
-use Rattle.lert_levels.specs.rows.Rows.{IsRow}
+use Rattle.lert_levels.specs.rows.Rows.{AreFirst}
 use Rattle.lert_spec.specs.Edges.{span}
 use Rattle.lert_spec.specs.Bins.{Bin}
 use Rattle.lert_spec.specs.declared.numbers.Numbers.{Numbers}
@@ -36,8 +36,7 @@ pub record AreStarted (s : Numbers) (m : ℕ) (rows : List (List BinAt)) (landin
 pub record AreReached (s : Numbers) (m : ℕ) (young : List Bin) (rows : List (List BinAt)) : Type 0 where
   pub some : 1 ≤ length young
   pub narrow : All (λ bin. bin.to - bin.from ≤ span s 0) young
-  pub few : length rows ≤ s.levels
-  pub are : (k : ℕ) → k < length rows → IsRow s (k + 1) (slice_index_or rows k [])
+  pub are : AreFirst s rows
   pub parts : HaveParts s m rows
   pub fits : (k : ℕ) → k < length rows → sum (in_part 0 (widths_of young rows) (part_at s m (length young) rows k)) ≤ span s (k + 1)
   pub apart : (from to : ℕ) → InNamed s rows from to → AreApart s m rows from to

@@ -21,7 +21,7 @@ ghost use Rattle.lert_levels.specs.rows.Rows.{row_of, IsAt, AreRows, HoldsBins, 
 
 use crate::merger::{Reading, Writing, count_rows, merge_rows};
 use crate::rows::{
-    BinAt, FlushFault, Zero, check_rows, empty_rows, lay_directory, move_rows, restore_rows,
+    BinAt, FlushFault, Row, Zero, check_rows, empty_rows, lay_directory, move_rows, restore_rows,
     sync_frames,
 };
 use lert_base::{CountTable, Settings, Totals};
@@ -38,7 +38,7 @@ use std::marker::Model;
 #[derive(Drop)]
 pub struct Levels<T: CountTable> {
     settings: Settings,
-    rows: Vec<Vec<BinAt>>,
+    rows: Vec<Row>,
     directory: Vec<u8>,
     // For checks.
     reader: FrameReader,
@@ -48,15 +48,15 @@ pub struct Levels<T: CountTable> {
 }
 
 impl<T: CountTable> Model for Levels<T> {
-    ghost use Rattle.std.specs.Prelude.{◌≡◌, ◌+◌, ◌*◌, ◌≤◌, IsSomeAnd, map, vec_capacity};
+    ghost use Rattle.std.specs.Prelude.{◌≡◌, ◌+◌, ◌*◌, ◌≤◌, IsSomeAnd, vec_capacity};
     ghost use Rattle.lert_levels.specs.OnDisk.{OnDisk, AreKept};
     ghost use Rattle.lert_levels.specs.Ready.{CanLand};
 
     ghost Value = { OnDisk };
 
-    ghost view = { λ l. record { settings = l.settings; rows = map (λ row. row.items) l.rows.items } };
+    ghost view = { λ l. record { settings = l.settings; rows = l.rows.items } };
 
-    ghost invariant = { λ l. AreKept (λ row. row.items) (λ row. vec_capacity row) l.settings l.rows.items l.directory.items (vec_capacity l.directory) l.reader
+    ghost invariant = { λ l. AreKept l.settings l.rows.items l.directory.items (vec_capacity l.directory) l.reader
         × IsSomeAnd l.reading (λ reading. (reading.room ≡ l.settings) × ((l.settings.levels + 1) * l.settings.bins ≤ reading.ahead.room))
         × CanLand l.settings l.writing.landings.items (vec_capacity l.writing.parts) };
 }
@@ -69,7 +69,7 @@ impl<T: CountTable> Levels<T> {
         let numbers = settings.numbers();
         let bins = numbers.bins as usize;
         let levels = numbers.levels as usize;
-        let rows = empty_rows(alloc, levels, bins + 1)?;
+        let rows = empty_rows(alloc, levels)?;
         let mut directory = Vec::with_capacity(alloc, levels * (1 + bins))?;
         lay_directory(&rows, &mut directory);
         Ok(Levels {
@@ -104,7 +104,7 @@ impl<T: CountTable> Levels<T> {
         requires last { level ≤ self.now.settings.levels }
         ensures { result.now ≡ row_of self.now.rows level }
     {
-        &self.rows[level as usize - 1]
+        self.rows[level as usize - 1].bins()
     }
 
     /// Flushes at position `m`: merges level 0 and the levels on disk that the flush reaches, writes the new bin of each level

@@ -9,7 +9,7 @@ ghost use Rattle.lert_levels.specs.landing.Landings.{home, AreLandings, AreLandi
 ghost use Rattle.lert_merge.specs.order.Ordering.{Breaks};
 ghost use Rattle.lert_levels.specs.rows.Landing.{KeepsRest, AreApart};
 ghost use Rattle.lert_levels.specs.rows.Loading.{OneBreaks};
-ghost use Rattle.lert_levels.specs.rows.Rows.{IsRow};
+ghost use Rattle.lert_levels.specs.rows.Rows.{AreFirst};
 ghost use Rattle.lert_spec.specs.Edges.{capacity};
 ghost use Rattle.lert_spec.specs.declared.piece.Piece.{Piece};
 ghost use Rattle.lert_levels.specs.Merged.{IsMade, IsFrames};
@@ -20,7 +20,7 @@ use crate::flush::{Bins, merge_all, merge_bins};
 use crate::landing::{Landing, end_all};
 use crate::parts::lay_parts;
 use crate::reading::read_rows;
-use crate::rows::{BinAt, FlushFault, Zero, arrival};
+use crate::rows::{FlushFault, Row, Zero, arrival};
 use crate::secure::secure_rows;
 use crate::streams::{BinStreams, StreamRoom};
 use lert_base::{CountTable, Settings, Totals};
@@ -44,20 +44,19 @@ fn landings_of(alloc: Global, settings: &Settings) -> Result<Vec<Landing>, OutOf
 
 /// Begins for each of the rows the landing of its level at the frame in which the new bin of the flush at position `m` is to
 /// stand. It writes nothing.
-pub fn start_landings(settings: &Settings, m: u64, rows: &[Vec<BinAt>], landings: &mut [Landing])
+pub fn start_landings(settings: &Settings, m: u64, rows: &[Row], landings: &mut [Landing])
     requires first { 1 ≤ m }
     requires last { m ≤ capacity settings.now }
-    requires few { length rows.now ≤ settings.now.levels }
-    requires rows { (k : ℕ) → k < length rows.now → IsRow settings.now (k + 1) (slice_index_or (map (λ row. row.items) rows.now) k []) }
+    requires rows { AreFirst settings.now rows.now }
     requires landings { AreLandings settings.now landings.old }
     requires enough { length rows.now ≤ length landings.old }
-    ensures started { AreStarted settings.now m (map (λ row. row.items) rows.now) landings.new }
+    ensures started { AreStarted settings.now m rows.now landings.new }
     ensures landings { AreLandings settings.now landings.new }
     ensures len { length landings.new ≡ length landings.old }
 {
     let _valid = settings.numbers();
     for (lower, row) in rows.iter().enumerate() {
-        let bin = arrival(settings, m, lower as u32 + 1, row);
+        let bin = arrival(settings, m, lower as u32 + 1, row.bins());
         landings[lower].start(u32::from(bin.frame));
     }
 }
@@ -121,14 +120,13 @@ fn most_streams(settings: &Settings) -> usize
 // The bins of level 0 and of these rows in one order, of which nothing was read.
 fn begin_order<'a, T: CountTable, B: Bay>(
     zero: &'a Zero<T>,
-    rows: &[Vec<BinAt>],
+    rows: &[Row],
     reading: Reading<T>,
 ) -> Order<B, BinStreams<'a, T>>
     requires same { reading.room ≡ zero.now.settings }
     requires ahead { (zero.now.settings.levels + 1) * zero.now.settings.bins ≤ reading.ahead.room }
-    requires few { length rows.now ≤ zero.now.settings.levels }
-    requires rows { (k : ℕ) → k < length rows.now → IsRow zero.now.settings (k + 1) (slice_index_or (map (λ row. row.items) rows.now) k []) }
-    ensures begun { AreBegun zero.now.settings (sources zero.now.bins (map (λ row. row.items) rows.now)) result.streams.bins }
+    requires rows { AreFirst zero.now.settings rows.now }
+    ensures begun { AreBegun zero.now.settings (sources zero.now.bins rows.now) result.streams.bins }
     ensures settings { result.streams.settings ≡ zero.now.settings }
     ensures counts { result.ahead.counts ≡ [] }
     ensures last { result.last ≡ None }
@@ -180,7 +178,7 @@ impl Writing {
 pub fn merge_rows<T: CountTable, B: Bay, O: Totals>(
     zero: &Zero<T>,
     m: u64,
-    rows: &[Vec<BinAt>],
+    rows: &[Row],
     mut reading: Reading<T>,
     landings: &mut [Landing],
     parts: &mut Vec<Option<usize>>,
@@ -194,19 +192,19 @@ pub fn merge_rows<T: CountTable, B: Bay, O: Totals>(
     requires parts { (zero.now.settings.levels + 1) * zero.now.settings.bins ≤ vec_capacity parts.old }
     requires first { 1 ≤ m }
     requires last { m ≤ capacity zero.now.settings }
-    requires reached { AreReached zero.now.settings m zero.now.bins (map (λ row. row.items) rows.now) }
+    requires reached { AreReached zero.now.settings m zero.now.bins rows.now }
     requires none_taken { O.took totals.old [] }
     ensures room { result.0.room ≡ zero.now.settings }
     ensures ahead { result.0.ahead.room ≡ reading.ahead.room }
     ensures landings { AreLandings zero.now.settings landings.new }
     ensures count { length landings.new ≡ length landings.old }
     ensures parts { vec_capacity parts.old ≤ vec_capacity parts.new }
-    ensures made { OnOk result.1 (HasMade zero.now.settings m zero.now.bins (map (λ row. row.items) rows.now) (O.took totals.new) (B.files bay.old) (B.files bay.new)) }
+    ensures made { OnOk result.1 (HasMade zero.now.settings m zero.now.bins rows.now (O.took totals.new) (B.files bay.old) (B.files bay.new)) }
     ensures malformed { IfTold (B.files bay.old) (λ seen. (at : ℕ) → IsErrOf result.1 (FlushFault.Malformed at) →
-        OneBreaks zero.now.settings (map (λ row. row.items) rows.now) (seen FRAMES) at) }
+        OneBreaks zero.now.settings rows.now (seen FRAMES) at) }
     ensures malformed_after { IfTold (B.files bay.new) (λ after. (at : ℕ) → IsErrOf result.1 (FlushFault.Malformed at) →
-        OneBreaks zero.now.settings (map (λ row. row.items) rows.now) (after FRAMES) at) }
-    ensures rest { KeepsRest B.Bay (AreApart zero.now.settings m (map (λ row. row.items) rows.now)) bay.old bay.new }
+        OneBreaks zero.now.settings rows.now (after FRAMES) at) }
+    ensures rest { KeepsRest B.Bay (AreApart zero.now.settings m rows.now) bay.old bay.new }
     ensures kept { KeepsBay B.Bay bay.old bay.new (IsErrOf result.1 FlushFault.Failed) }
 {
     if let Err(fault) = secure_rows(zero.settings(), rows, &mut reading.room, bay) {
@@ -219,7 +217,7 @@ pub fn merge_rows<T: CountTable, B: Bay, O: Totals>(
 fn merge_secure<T: CountTable, B: Bay, O: Totals>(
     zero: &Zero<T>,
     m: u64,
-    rows: &[Vec<BinAt>],
+    rows: &[Row],
     reading: Reading<T>,
     landings: &mut [Landing],
     parts: &mut Vec<Option<usize>>,
@@ -233,20 +231,20 @@ fn merge_secure<T: CountTable, B: Bay, O: Totals>(
     requires parts { (zero.now.settings.levels + 1) * zero.now.settings.bins ≤ vec_capacity parts.old }
     requires first { 1 ≤ m }
     requires last { m ≤ capacity zero.now.settings }
-    requires reached { AreReached zero.now.settings m zero.now.bins (map (λ row. row.items) rows.now) }
-    requires secure { IfTold (B.files bay.old) (λ seen. AreSecure zero.now.settings (seen FRAMES) 1 (map (λ row. row.items) rows.now)) }
+    requires reached { AreReached zero.now.settings m zero.now.bins rows.now }
+    requires secure { IfTold (B.files bay.old) (λ seen. AreSecure zero.now.settings (seen FRAMES) 1 rows.now) }
     requires none_taken { O.took totals.old [] }
     ensures room { result.0.room ≡ zero.now.settings }
     ensures ahead { result.0.ahead.room ≡ reading.ahead.room }
     ensures landings { AreLandings zero.now.settings landings.new }
     ensures count { length landings.new ≡ length landings.old }
     ensures parts { vec_capacity parts.old ≤ vec_capacity parts.new }
-    ensures made { OnOk result.1 (HasMade zero.now.settings m zero.now.bins (map (λ row. row.items) rows.now) (O.took totals.new) (B.files bay.old) (B.files bay.new)) }
+    ensures made { OnOk result.1 (HasMade zero.now.settings m zero.now.bins rows.now (O.took totals.new) (B.files bay.old) (B.files bay.new)) }
     ensures malformed { IfTold (B.files bay.old) (λ seen. (at : ℕ) → IsErrOf result.1 (FlushFault.Malformed at) →
-        OneBreaks zero.now.settings (map (λ row. row.items) rows.now) (seen FRAMES) at) }
+        OneBreaks zero.now.settings rows.now (seen FRAMES) at) }
     ensures malformed_after { IfTold (B.files bay.new) (λ after. (at : ℕ) → IsErrOf result.1 (FlushFault.Malformed at) →
-        OneBreaks zero.now.settings (map (λ row. row.items) rows.now) (after FRAMES) at) }
-    ensures rest { KeepsRest B.Bay (AreApart zero.now.settings m (map (λ row. row.items) rows.now)) bay.old bay.new }
+        OneBreaks zero.now.settings rows.now (after FRAMES) at) }
+    ensures rest { KeepsRest B.Bay (AreApart zero.now.settings m rows.now) bay.old bay.new }
     ensures kept { KeepsBay B.Bay bay.old bay.new (IsErrOf result.1 FlushFault.Failed) }
 {
     let settings = zero.settings();
@@ -262,21 +260,20 @@ fn merge_secure<T: CountTable, B: Bay, O: Totals>(
 /// Merges level 0 and the rows, and writes nothing. `totals` takes each tail with its sum. It takes no memory.
 pub fn count_rows<T: CountTable, B: Bay, O: Totals>(
     zero: &Zero<T>,
-    rows: &[Vec<BinAt>],
+    rows: &[Row],
     reading: Reading<T>,
     totals: &mut O,
     bay: &mut B,
 ) -> (Reading<T>, Result<(), FlushFault>)
     requires same { reading.room ≡ zero.now.settings }
     requires ahead { (zero.now.settings.levels + 1) * zero.now.settings.bins ≤ reading.ahead.room }
-    requires few { length rows.now ≤ zero.now.settings.levels }
-    requires rows { (k : ℕ) → k < length rows.now → IsRow zero.now.settings (k + 1) (slice_index_or (map (λ row. row.items) rows.now) k []) }
+    requires rows { AreFirst zero.now.settings rows.now }
     requires none_taken { O.took totals.old [] }
     ensures room { result.0.room ≡ zero.now.settings }
     ensures ahead { result.0.ahead.room ≡ reading.ahead.room }
-    ensures made { OnOk result.1 (IsMade zero.now.settings zero.now.bins (map (λ row. row.items) rows.now) [] (O.took totals.new) (IsFrames (B.files bay.old)) []) }
+    ensures made { OnOk result.1 (IsMade zero.now.settings zero.now.bins rows.now [] (O.took totals.new) (IsFrames (B.files bay.old)) []) }
     ensures malformed { IfTold (B.files bay.old) (λ seen. (at : ℕ) → IsErrOf result.1 (FlushFault.Malformed at) →
-        OneBreaks zero.now.settings (map (λ row. row.items) rows.now) (seen FRAMES) at) }
+        OneBreaks zero.now.settings rows.now (seen FRAMES) at) }
     ensures only_reads { OnlyReads B.Bay bay.old bay.new (IsErrOf result.1 FlushFault.Failed) }
 {
     let settings = zero.settings();

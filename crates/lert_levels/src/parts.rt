@@ -3,9 +3,9 @@
 ghost use Rattle.std.specs.Prelude.{◌≡◌, ℕ, ◌+◌, ◌*◌, ◌-◌, ◌<◌, ◌≤◌, ◌++◌, [], Some, None, length, map, replicate, IfSome, slice_index_or, vec_capacity};
 ghost use Rattle.lert_spec.specs.Edges.{capacity};
 ghost use Rattle.lert_levels.specs.Parts.{newest_stream, set_two, streams_to, HaveParts, ArePartsOf};
-ghost use Rattle.lert_levels.specs.rows.Rows.{IsRow};
+ghost use Rattle.lert_levels.specs.rows.Rows.{AreFirst};
 
-use crate::rows::{BinAt, begins};
+use crate::rows::{Row, begins};
 use lert_base::Settings;
 
 /// Puts down for each stream of the flush at position `m` which new bin its pieces go to, that of level 1 being number 0: the
@@ -15,19 +15,18 @@ pub fn lay_parts(
     settings: &Settings,
     m: u64,
     young: usize,
-    rows: &[Vec<BinAt>],
+    rows: &[Row],
     parts: &mut Vec<Option<usize>>,
 )
     requires first { 1 ≤ m }
     requires last { m ≤ capacity settings.now }
     requires some { 1 ≤ young }
     requires few_young { young ≤ settings.now.bins }
-    requires few { length rows.now ≤ settings.now.levels }
-    requires rows { (k : ℕ) → k < length rows.now → IsRow settings.now (k + 1) (slice_index_or (map (λ row. row.items) rows.now) k []) }
-    requires parts { HaveParts settings.now m (map (λ row. row.items) rows.now) }
+    requires rows { AreFirst settings.now rows.now }
+    requires parts { HaveParts settings.now m rows.now }
     requires room { (settings.now.levels + 1) * settings.now.bins ≤ vec_capacity parts.old }
-    ensures parts { ArePartsOf settings.now m young (map (λ row. row.items) rows.now)
-        (streams_to young (map (λ row. row.items) rows.now) (length rows.now)) (length rows.now) parts.new.items }
+    ensures parts { ArePartsOf settings.now m young rows.now
+        (streams_to young rows.now (length rows.now)) (length rows.now) parts.new.items }
     ensures room { vec_capacity parts.old ≤ vec_capacity parts.new }
 {
     let _valid = settings.numbers();
@@ -36,7 +35,7 @@ pub fn lay_parts(
     let mut oldest = 0;
     for (lower, row) in rows.iter().enumerate() {
         let begun = parts.len();
-        add_streams(parts, row.len());
+        add_streams(parts, row.bins().len());
         let newest = newest_of(settings, m, lower as u32 + 1, parts.len());
         set_part(parts, lower, oldest, newest);
         oldest = begun;

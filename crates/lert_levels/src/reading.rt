@@ -1,30 +1,25 @@
 //! The streams of a flush: level 0 and some of the levels on disk.
 
 ghost use Rattle.std.specs.Prelude.{◌≡◌, ℕ, ◌+◌, ◌*◌, ◌<◌, ◌≤◌, ◌++◌, List, [], ◌∷◌, length, map, slice_index_or};
-ghost use Rattle.lert_levels.specs.rows.Rows.{IsRow};
+ghost use Rattle.lert_levels.specs.rows.Rows.{IsRow, AreFirst};
 ghost use Rattle.lert_levels.specs.Sources.{Source, of_bin, placed, placed_at, AreBegun};
 
-use crate::rows::BinAt;
+use crate::rows::{BinAt, Row};
 use crate::streams::BinStreams;
 use lert_base::{CountTable, Settings};
 
 /// Begins the frames of the rows' bins behind the other streams, from level 1 on, each level's oldest first. It reads nothing.
-pub fn read_rows<T: CountTable>(
-    settings: &Settings,
-    rows: &[Vec<BinAt>],
-    streams: &mut BinStreams<T>,
-)
+pub fn read_rows<T: CountTable>(settings: &Settings, rows: &[Row], streams: &mut BinStreams<T>)
     requires same { streams.old.settings ≡ settings.now }
-    requires few { length rows.now ≤ settings.now.levels }
-    requires rows { (k : ℕ) → k < length rows.now → IsRow settings.now (k + 1) (slice_index_or (map (λ row. row.items) rows.now) k []) }
+    requires rows { AreFirst settings.now rows.now }
     requires spare { settings.now.bins * settings.now.levels ≤ streams.old.spare }
     ensures begun { (before : List Source) → AreBegun settings.now before streams.old.bins →
-        AreBegun settings.now (before ++ map of_bin (placed 1 (map (λ row. row.items) rows.now))) streams.new.bins }
+        AreBegun settings.now (before ++ map of_bin (placed 1 rows.now)) streams.new.bins }
     ensures settings { streams.new.settings ≡ settings.now }
 {
     let _valid = settings.numbers();
     for (lower, row) in rows.iter().enumerate() {
-        read_row(streams, lower as u32 + 1, row);
+        read_row(streams, lower as u32 + 1, row.bins());
     }
 }
 

@@ -1,14 +1,14 @@
 //! Frames that are made sure of before a flush writes anything.
 
-ghost use Rattle.std.specs.Prelude.{◌≡◌, ℕ, ◌+◌, ◌<◌, ◌≤◌, [], length, map, OnOk, IsErrOf, slice_index_or};
+ghost use Rattle.std.specs.Prelude.{◌≡◌, ℕ, ◌≤◌, length, map, OnOk, IsErrOf};
 ghost use Rattle.lert_bay.specs.declared.bay.TheConstants.{FRAMES};
 ghost use Rattle.lert_bay.specs.Files.{IfTold};
 ghost use Rattle.lert_bay.specs.Kept.{OnlyReads};
 ghost use Rattle.lert_levels.specs.rows.Loading.{OneBreaks, RowBreaks};
-ghost use Rattle.lert_levels.specs.rows.Rows.{IsRow};
+ghost use Rattle.lert_levels.specs.rows.Rows.{IsRow, AreFirst};
 ghost use Rattle.lert_levels.specs.Sources.{of_bin, placed_at, AllOf, IsSecure, AreSecure};
 
-use crate::rows::{BinAt, FlushFault};
+use crate::rows::{BinAt, FlushFault, Row};
 use crate::streams::StreamRoom;
 use lert_base::{CountTable, PieceFault, Settings};
 use lert_bay::{Bay, FRAMES};
@@ -17,16 +17,15 @@ use lert_bay::{Bay, FRAMES};
 /// cut at the file's end is found while nothing is written. It changes no file and takes no memory.
 pub fn secure_rows<T: CountTable, B: Bay>(
     settings: &Settings,
-    rows: &[Vec<BinAt>],
+    rows: &[Row],
     room: &mut StreamRoom<T>,
     bay: &mut B,
 ) -> Result<(), FlushFault>
     requires same { room.old ≡ settings.now }
-    requires few { length rows.now ≤ settings.now.levels }
-    requires rows { (k : ℕ) → k < length rows.now → IsRow settings.now (k + 1) (slice_index_or (map (λ row. row.items) rows.now) k []) }
-    ensures secure { IfTold (B.files bay.old) (λ seen. OnOk result (AreSecure settings.now (seen FRAMES) 1 (map (λ row. row.items) rows.now))) }
+    requires rows { AreFirst settings.now rows.now }
+    ensures secure { IfTold (B.files bay.old) (λ seen. OnOk result (AreSecure settings.now (seen FRAMES) 1 rows.now)) }
     ensures malformed { IfTold (B.files bay.old) (λ seen. (at : ℕ) → IsErrOf result (FlushFault.Malformed at) →
-        OneBreaks settings.now (map (λ row. row.items) rows.now) (seen FRAMES) at) }
+        OneBreaks settings.now rows.now (seen FRAMES) at) }
     ensures room { room.new ≡ settings.now }
     ensures only_reads { OnlyReads B.Bay bay.old bay.new (IsErrOf result FlushFault.Failed) }
 {
@@ -38,23 +37,22 @@ pub fn secure_rows<T: CountTable, B: Bay>(
 // The same for a file of at least so many bytes.
 fn secure_levels<T: CountTable, B: Bay>(
     settings: &Settings,
-    rows: &[Vec<BinAt>],
+    rows: &[Row],
     room: &mut StreamRoom<T>,
     len: u64,
     bay: &mut B,
 ) -> Result<(), PieceFault>
     requires same { room.old ≡ settings.now }
-    requires few { length rows.now ≤ settings.now.levels }
-    requires rows { (k : ℕ) → k < length rows.now → IsRow settings.now (k + 1) (slice_index_or (map (λ row. row.items) rows.now) k []) }
-    ensures secure { IfTold (B.files bay.old) (λ seen. len ≤ length (seen FRAMES) → OnOk result (AreSecure settings.now (seen FRAMES) 1 (map (λ row. row.items) rows.now))) }
+    requires rows { AreFirst settings.now rows.now }
+    ensures secure { IfTold (B.files bay.old) (λ seen. len ≤ length (seen FRAMES) → OnOk result (AreSecure settings.now (seen FRAMES) 1 rows.now)) }
     ensures malformed { IfTold (B.files bay.old) (λ seen. (at : ℕ) → IsErrOf result (PieceFault.Malformed at) →
-        OneBreaks settings.now (map (λ row. row.items) rows.now) (seen FRAMES) at) }
+        OneBreaks settings.now rows.now (seen FRAMES) at) }
     ensures room { room.new ≡ settings.now }
     ensures only_reads { OnlyReads B.Bay bay.old bay.new (IsErrOf result PieceFault.Failed) }
 {
     let _valid = settings.numbers();
     for (lower, row) in rows.iter().enumerate() {
-        secure_row(room, lower as u32 + 1, row, len, bay)?;
+        secure_row(room, lower as u32 + 1, row.bins(), len, bay)?;
     }
     Ok(())
 }

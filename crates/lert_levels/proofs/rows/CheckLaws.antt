@@ -140,13 +140,3 @@ pub check_passes : {T : Type 0} (result : Result T FlushFault) (piece : PieceFau
 check_passes (Ok found) piece left none gave malformed = tt
 check_passes (Err fault) PieceFailed left none gave malformed = gave
 check_passes (Err fault) (PieceMalformed spot) left none gave malformed = absurd (none-some spot (sym none ∙ malformed spot refl))
-
--- ---- what a caller sees of the rows
-
-pub lent_rows : {V : Type 0} (items : V → List BinAt) (s : Numbers) (rows lent : List V) → AreRows s (map items rows) → lent ≡ rows → (k : ℕ) → k < length lent →
-    IsRow s (k + 1) (get_or (map items lent) k [])
-lent_rows {V} items s rows lent are lent_is k below =
-    let place : k + 1 - 1 ≡ k = omega arith in
-    subst (λ (rs : List V). IsRow s (k + 1) (get_or (map items rs) k [])) (sym lent_is)
-    (subst (λ j. IsRow s (k + 1) (get_or (map items rows) j [])) place
-    (are.each (k + 1) (omega arith) (omega (arith, are.levels, length-map rows items, ap length lent_is))))

@@ -1,6 +1,6 @@
 -- How long a directory is.
 use Rattle.std.proofs.Common.{ℕ, ◌≡◌, ◌+◌, ◌<◌, ◌≤◌, List, ◌∷◌, length, map, take, get_or, ap, ap₂, sym, ◌∙◌, arith, flat_map, [], ◌++◌, append-nil}
-use Rattle.std.proofs.lemmas.List.{take-map, get_or-map, length-map, take_more, map-append, append_assoc, length-append, length-take-le}
+use Rattle.std.proofs.lemmas.List.{length-map, take_more, map-append, append_assoc, length-append, length-take-le}
 use Rattle.std.proofs.lemmas.Grind.{flat_map-append}
 use Rattle.std.proofs.lemmas.List.Concat.{length-flat_map}
 use Rattle.std.proofs.lemmas.List.Sums.{sum_by_more_le}
@@ -11,17 +11,14 @@ abbrev pub row_text : List BinAt → List ℕ
 row_text row = length row ∷ map (λ bin. bin.frame) row
 
 -- the part of the next row finds room
-pub room_left : {V : Type 0} (items : V → List BinAt) (rows : List V) (i : ℕ) (row : V) → i < length rows → row ≡ get_or rows i row →
-    length (directory_text (map items (take i rows))) + 1 + length (items row) ≤ length (directory_text (map items rows))
-room_left items rows i row below is =
-    let lists = map items rows in
-    let whole = length-flat_map row_text lists in
-    let front = length-flat_map row_text (take i lists) in
-    let front_is = ap (λ rs. length (flat_map row_text rs)) (take-map items i rows) in
-    let here : get_or lists i (items row) ≡ items row = get_or-map items rows i row (items row) below ∙ ap items (sym is) in
-    let part = ap (λ r. length (row_text r)) here in
-    let long = length-map (items row) (λ (bin : BinAt). bin.frame) in
-    omega (arith, sum_by_more_le (λ (r : List BinAt). length (row_text r)) lists i (items row) (omega (arith, length-map rows items)))
+pub room_left : (rows : List (List BinAt)) (i : ℕ) (row : List BinAt) → i < length rows → row ≡ get_or rows i row →
+    length (directory_text (take i rows)) + 1 + length row ≤ length (directory_text rows)
+room_left rows i row below is =
+    let whole = length-flat_map row_text rows in
+    let front = length-flat_map row_text (take i rows) in
+    let part = ap (λ r. length (row_text r)) is in
+    let long = length-map row (λ (bin : BinAt). bin.frame) in
+    omega (arith, sum_by_more_le (λ (r : List BinAt). length (row_text r)) rows i row below)
 
 -- the frame of one bin more of a row
 pub frame_more : (old now new : List ℕ) (row : List BinAt) (i : ℕ) (d : BinAt) → i < length row →
@@ -43,14 +40,12 @@ frame_room old now row i room below is enough =
     omega (arith, ap length is, length-append old (length row ∷ frames), length-map (take i row) (λ (bin : BinAt). bin.frame), length-take-le i row (omega (arith, below)))
 
 -- the part of one row more
-pub part_more : {V : Type 0} (items : V → List BinAt) (rows : List V) (i : ℕ) (row : V) (lent : List BinAt) (now new : List ℕ) → i < length rows →
-    row ≡ get_or rows i row → lent ≡ items row → now ≡ directory_text (map items (take i rows)) → new ≡ now ++ row_text lent →
-    new ≡ directory_text (map items (take (i + 1) rows))
-part_more items rows i row lent now new below here lent_is now_is is =
+pub part_more : (rows : List (List BinAt)) (i : ℕ) (row lent : List BinAt) (now new : List ℕ) → i < length rows → row ≡ get_or rows i row → lent ≡ row →
+    now ≡ directory_text (take i rows) → new ≡ now ++ row_text lent → new ≡ directory_text (take (i + 1) rows)
+part_more rows i row lent now new below here lent_is now_is is =
     let next = get_or rows i row in
-    let front = map items (take i rows) in
-    let more = ap (map items) (take_more rows i row below) ∙ map-append items (take i rows) (next ∷ []) in
+    let front = take i rows in
     is
-    ∙ ap₂ (λ text bins. text ++ row_text bins) now_is (lent_is ∙ ap items here)
-    ∙ ap (λ text. directory_text front ++ text) (sym (append-nil (row_text (items next))))
-    ∙ sym (ap directory_text more ∙ flat_map-append row_text front (items next ∷ []))
+    ∙ ap₂ (λ text bins. text ++ row_text bins) now_is (lent_is ∙ here)
+    ∙ ap (λ text. directory_text front ++ text) (sym (append-nil (row_text next)))
+    ∙ sym (ap directory_text (take_more rows i row below) ∙ flat_map-append row_text front (next ∷ []))

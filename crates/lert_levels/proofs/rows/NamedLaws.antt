@@ -5,7 +5,7 @@ use Rattle.std.specs.List.{range_with_len}
 use Rattle.std.proofs.lemmas.Bool.{cases_lt, lt-ltb, le-ltb}
 use Rattle.std.proofs.Math.Seq.{drop-cons, drop-append-add, get_or-append_seam}
 use Rattle.std.proofs.lemmas.Grind.{flat_map-append}
-use Rattle.std.proofs.lemmas.List.{append_cancel_left, length-map, take_at, take_more, take-append-drop, get_or-set_same, get_or-set_other}
+use Rattle.std.proofs.lemmas.List.{append_cancel_left, length-map, take_at, take_more, take-append-drop, get_or-set_same, get_or-set_other, get_or_default}
 use Rattle.std.proofs.lemmas.Nat.{mul-le}
 use Rattle.std.proofs.Math.Nat.{mul-le-mul_right, suc-mul, mul_comm, mul-div-le, div-add-mod, mod-lt}
 use Rattle.lert_spec.specs.declared.numbers.Numbers.{Numbers}
@@ -243,21 +243,13 @@ row_restored s n text named is i at within at_is row frames ranges_are frames_ar
     (frames_are ∙ lent ∙ frames_there text named is.text_is i at (omega (arith, is.at.levels)) at_is)
 
 -- one row more
-pub restored_more : {V : Type 0} (items : V → List BinAt) (named : List (List BinAt)) (rows : List V) (i : ℕ) (new : V) → i < length rows →
-    ((k : ℕ) (d : V) → k < i → items (get_or rows k d) ≡ get_or named k []) → items new ≡ get_or named i [] →
-    (k : ℕ) (d : V) → k < i + 1 → items (get_or (set rows i new) k d) ≡ get_or named k []
-restored_more items named rows i new within done is k d below =
+pub restored_more : (named rows : List (List BinAt)) (i : ℕ) (new : List BinAt) → i < length rows → i < length named →
+    ((k : ℕ) (d : List BinAt) → k < i → get_or rows k d ≡ get_or named k d) → new ≡ get_or named i [] →
+    (k : ℕ) (d : List BinAt) → k < i + 1 → get_or (set rows i new) k d ≡ get_or named k d
+restored_more named rows i new within there done is k d below =
     elim (cases_lt k i) [
-      | inl earlier ↦ ap items (get_or-set_other rows i k new d (λ same. omega arith)) ∙ done k d earlier
+      | inl earlier ↦ get_or-set_other rows i k new d (λ same. omega arith) ∙ done k d earlier
       | inr last ↦ (
           let same : i ≡ k = omega arith in
-          subst (λ (n : ℕ). items (get_or (set rows i new) n d) ≡ get_or named n []) same (ap items (get_or-set_same rows i new d within) ∙ is))
+          subst (λ (n : ℕ). get_or (set rows i new) n d ≡ get_or named n d) same (get_or-set_same rows i new d within ∙ is ∙ get_or_default named i [] d there))
     ]
-
-pub restored_all : {V : Type 0} (items : V → List BinAt) (rows : List V) (named : List (List BinAt)) → length rows ≡ length named →
-    ((k : ℕ) (d : V) → k < length rows → items (get_or rows k d) ≡ get_or named k []) → map items rows ≡ named
-restored_all items [] [] len each = refl
-restored_all items [] (list ∷ named) len each = absurd (omega arith)
-restored_all items (row ∷ rows) [] len each = absurd (omega arith)
-restored_all items (row ∷ rows) (list ∷ named) len each =
-    ap₂ (λ z zs. z ∷ zs) (each 0 row (omega arith)) (restored_all items rows named (omega arith) (λ k d below. each (suc k) d (omega arith)))

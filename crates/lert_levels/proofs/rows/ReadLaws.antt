@@ -1,7 +1,7 @@
 -- The rows of bins as a check reads them, and what its faults say.
-use Rattle.std.proofs.Common.{ℕ, ◌≡◌, ◌<◌, List, [], length, map, get_or, refl, ap, sym, ◌∙◌, subst, Result}
+use Rattle.std.proofs.Common.{ℕ, ◌≡◌, ◌<◌, List, [], length, get_or, refl, ap, sym, ◌∙◌, subst, Result}
 use Rattle.std.specs.Prelude.{Ok, Err, IsErrAnd, OnOk}
-use Rattle.std.proofs.lemmas.List.{get_or-map}
+use Rattle.std.proofs.lemmas.List.{get_or_default}
 use Rattle.lert_base.specs.declared.pieces.PieceFault.{PieceFault}
 use Rattle.lert_base.specs.declared.pieces.PieceFault.TheVariants.{Failed as PieceFailed, Malformed as PieceMalformed}
 use Rattle.lert_frames.specs.Frame.{HoldsFrame, IsBin, frame_pieces}
@@ -17,10 +17,9 @@ use Rattle.lert_levels.specs.rows.Loading.{width_of, Stands, flush_fault}
 pub level_from : (P : Numbers → ℕ → Type 0) (s t : Numbers) (level n : ℕ) → t ≡ s → n ≡ level → P t n → P s level
 level_from P s t level n settings level_is holds = subst (λ (m : Numbers). P m level) settings (subst (λ (m : ℕ). P t m) level_is holds)
 
--- a row behind its place in the list of rows
-pub row_here : {V : Type 0} (items : V → List BinAt) (rows : List V) (i : ℕ) (row : V) (now : List BinAt) → i < length rows → row ≡ get_or rows i row → now ≡ items row →
-    get_or (map items rows) i [] ≡ now
-row_here items rows i row now below is now_is = get_or-map items rows i row [] below ∙ ap items (sym is) ∙ sym now_is
+-- a row at its place in the list of rows, as it is lent
+pub row_here : (rows : List (List BinAt)) (i : ℕ) (row now : List BinAt) → i < length rows → row ≡ get_or rows i row → now ≡ row → get_or rows i [] ≡ now
+row_here rows i row now below is now_is = get_or_default rows i [] row below ∙ sym is ∙ sym now_is
 
 -- what holds of the row at a place holds at the reader's settings, and back
 pub hand_to : (P : Numbers → List BinAt → Type 0) (s t : Numbers) (rows : List (List BinAt)) (i : ℕ) (now : List BinAt) →

@@ -1,9 +1,9 @@
 -- What a flush makes of the rows: the bins of the levels after it, each in a frame of its own.
 use Rattle.std.proofs.Common.{ℕ, ◌≡◌, ◌+◌, ◌-◌, ◌/◌, ◌%◌, ◌<◌, ◌≤◌, zero, suc, Bool, true, false, cond, ltb, eqb, List, [], ◌∷◌, ◌++◌, length, map}
-use Rattle.std.proofs.Common.{get_or, take, drop, Some, ap, ap₂, sym, ◌∙◌, arith, inl, inr, subst, find, unwrap_or, count_by, append-nil, length-append}
+use Rattle.std.proofs.Common.{get_or, take, drop, Some, ap, ap₂, sym, ◌∙◌, arith, inl, inr, subst, find, unwrap_or, count_by, append-nil, length-append, length-take}
 use Rattle.std.specs.List.{All, range_with_len}
 use Rattle.std.proofs.lemmas.Bool.{cases_lt, cases_eq, cases_order, cases_Bool, lt-ltb, le-ltb, eq-eqb, ne_eqb, eqb-true, eqb-false, false≢true}
-use Rattle.std.proofs.lemmas.List.{get_or-take, length-map, map_push, take-map, drop-map, get_or-map, get_or_at, take_at, take-append-drop}
+use Rattle.std.proofs.lemmas.List.{get_or-take, length-map, map_push, take-map, drop-map, get_or-map, get_or_at, take_at, take_all, take-append-drop}
 use Rattle.std.proofs.lemmas.List.Elements.{All-append, All-take, All-drop, All-cons, All-nil}
 use Rattle.std.proofs.lemmas.List.FromFn.{get_or-map-range_with_len, length-map-range_with_len}
 use Rattle.std.proofs.lemmas.List.Sums.{sum_by-cons, sum_by-append, count_by-le-length}
@@ -14,7 +14,7 @@ use Rattle.lert_spec.proofs.LimitLaws.{capacity_to}
 use Rattle.lert_spec.proofs.EdgeLaws.{span_pos}
 use Rattle.lert_levels.specs.declared.rows.bin_at.BinAt.{BinAt}
 use Rattle.lert_levels.specs.rows.Ranges.{Range, ranges}
-use Rattle.lert_levels.specs.rows.Rows.{range_of, row_of, IsAt, IsRow, AreRows, times_named, lowest_free, newest, begins, kept, arrived, moved_row, moved}
+use Rattle.lert_levels.specs.rows.Rows.{range_of, row_of, IsAt, IsRow, AreFirst, AreRows, times_named, lowest_free, newest, begins, kept, arrived, moved_row, moved}
 use Rattle.lert_levels.proofs.rows.RangeLaws.{IsCut, Enters, cuts_are, enters, ranges_still, ranges_few, edge_within}
 
 -- ---- a free frame
@@ -328,3 +328,15 @@ module _ (s : Numbers) (valid : IsValid s) (m : ℕ) (first : 1 ≤ m) (fits : m
 -- a level's row among the first ones
 pub row_among : (rows : List (List BinAt)) (d k : ℕ) → k < d → row_of rows (k + 1) ≡ get_or (take d rows) k []
 row_among rows d k less = ap (λ n. get_or rows n []) (let same : k + 1 - 1 ≡ k = omega arith in same) ∙ sym (get_or-take d rows k [] less)
+
+-- those of the first levels are rows of theirs
+pub first_rows : (s : Numbers) (rows : List (List BinAt)) → AreRows s rows → (d : ℕ) → d ≤ s.levels → AreFirst s (take d rows)
+first_rows s rows are d deep = record {
+  few = omega (arith, length-take d rows, deep);
+  each = λ k below. (let less : k < d = omega (arith, below, length-take d rows) in
+      subst (IsRow s (k + 1)) (row_among rows d k less) (are.each (k + 1) (omega arith) (omega (arith, less, deep))));
+}
+
+-- and so are all
+pub all_rows : (s : Numbers) (rows : List (List BinAt)) → AreRows s rows → AreFirst s rows
+all_rows s rows are = subst (AreFirst s) (take_all s.levels rows (omega (arith, are.levels))) (first_rows s rows are s.levels (omega arith))

@@ -1,5 +1,5 @@
 -- The rows of a cone's levels on disk: for each level its bins, oldest first, and the frame in which each stands.
-use Rattle.std.specs.Prelude.{◌≡◌, ℕ, ◌-◌, ◌<◌, ◌≤◌, ◌%◌, ◌==◌, ◌^◌, Bool, nat_lt, List, [], ◌∷◌, ◌++◌, length, map, flat_map, take, drop, All}
+use Rattle.std.specs.Prelude.{◌≡◌, ℕ, ◌+◌, ◌-◌, ◌<◌, ◌≤◌, ◌%◌, ◌==◌, ◌^◌, Bool, nat_lt, List, [], ◌∷◌, ◌++◌, length, map, flat_map, take, drop, All}
 use Rattle.std.specs.Prelude.{count_by, find, unwrap_or, slice_index_or, slice_range, if◌then◌else◌}
 use Rattle.std.specs.List.{range_with_len}
 use Rattle.lert_frames.specs.Frame.{HoldsFrame}
@@ -39,6 +39,12 @@ pub record IsRow (s : Numbers) (level : ℕ) (row : List BinAt) : Type 0 where
   pub widths : All (λ bin. bin.to - bin.from ≤ span s level) row
   pub ends : All (λ bin. bin.to < 2 ^ 32) row
 
+-- rows of the first levels
+pub record AreFirst (s : Numbers) (rows : List (List BinAt)) : Type 0 where
+  pub few : length rows ≤ s.levels
+  pub each : (k : ℕ) → k < length rows → IsRow s (k + 1) (slice_index_or rows k [])
+
+-- of all levels
 pub record AreRows (s : Numbers) (rows : List (List BinAt)) : Type 0 where
   pub levels : length rows ≡ s.levels
   pub each : (level : ℕ) → 1 ≤ level → level ≤ s.levels → IsRow s level (row_of rows level)

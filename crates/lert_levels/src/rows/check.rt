@@ -1,15 +1,16 @@
 //! A check of the frames in which the bins of levels stand.
 
-ghost use Rattle.std.specs.Prelude.{◌≡◌, ℕ, ◌+◌, ◌<◌, ◌≤◌, ◌^◌, List, [], Some, None, length, map, OnOk, IsErrOf, slice_index_or};
+ghost use Rattle.std.specs.Prelude.{◌≡◌, ℕ, ◌<◌, ◌≤◌, ◌^◌, Some, None, OnOk, IsErrOf};
 ghost use Rattle.lert_bay.specs.declared.bay.TheConstants.{FRAMES};
 ghost use Rattle.lert_bay.specs.Files.{IfTold};
 ghost use Rattle.lert_bay.specs.Kept.{OnlyReads};
 ghost use Rattle.lert_spec.specs.Edges.{span};
 ghost use Rattle.lert_levels.specs.rows.Checked.{pieces_in, RowStands, EachStands, bin_left, row_left, rows_left};
 ghost use Rattle.lert_levels.specs.rows.Loading.{width_of, Stands};
-ghost use Rattle.lert_levels.specs.rows.Rows.{IsRow};
+ghost use Rattle.lert_levels.specs.rows.Rows.{IsRow, AreFirst};
 
 use crate::rows::bin_at::BinAt;
+use crate::rows::row::Row;
 use lert_base::{PieceFault, Settings};
 use lert_bay::Bay;
 use lert_frames::FrameReader;
@@ -18,23 +19,22 @@ use lert_frames::FrameReader;
 /// takes no memory.
 pub fn check_rows<B: Bay>(
     settings: &Settings,
-    rows: &[Vec<BinAt>],
+    rows: &[Row],
     reader: &mut FrameReader,
     bay: &mut B,
 ) -> Result<(), PieceFault>
-    requires few { length rows.now ≤ settings.now.levels }
-    requires rows { (k : ℕ) → k < length rows.now → IsRow settings.now (k + 1) (slice_index_or (map (λ row. row.items) rows.now) k []) }
+    requires rows { AreFirst settings.now rows.now }
     requires reader { reader.old.settings ≡ settings.now }
-    ensures stand { IfTold (B.files bay.old) (λ seen. OnOk result (EachStands settings.now (seen FRAMES) (map (λ row. row.items) rows.now))) }
-    ensures whole { IfTold (B.files bay.old) (λ seen. OnOk result (rows_left settings.now (seen FRAMES) (map (λ row. row.items) rows.now) ≡ None)) }
+    ensures stand { IfTold (B.files bay.old) (λ seen. OnOk result (EachStands settings.now (seen FRAMES) rows.now)) }
+    ensures whole { IfTold (B.files bay.old) (λ seen. OnOk result (rows_left settings.now (seen FRAMES) rows.now ≡ None)) }
     ensures malformed { IfTold (B.files bay.old) (λ seen. (at : ℕ) → IsErrOf result (PieceFault.Malformed at) →
-        rows_left settings.now (seen FRAMES) (map (λ row. row.items) rows.now) ≡ Some at) }
+        rows_left settings.now (seen FRAMES) rows.now ≡ Some at) }
     ensures reader { reader.new.settings ≡ settings.now }
     ensures only_reads { OnlyReads B.Bay bay.old bay.new (IsErrOf result PieceFault.Failed) }
 {
     let _valid = settings.numbers();
     for (lower, row) in rows.iter().enumerate() {
-        check_row(reader, lower as u32 + 1, row, bay)?;
+        check_row(reader, lower as u32 + 1, row.bins(), bay)?;
     }
     Ok(())
 }

@@ -1,20 +1,20 @@
 //! The directory: which frames the bins stand in.
 
-ghost use Rattle.std.specs.Prelude.{◌≡◌, ◌+◌, ◌<◌, ◌≤◌, ◌^◌, length, map, ◌++◌, ◌∷◌, [], All, vec_capacity};
+ghost use Rattle.std.specs.Prelude.{◌≡◌, ◌+◌, ◌<◌, ◌≤◌, ◌^◌, length, map, ◌++◌, ◌∷◌, [], vec_capacity};
 ghost use Rattle.lert_levels.specs.rows.Rows.{directory_text};
 
 use crate::rows::bin_at::BinAt;
+use crate::rows::row::Row;
 
 /// Lays the directory of the rows: for each level the number of its bins, and behind it their frames, oldest first.
-pub fn lay_directory(rows: &[Vec<BinAt>], directory: &mut Vec<u8>)
-    requires few { All (λ row. length row.items < 2 ^ 8) rows.now }
-    requires room { length (directory_text (map (λ row. row.items) rows.now)) ≤ vec_capacity directory.old }
-    ensures text { directory.new.items ≡ directory_text (map (λ row. row.items) rows.now) }
+pub fn lay_directory(rows: &[Row], directory: &mut Vec<u8>)
+    requires { length (directory_text rows.now) ≤ vec_capacity directory.old }
+    ensures text { directory.new.items ≡ directory_text rows.now }
     ensures capacity { vec_capacity directory.old ≤ vec_capacity directory.new }
 {
     directory.clear();
     for row in rows {
-        lay_row(row, directory);
+        lay_row(row.bins(), directory);
     }
 }
 
@@ -31,12 +31,12 @@ fn lay_row(row: &[BinAt], directory: &mut Vec<u8>)
     }
 }
 
-/// Puts an item behind the others, where there is room.
-pub(crate) fn put<X: Copy>(items: &mut Vec<X>, item: X)
-    requires { length items.old.items < vec_capacity items.old }
-    ensures items { items.new.items ≡ items.old.items ++ item ∷ [] }
-    ensures capacity { vec_capacity items.old ≤ vec_capacity items.new }
+// Puts a byte behind the others, where there is room.
+fn put(directory: &mut Vec<u8>, byte: u8)
+    requires { length directory.old.items < vec_capacity directory.old }
+    ensures items { directory.new.items ≡ directory.old.items ++ byte ∷ [] }
+    ensures capacity { vec_capacity directory.old ≤ vec_capacity directory.new }
 {
-    let is_put = items.push(item).is_ok();
+    let is_put = directory.push(byte).is_ok();
     prove!(is_put);
 }

@@ -1,24 +1,22 @@
 //! The rows of a directory.
 
-ghost use Rattle.std.specs.Prelude.{◌≡◌, ℕ, suc, ◌+◌, ◌*◌, ◌<◌, ◌≤◌, ◌^◌, length, map, All, slice_index, slice_range, vec_capacity};
+ghost use Rattle.std.specs.Prelude.{◌≡◌, ℕ, suc, ◌+◌, ◌*◌, ◌<◌, ◌≤◌, ◌^◌, length, map, slice_index, slice_range};
 ghost use Rattle.lert_spec.specs.Edges.{capacity};
 ghost use Rattle.lert_levels.specs.rows.Named.{AreNamed, IsDirectory};
 ghost use Rattle.lert_levels.specs.rows.Ranges.{range_at, ranges};
 ghost use Rattle.lert_levels.specs.rows.Rows.{range_of};
 
 use crate::rows::bin_at::BinAt;
-use crate::rows::directory::put;
+use crate::rows::row::Row;
 use lert_base::Settings;
 
 /// Puts the bins of the levels after `n0` events into the rows, in the frames that the directory names, in place of what they
 /// had. It takes no memory.
-pub fn restore_rows(settings: &Settings, n0: u64, directory: &[u8], rows: &mut [Vec<BinAt>])
+pub fn restore_rows(settings: &Settings, n0: u64, directory: &[u8], rows: &mut [Row])
     requires within { n0 ≤ capacity settings.now }
     requires directory { IsDirectory settings.now n0 directory.now }
     requires levels { length rows.old ≡ settings.now.levels }
-    requires roomy { All (λ row. settings.now.bins < vec_capacity row) rows.old }
-    ensures named { AreNamed settings.now n0 directory.now (map (λ row. row.items) rows.new) }
-    ensures roomy { All (λ row. settings.now.bins < vec_capacity row) rows.new }
+    ensures { AreNamed settings.now n0 directory.now rows.new }
 {
     let _valid = settings.numbers();
     let mut at = 0;
@@ -41,16 +39,14 @@ fn frames_at(directory: &[u8], at: usize) -> &[u8]
 }
 
 // Puts the bins of a level after `n0` events into its row, in these frames, oldest first.
-fn restore_row(settings: &Settings, n0: u64, level: u32, frames: &[u8], row: &mut Vec<BinAt>)
+fn restore_row(settings: &Settings, n0: u64, level: u32, frames: &[u8], row: &mut Row)
     requires within { n0 ≤ capacity settings.now }
     requires from { 1 ≤ level }
     requires to { level ≤ settings.now.levels }
     requires count { length frames.now ≡ length (ranges settings.now n0 level) }
     requires few { length frames.now ≤ settings.now.bins }
-    requires room { length frames.now ≤ vec_capacity row.old }
-    ensures ranges { map range_of row.new.items ≡ ranges settings.now n0 level }
-    ensures frames { map (λ bin. bin.frame) row.new.items ≡ frames.now }
-    ensures capacity { vec_capacity row.old ≤ vec_capacity row.new }
+    ensures ranges { map range_of row.new ≡ ranges settings.now n0 level }
+    ensures frames { map (λ bin. bin.frame) row.new ≡ frames.now }
 {
     let _valid = settings.numbers();
     let low = settings.edge(level, n0);
@@ -59,7 +55,7 @@ fn restore_row(settings: &Settings, n0: u64, level: u32, frames: &[u8], row: &mu
     let mut interval = low / wide;
     row.clear();
     for frame in frames {
-        put(row, bin_in(interval, wide, low, high, *frame));
+        row.put(bin_in(interval, wide, low, high, *frame));
         interval += 1;
     }
 }

@@ -1,12 +1,12 @@
 //! The rows of the levels on disk, and what a flush makes of them.
 
-ghost use Rattle.std.specs.Prelude.{◌≡◌, ◌+◌, ◌<◌, ◌≤◌, ◌^◌, ◌==◌, All, IfOk, [], length, map, find, vec_capacity};
+ghost use Rattle.std.specs.Prelude.{◌≡◌, ◌+◌, ◌<◌, ◌≤◌, ◌^◌, ◌==◌, IfOk, [], length, find, replicate};
 ghost use Rattle.std.specs.List.{range_with_len};
 ghost use Rattle.lert_spec.specs.Edges.{capacity};
-ghost use Rattle.lert_levels.specs.rows.Rows.{times_named, lowest_free, newest, begins, arrived, moved_row, moved};
+ghost use Rattle.lert_levels.specs.rows.Rows.{times_named, lowest_free, newest, begins, arrived, moved_row, moved, AreRows};
 
 use crate::rows::bin_at::BinAt;
-use crate::rows::directory::put;
+use crate::rows::row::Row;
 use lert_base::Settings;
 use lert_io::OutOfMemory;
 use std::alloc::Global;
@@ -77,52 +77,45 @@ fn is_free(row: &[BinAt], frame: u8) -> bool
 
 // Moves a level's row on through the flush at position `m`: the new bin comes in behind the others, or in the place of the
 // newest one, and the oldest one goes where the flush is deeper.
-fn move_row(settings: &Settings, m: u64, level: u32, row: &mut Vec<BinAt>)
+fn move_row(settings: &Settings, m: u64, level: u32, row: &mut Row)
     requires first { 1 ≤ m }
     requires last { m ≤ capacity settings.now }
     requires from { 1 ≤ level }
     requires to { level ≤ settings.now.levels }
-    requires few { length row.old.items < 2 ^ 8 }
-    requires room { length row.old.items < vec_capacity row.old }
-    ensures row { row.new.items ≡ moved_row settings.now m level row.old.items }
-    ensures capacity { vec_capacity row.old ≤ vec_capacity row.new }
+    requires few { length row.old ≤ 16 }
+    ensures { row.new ≡ moved_row settings.now m level row.old }
 {
     let depth = settings.depth(m);
     if level > depth {
         return;
     }
-    let bin = arrival(settings, m, level, row);
+    let bin = arrival(settings, m, level, row.bins());
     if !begins(settings, m, level) {
-        let _joined = row.pop();
+        row.drop_newest();
     }
-    put(row, bin);
+    row.put(bin);
     if level < depth {
-        row.remove(0);
+        row.drop_oldest();
     }
 }
 
-/// So many rows with no bin, and with room for so many bins each. Its only error is want of memory.
-pub fn empty_rows(alloc: Global, levels: usize, bins: usize) -> Result<Vec<Vec<BinAt>>, OutOfMemory>
-    ensures len { IfOk result (λ rows. length rows.items ≡ levels) }
-    ensures empty { IfOk result (λ rows. All (λ row. row.items ≡ []) rows.items) }
-    ensures roomy { IfOk result (λ rows. All (λ row. bins ≤ vec_capacity row) rows.items) }
+/// So many rows with no bin. Its only error is want of memory.
+pub fn empty_rows(alloc: Global, levels: usize) -> Result<Vec<Row>, OutOfMemory>
+    ensures { IfOk result (λ rows. rows.items ≡ replicate levels []) }
 {
     let mut rows = Vec::with_capacity(alloc, levels)?;
     for _ in 0..levels {
-        rows.push(Vec::with_capacity(alloc, bins)?)?;
+        rows.push(Row::new(alloc)?)?;
     }
     Ok(rows)
 }
 
 /// Moves the rows, from level 1 on, on through the flush at position `m`. It takes no memory.
-pub fn move_rows(settings: &Settings, m: u64, rows: &mut [Vec<BinAt>])
+pub fn move_rows(settings: &Settings, m: u64, rows: &mut [Row])
     requires first { 1 ≤ m }
     requires last { m ≤ capacity settings.now }
-    requires levels { length rows.old ≡ settings.now.levels }
-    requires few { All (λ row. length row.items ≤ settings.now.bins) rows.old }
-    requires roomy { All (λ row. settings.now.bins < vec_capacity row) rows.old }
-    ensures rows { map (λ row. row.items) rows.new ≡ moved settings.now m (map (λ row. row.items) rows.old) }
-    ensures roomy { All (λ row. settings.now.bins < vec_capacity row) rows.new }
+    requires rows { AreRows settings.now rows.old }
+    ensures { rows.new ≡ moved settings.now m rows.old }
 {
     let _valid = settings.numbers();
     for (lower, row) in rows.iter_mut().enumerate() {

@@ -1,8 +1,9 @@
-use Rattle.std.proofs.Common.{ℕ, ◌≡◌, ◌+◌, ◌*◌, ◌≤◌, ◌∙◌, List, vec_capacity, map, take, length, get_or, sym, subst, arith, Option, Some, []}
-use Rattle.std.proofs.lemmas.List.{length-map, length-take-le}
+use Rattle.std.proofs.Common.{ℕ, ◌≡◌, ◌+◌, ◌*◌, ◌≤◌, ◌∙◌, List, vec_capacity, take, length, get_or, sym, subst, arith, Option, Some, []}
+use Rattle.std.proofs.lemmas.List.{length-take-le}
 use Rattle.lert_bay.specs.declared.bay.TheConstants.{FRAMES}
 use Rattle.lert_bay.specs.Files.{Files}
 use Rattle.lert_bay.specs.Kept.{Bays}
+use Rattle.lert_levels.proofs.Bays.{bays_of}
 use Rattle.lert_bay.proofs.KeptLaws.{IsLawful}
 use Rattle.lert_frames.specs.Frame.{HoldsFrame}
 use Rattle.lert_levels.specs.landing.Summed.{sums_of}
@@ -14,12 +15,12 @@ use Rattle.lert_frames.proofs.WriteLaws.{turns_back}
 use Rattle.lert_levels.specs.rows.Landing.{LeavesRest, AreApart}
 use Rattle.lert_levels.specs.declared.rows.fault.FlushFault.TheVariants.{Malformed}
 use Rattle.lert_levels.specs.rows.Loading.{OneBreaks}
-use Rattle.lert_levels.specs.rows.Rows.{IsRow}
+use Rattle.lert_levels.specs.rows.Rows.{AreFirst}
 use Rattle.lert_levels.proofs.rows.LandLaws.{rest_fewer}
 use Rattle.lert_spec.specs.Limits.{IsValid}
 use Rattle.lert_spec.specs.declared.numbers.Numbers.{Numbers}
 use Rattle.lert_levels.specs.Merged.{widths_of}
-use Rattle.lert_levels.specs.Parts.{parts_at}
+use Rattle.lert_levels.specs.Parts.{parts_at, HaveParts}
 use Rattle.lert_levels.specs.Ready.{HasMade}
 use Rattle.lert_levels.specs.Sources.{sources}
 use Rattle.lert_levels.proofs.LandedLaws.{on_ok, laid, begun_number, widths_number, begun_wide, made_of, parts_are, part_fits, apart_landings, reads_apart, has_made}
@@ -30,73 +31,39 @@ use Rattle.lert_levels.proofs.merger.merge_secure.Given as given
 use Rattle.lert_levels.proofs.merger.merge_secure.Goals as goal
 
 abbrev bays : (g : given.Over) → Bays g.row.B.Denot
-bays g = record {
-  faults = g.B.Faulty.faults;
-  mark = g.B.Faulty.mark;
-  files = g.B.Bay.files;
-  leaves = g.B.Bay.leaves;
-  moment = g.B.Bay.moment;
-  left_since = g.B.Bay.left_since;
-  handed_out = g.B.Bay.handed_out;
-}
+bays g = bays_of g.B.Faulty g.B.Bay
 
 lawful : (g : given.Over) → IsLawful (bays g)
 lawful g = record { as_read = g.met.B.Bay.as_read; since_now = g.met.B.Bay.since_now; only_now = g.met.B.Bay.only_now; since_earlier = g.met.B.Bay.since_earlier }
 
-pub start_landings-requires-clause-rows : goal.start_landings-requires-clause-rows
-start_landings-requires-clause-rows g c k below =
-    subst (λ (t : Numbers). IsRow t (k + 1) (get_or (map (λ row. row.items) c.args.rows.now) k [])) (sym c.settings-settings.ensures)
-    (c.requires.reached.are k (omega (arith, below, length-map c.args.rows.now (λ row. row.items))))
+-- ---- what the calls ask for
 
-pub start_landings-requires-clause-landings : goal.start_landings-requires-clause-landings
-start_landings-requires-clause-landings g c = subst (λ (t : Numbers). AreLandings t c.args.landings.now) (sym c.settings-settings.ensures) c.requires.landings
+pub start_landings-requires : goal.start_landings-requires
+start_landings-requires g c =
+    let back = sym c.settings-settings.ensures in
+    record {
+      first = c.requires.first;
+      last = subst (λ (t : Numbers). c.args.m ≤ capacity t) back c.requires.last;
+      rows = subst (λ (t : Numbers). AreFirst t c.args.rows.now) back c.requires.reached.are;
+      landings = subst (λ (t : Numbers). AreLandings t c.args.landings.now) back c.requires.landings;
+      enough = c.requires.enough;
+    }
 
-pub lay_parts-requires-clause-rows : goal.lay_parts-requires-clause-rows
-lay_parts-requires-clause-rows g c k below =
-    subst (λ (t : Numbers). IsRow t (k + 1) (get_or (map (λ row. row.items) c.args.rows.now) k [])) (sym c.settings-settings.ensures)
-    (c.requires.reached.are k (omega (arith, below, length-map c.args.rows.now (λ row. row.items))))
+pub lay_parts-requires : goal.lay_parts-requires
+lay_parts-requires g c =
+    let back = sym c.settings-settings.ensures in
+    record {
+      first = c.requires.first;
+      last = subst (λ (t : Numbers). c.args.m ≤ capacity t) back c.requires.last;
+      some = omega (arith, c.len.ensures.count, c.requires.reached.some);
+      few_young = subst (λ (t : Numbers). c.len.result ≤ t.bins) back c.len.ensures.few;
+      rows = subst (λ (t : Numbers). AreFirst t c.args.rows.now) back c.requires.reached.are;
+      parts = subst (λ (t : Numbers). HaveParts t c.args.m c.args.rows.now) back c.requires.reached.parts;
+      room = subst (λ (t : Numbers). (t.levels + 1) * t.bins ≤ vec_capacity c.args.parts.now) back c.requires.parts;
+    }
 
-pub begin_order-order-requires-clause-rows : goal.begin_order-order-requires-clause-rows
-begin_order-order-requires-clause-rows g c k below = c.requires.reached.are k (omega (arith, below, length-map c.args.rows.now (λ row. row.items)))
-
-pub start_landings-requires-clause-first : goal.start_landings-requires-clause-first
-start_landings-requires-clause-first g c = c.requires.first
-
-pub start_landings-requires-clause-last : goal.start_landings-requires-clause-last
-start_landings-requires-clause-last g c = subst (λ (t : Numbers). c.args.m ≤ capacity t) (sym c.settings-settings.ensures) c.requires.last
-
-pub start_landings-requires-clause-few : goal.start_landings-requires-clause-few
-start_landings-requires-clause-few g c =
-    subst (λ (t : Numbers). length c.args.rows.now ≤ t.levels) (sym c.settings-settings.ensures)
-    (subst (λ n. n ≤ c.args.zero.now.settings.levels) (length-map c.args.rows.now (λ row. row.items)) c.requires.reached.few)
-
-pub start_landings-requires-clause-enough : goal.start_landings-requires-clause-enough
-start_landings-requires-clause-enough g c = c.requires.enough
-
-pub lay_parts-requires-clause-first : goal.lay_parts-requires-clause-first
-lay_parts-requires-clause-first g c = c.requires.first
-
-pub lay_parts-requires-clause-last : goal.lay_parts-requires-clause-last
-lay_parts-requires-clause-last g c = subst (λ (t : Numbers). c.args.m ≤ capacity t) (sym c.settings-settings.ensures) c.requires.last
-
-pub lay_parts-requires-clause-few : goal.lay_parts-requires-clause-few
-lay_parts-requires-clause-few g c =
-    subst (λ (t : Numbers). length c.args.rows.now ≤ t.levels) (sym c.settings-settings.ensures)
-    (subst (λ n. n ≤ c.args.zero.now.settings.levels) (length-map c.args.rows.now (λ row. row.items)) c.requires.reached.few)
-
-pub lay_parts-requires-clause-room : goal.lay_parts-requires-clause-room
-lay_parts-requires-clause-room g c =
-    subst (λ (t : Numbers). (t.levels + 1) * t.bins ≤ vec_capacity c.args.parts.now) (sym c.settings-settings.ensures) c.requires.parts
-
-pub begin_order-order-requires-clause-same : goal.begin_order-order-requires-clause-same
-begin_order-order-requires-clause-same g c = c.requires.same
-
-pub begin_order-order-requires-clause-ahead : goal.begin_order-order-requires-clause-ahead
-begin_order-order-requires-clause-ahead g c = c.requires.ahead
-
-pub begin_order-order-requires-clause-few : goal.begin_order-order-requires-clause-few
-begin_order-order-requires-clause-few g c =
-    subst (λ n. n ≤ c.args.zero.now.settings.levels) (length-map c.args.rows.now (λ row. row.items)) c.requires.reached.few
+pub begin_order-order-requires : goal.begin_order-order-requires
+begin_order-order-requires g c = record { same = c.requires.same; ahead = c.requires.ahead; rows = c.requires.reached.are }
 
 pub slice_bounds-first-end : goal.slice_bounds-first-end
 slice_bounds-first-end g c = subst (λ n. length c.args.rows.now ≤ n) (sym c.start_landings.ensures.len) c.requires.enough
@@ -111,18 +78,17 @@ land_bins-landed-requires g c =
     let s = c.args.zero.now.settings in
     let m = c.args.m in
     let young = c.args.zero.now.bins in
-    let rows = map (λ row. row.items) c.args.rows.now in
+    let rows = c.args.rows.now in
     let bins = c.begin_order-order.result.streams.bins in
     let begun = c.begin_order-order.ensures.begun in
     let settings = c.settings-settings.ensures in
-    let counted = length-map c.args.rows.now (λ row. row.items) in
     let reached = c.requires.reached in
     let valid : IsValid s = subst IsValid (c.numbers-valid.ensures.value ∙ settings) c.numbers-valid.ensures.valid in
     let parts = c.lay_parts.new.parts.items in
     let all = c.start_landings.new.landings in
     let n = length c.args.rows.now in
     let landings = take n all in
-    let laid = laid s c.settings-settings.result.now m c.len.result young rows n parts all settings c.len.ensures.count counted
+    let laid = laid s c.settings-settings.result.now m c.len.result young rows parts all settings c.len.ensures.count
     (omega (arith, c.start_landings.ensures.len, c.requires.enough)) c.lay_parts.ensures.parts c.start_landings.ensures.landings c.start_landings.ensures.started in
     record {
       unread = record {
@@ -140,7 +106,7 @@ land_bins-landed-requires g c =
         wide = record {
           len = widths_number young rows ∙ sym (begun_number s young rows bins begun);
           each = λ k below. begun_wide s young rows bins k begun;
-          all = widths_small s valid young rows (omega (arith, c.len.ensures.few, c.len.ensures.count)) reached.few reached.narrow reached.are;
+          all = widths_small s valid young rows (omega (arith, c.len.ensures.few, c.len.ensures.count)) reached.are reached.narrow;
         };
         fits = λ part below. subst (λ (ps : List (Option ℕ)). sum (picked ps part (widths_of young rows)) ≤ span s (part + 1)) (sym c.deref.ensures.value)
             (part_fits s m young rows reached parts landings laid part below);
@@ -159,18 +125,17 @@ returns g c =
     let s = c.args.zero.now.settings in
     let m = c.args.m in
     let young = c.args.zero.now.bins in
-    let rows = map (λ row. row.items) c.args.rows.now in
+    let rows = c.args.rows.now in
     let bins = c.begin_order-order.result.streams.bins in
     let begun = c.begin_order-order.ensures.begun in
     let settings = c.settings-settings.ensures in
-    let counted = length-map c.args.rows.now (λ row. row.items) in
     let reached = c.requires.reached in
     let valid : IsValid s = subst IsValid (c.numbers-valid.ensures.value ∙ settings) c.numbers-valid.ensures.valid in
     let parts = c.lay_parts.new.parts.items in
     let all = c.start_landings.new.landings in
     let n = length c.args.rows.now in
     let landings = take n all in
-    let laid = laid s c.settings-settings.result.now m c.len.result young rows n parts all settings c.len.ensures.count counted
+    let laid = laid s c.settings-settings.result.now m c.len.result young rows parts all settings c.len.ensures.count
     (omega (arith, c.start_landings.ensures.len, c.requires.enough)) c.lay_parts.ensures.parts c.start_landings.ensures.landings c.start_landings.ensures.started in
     let new = c.land_bins-landed.new.landings in
     let same = same_count landings new c.land_bins-landed.ensures.homes in
@@ -183,14 +148,14 @@ returns g c =
     record {
       room = c.end_order.ensures.room ∙ c.land_bins-landed.ensures.streams.settings ∙ c.begin_order-order.ensures.settings;
       ahead = c.end_order.ensures.ahead ∙ c.land_bins-landed.ensures.ahead ∙ c.begin_order-order.ensures.room;
-      landings = rest_landings s n new all (omega (arith, same, laid.count, counted)) (landings_same landings new c.land_bins-landed.ensures.homes s laid.are)
+      landings = rest_landings s n new all (omega (arith, same, laid.count)) (landings_same landings new c.land_bins-landed.ensures.homes s laid.are)
           (subst (λ (t : Numbers). AreLandings t all) settings c.start_landings.ensures.landings);
-      count = rest_count n new all (omega (arith, same, laid.count, counted)) (omega (arith, c.start_landings.ensures.len, c.requires.enough)) ∙ c.start_landings.ensures.len;
+      count = rest_count n new all (omega (arith, same, laid.count)) (omega (arith, c.start_landings.ensures.len, c.requires.enough)) ∙ c.start_landings.ensures.len;
       parts = c.lay_parts.ensures.room;
       made = on_ok c.land_bins-landed.result _ (HasMade s m young rows took before after)
           (λ landed. has_made s m young rows reached parts landings laid took before after landed.lists
           (landed.all.len ∙ begun_number s young rows bins begun)
-          (made_of s valid young rows reached.few reached.are bins begun took before landed.lists landed.all.len landed.all.given landed.all.fits landed.all.totals_are
+          (made_of s valid young rows reached.are bins begun took before landed.lists landed.all.len landed.all.given landed.all.fits landed.all.totals_are
           (λ all len told. landed.all.told all (record { len = len; told = told }))
           (λ files k below. (landed.all.whole files).told k below) (parts_at s m (length young) rows))
           (λ seen told k d below. subst (λ (ps : List (Option ℕ)). HoldsFrame s (k + 1) (get_or landings k d).frame (seen FRAMES) (sums_of (picked ps k landed.lists)))
@@ -200,7 +165,7 @@ returns g c =
       malformed_after = λ later told at is.
           let back = turns_back (LeavesRest (IsOutside landings)) before after later c.land_bins-landed.ensures.rest.seen told in
           breaks_stay s rows back.0 later at (c.requires.secure back.0 back.1) (IsOutside landings)
-          (λ from to inside. apart_landings s m young rows reached parts landings laid from to (reached.apart from to inside)) reached.few
+          (λ from to inside. apart_landings s m young rows reached parts landings laid from to (reached.apart from to inside)) reached.are.few
           back.2 (malformed back.0 back.1 at is);
       rest = rest_fewer (bays g) (IsOutside landings) (AreApart s m rows) c.args.bay.now c.land_bins-landed.new.bay
           (apart_landings s m young rows reached parts landings laid) c.land_bins-landed.ensures.rest;

@@ -1,4 +1,4 @@
-use Rattle.std.proofs.Common.{ℕ, ◌≡◌, ◌<◌, List, [], length, map, get_or}
+use Rattle.std.proofs.Common.{ℕ, ◌≡◌, ◌<◌, List, [], length, get_or}
 use Rattle.lert_levels.specs.landing.Landed.{taken, IsLanding}
 use Rattle.lert_levels.specs.landing.Landings.{AreLandings}
 use Rattle.lert_levels.specs.declared.landing.landing.Landing.{Landing}
@@ -10,7 +10,7 @@ abbrev pub invariant-loop-lower : goal.invariant-loop-lower
 invariant-loop-lower l = record {
   len : length l.landings ≡ length l.fn.landings;
   started : (k : ℕ) (d : Landing) → k < l.lower →
-      ((get_or l.landings k d).frame ≡ landing_frame l.settings l.m (map (λ row. row.items) l.rows) k) × (taken (get_or l.landings k d) ≡ [])
+      ((get_or l.landings k d).frame ≡ landing_frame l.settings l.m l.rows k) × (taken (get_or l.landings k d) ≡ [])
       × ((file : List ℕ) → IsLanding (get_or l.landings k d) file);
   landings : AreLandings l.settings l.landings;
 }

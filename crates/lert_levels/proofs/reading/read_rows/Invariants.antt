@@ -6,7 +6,7 @@ use Rattle.lert_levels.proofs.reading.read_rows.Given as goal
 abbrev pub invariant-loop-lower : goal.invariant-loop-lower
 invariant-loop-lower g l = record {
   begun : (before : List Source) → AreBegun l.settings before l.fn.streams.bins →
-      AreBegun l.settings (before ++ map of_bin (placed 1 (take l.lower (map (λ row. row.items) l.rows)))) l.streams.bins;
+      AreBegun l.settings (before ++ map of_bin (placed 1 (take l.lower l.rows))) l.streams.bins;
   settings : l.streams.settings ≡ l.settings;
   spare : l.fn.streams.spare ≤ l.streams.spare + l.settings.bins * l.lower;
 }

@@ -1,8 +1,13 @@
 use Rattle.std.proofs.Common.{◌≡◌, ◌≤◌, Some, map, take, length}
-use Rattle.lert_bay.{specs.declared.bay.TheConstants.FRAMES, specs.Files.Files, specs.Kept.OnlyReads}
+use Rattle.lert_bay.specs.declared.bay.TheConstants.{FRAMES}
+use Rattle.lert_bay.specs.Files.{Files}
+use Rattle.lert_bay.specs.Kept.{Bays, OnlyReads}
+use Rattle.lert_levels.proofs.Bays.{bays_of}
 use Rattle.lert_levels.specs.Sources.{of_bin, placed_at, AllOf, IsSecure}
-use Rattle.lert_frames.specs.Calls.{bays_of}
 use Rattle.lert_levels.proofs.secure.secure_row.Given as goal
+
+abbrev pub bays : (g : goal.Over) → Bays g.row.B.Denot
+bays g = bays_of g.B.Faulty g.B.Bay
 
 -- the frames so far are secure, and nothing was changed
 abbrev pub invariant-loop-bin : goal.invariant-loop-bin
@@ -10,5 +15,5 @@ invariant-loop-bin g l = record {
   secure : (seen : Files) → g.B.Bay.files l.fn.bay ≡ Some seen → l.len ≤ length (seen FRAMES) →
       AllOf (IsSecure l.fn.room (seen FRAMES)) (map of_bin (map (placed_at l.level) (take l.bin-index l.row)));
   room : l.room ≡ l.fn.room;
-  only_reads : OnlyReads (bays_of g.B.Faulty g.B.Bay) l.fn.bay l.bay ⊥;
+  only_reads : OnlyReads (bays g) l.fn.bay l.bay ⊥;
 }

@@ -3,6 +3,7 @@ use Rattle.std.specs.Prelude.{Err}
 use Rattle.std.proofs.lemmas.Result.{err_from_is_err_and}
 use Rattle.lert_bay.specs.declared.bay.TheConstants.{FRAMES}
 use Rattle.lert_bay.specs.Kept.{Bays}
+use Rattle.lert_levels.proofs.Bays.{bays_of}
 use Rattle.lert_bay.proofs.KeptLaws.{IsLawful, keeps_on, keeps_as}
 use Rattle.lert_frames.proofs.FaultLaws.{not_err}
 use Rattle.lert_frames.proofs.WriteLaws.{same_err}
@@ -16,20 +17,12 @@ use Rattle.lert_levels.proofs.rows.LandLaws.{rest_on, rest_fewer}
 use Rattle.lert_levels.proofs.rows.RowLaws.{IsAt-moved}
 use Rattle.lert_levels.proofs.FlushLaws.{made_took, made_taken}
 use Rattle.lert_levels.proofs.HoldLaws.{named_apart, rows_stand}
-use Rattle.lert_levels.proofs.ReachLaws.{failed_by, no_break, no_place, reached_rows, reached_few, has_moved, deep}
+use Rattle.lert_levels.proofs.ReachLaws.{failed_by, no_break, no_place, reached_first, has_moved, deep}
 use Rattle.lert_levels.proofs.levels.Levels.flush.Given as given
 use Rattle.lert_levels.proofs.levels.Levels.flush.Goals as goal
 
 abbrev bays : (g : given.Over) → Bays g.row.B.Denot
-bays g = record {
-  faults = g.B.Faulty.faults;
-  mark = g.B.Faulty.mark;
-  files = g.B.Bay.files;
-  leaves = g.B.Bay.leaves;
-  moment = g.B.Bay.moment;
-  left_since = g.B.Bay.left_since;
-  handed_out = g.B.Bay.handed_out;
-}
+bays g = bays_of g.B.Faulty g.B.Bay
 
 lawful : (g : given.Over) → IsLawful (bays g)
 lawful g = record { as_read = g.met.B.Bay.as_read; since_now = g.met.B.Bay.since_now; only_now = g.met.B.Bay.only_now; since_earlier = g.met.B.Bay.since_earlier }
@@ -48,21 +41,20 @@ returns-in_err-merge g c =
     let e = c.in_err-merge.ensures in
     let reached = take (depth s m) rows in
     let deepest = deep s e.valid m first last rows at_m e.rows in
-    let few = reached_few s e.valid m first last rows at_m e.rows in
-    let each = reached_rows s e.valid m first last rows at_m e.rows in
+    let are = reached_first s e.valid m first last rows at_m e.rows in
     rw (p.1, p.2) (record {
       ok = tt;
       at = tt;
       refused = e.same;
       told = λ seen told events of.
           (let stand = rows_stand s events (m - 1) rows (seen FRAMES) at_m e.rows (omega (arith, of.len)) of.held (depth s m) deepest in
-          failed_by _ (λ at is. no_break s e.valid reached (seen FRAMES) (tallied_in s events) at few each stand (e.malformed seen told at (ap Err is))));
+          failed_by _ (λ at is. no_break s e.valid reached (seen FRAMES) (tallied_in s events) at are stand (e.malformed seen told at (ap Err is))));
       took = tt;
       durable = tt;
       rest = rest_fewer (bays g) (AreApart s m reached) (InNamed s rows) c.args.bay.now c.merge.new.bay (named_apart s m rows e.rows (depth s m) deepest) e.rest;
       whole = λ seen told. tt;
       sound = λ seen told hold stand.
-          failed_by _ (λ at is. no_break s e.valid reached (seen FRAMES) hold at few each stand (e.malformed seen told at (ap Err is)));
+          failed_by _ (λ at is. no_break s e.valid reached (seen FRAMES) hold at are stand (e.malformed seen told at (ap Err is)));
       malformed = λ seen told at is. e.malformed seen told at (same_err _ _ is);
       malformed_after = λ seen told at is. e.malformed_after seen told at (same_err _ _ is);
       kept = keeps_as (bays g) (lawful g) c.args.bay.now c.merge.new.bay _ _ (λ is. same_err _ _ is) e.kept;
@@ -143,32 +135,22 @@ returns g c =
 
 -- ---- what the calls ask for
 
-pub merge-requires-clause-same : goal.merge-requires-clause-same
-merge-requires-clause-same g c = c.requires.same
+pub merge-requires : goal.merge-requires
+merge-requires g c = record {
+  same = c.requires.same;
+  first = c.requires.first;
+  last = c.requires.last;
+  from = c.requires.from;
+  to = c.requires.to;
+  at = c.requires.at;
+  none_taken = c.requires.none_taken;
+}
 
-pub merge-requires-clause-first : goal.merge-requires-clause-first
-merge-requires-clause-first g c = c.requires.first
-
-pub merge-requires-clause-last : goal.merge-requires-clause-last
-merge-requires-clause-last g c = c.requires.last
-
-pub merge-requires-clause-from : goal.merge-requires-clause-from
-merge-requires-clause-from g c = c.requires.from
-
-pub merge-requires-clause-to : goal.merge-requires-clause-to
-merge-requires-clause-to g c = c.requires.to
-
-pub merge-requires-clause-at : goal.merge-requires-clause-at
-merge-requires-clause-at g c = c.requires.at
-
-pub merge-requires-clause-none_taken : goal.merge-requires-clause-none_taken
-merge-requires-clause-none_taken g c = c.requires.none_taken
-
-pub move_on-requires-clause-first : goal.move_on-requires-clause-first
-move_on-requires-clause-first g c = c.requires.first
-
-pub move_on-requires-clause-last : goal.move_on-requires-clause-last
-move_on-requires-clause-last g c = subst (λ (v : OnDisk). c.args.m ≤ capacity v.settings) (sym c.in_ok-merge.ensures.same) c.requires.last
-
-pub move_on-requires-clause-at : goal.move_on-requires-clause-at
-move_on-requires-clause-at g c = subst (λ (v : OnDisk). IsAt v.settings (c.args.m - 1) v.rows) (sym c.in_ok-merge.ensures.same) c.requires.at
+pub move_on-requires : goal.move_on-requires
+move_on-requires g c =
+    let same = sym c.in_ok-merge.ensures.same in
+    record {
+      first = c.requires.first;
+      last = subst (λ (v : OnDisk). c.args.m ≤ capacity v.settings) same c.requires.last;
+      at = subst (λ (v : OnDisk). IsAt v.settings (c.args.m - 1) v.rows) same c.requires.at;
+    }

@@ -1,8 +1,9 @@
-use Rattle.std.proofs.Common.{◌≡◌, ◌+◌, ◌*◌, ◌-◌, ◌≤◌, ◌∙◌, ◌++◌, List, Vec, Global, map, take, drop, length, ap, sym, subst, arith}
+use Rattle.std.proofs.Common.{◌≡◌, ◌+◌, ◌*◌, ◌-◌, ◌≤◌, ◌∙◌, ◌++◌, List, take, drop, length, ap, sym, subst, arith}
 use Rattle.std.specs.Prelude.{OnOk, vec_capacity}
-use Rattle.std.proofs.lemmas.List.{length-map, length-take, length-take-le}
+use Rattle.std.proofs.lemmas.List.{length-take, length-take-le}
 use Rattle.lert_bay.specs.declared.bay.TheConstants.{FRAMES}
 use Rattle.lert_bay.specs.Kept.{Bays}
+use Rattle.lert_levels.proofs.Bays.{bays_of}
 use Rattle.lert_levels.specs.landing.Landings.{AreLandings}
 use Rattle.lert_levels.specs.declared.landing.landing.Landing.{Landing}
 use Rattle.lert_levels.specs.declared.rows.bin_at.BinAt.{BinAt}
@@ -17,48 +18,75 @@ use Rattle.lert_spec.specs.Limits.{IsValid}
 use Rattle.lert_spec.specs.declared.numbers.Numbers.{Numbers}
 use Rattle.lert_levels.specs.OnDisk.{OnDisk}
 use Rattle.lert_levels.specs.Ready.{AreReached, HasMade}
-use Rattle.lert_levels.proofs.LevelLaws.{reached_rows}
 use Rattle.lert_levels.proofs.ReachLaws.{held, turned, reached_are, young_some}
 use Rattle.lert_levels.proofs.levels.Levels.merge.Given as given
 use Rattle.lert_levels.proofs.levels.Levels.merge.Goals as goal
-use Rattle.lert_levels.proofs.levels.Levels.merge.Goals.{Joined-self}
+use Rattle.lert_levels.proofs.levels.Levels.merge.Goals.{After-depth-depth}
 
 abbrev bays : (g : given.Over) → Bays g.row.B.Denot
-bays g = record {
-  faults = g.B.Faulty.faults;
-  mark = g.B.Faulty.mark;
-  files = g.B.Bay.files;
-  leaves = g.B.Bay.leaves;
-  moment = g.B.Bay.moment;
-  left_since = g.B.Bay.left_since;
-  handed_out = g.B.Bay.handed_out;
+bays g = bays_of g.B.Faulty g.B.Bay
+
+pub depth-depth-requires : goal.depth-depth-requires
+depth-depth-requires g c = record {
+  first = c.requires.first;
+  last = subst (λ (v : OnDisk). c.args.m ≤ capacity v.settings) (sym c.self.view_is) c.requires.last;
 }
 
-pub merge_rows-reading-requires-clause-landings : goal.merge_rows-reading-requires-clause-landings
-merge_rows-reading-requires-clause-landings g c =
-    subst (λ (ls : List Landing). AreLandings c.args.zero.now.settings ls) (sym c.deref_mut.ensures.value)
-    (subst (λ (t : Numbers). AreLandings t c.self.inside.writing.landings.items) (ap (λ (v : OnDisk). v.settings) c.self.view_is ∙ sym c.requires.same) c.self.invariant.2.of_levels)
+pub overflow_cast-depth : goal.overflow_cast-depth
+overflow_cast-depth g c = record { fits = omega (arith, c.depth-depth.type_inv) }
 
-pub merge_rows-reading-requires-clause-reached : goal.merge_rows-reading-requires-clause-reached
-merge_rows-reading-requires-clause-reached g c =
+pub slice_bounds-rows-end : goal.slice_bounds-rows-end
+slice_bounds-rows-end g c =
+    sym (length-take-le _ c.deref.result.now (omega (arith, ap (length {A = List BinAt}) c.deref.ensures.value, c.depth-depth.ensures.within, c.self.invariant.0.are.levels)))
+
+-- ---- what the merge is given
+
+-- the settings of level 0, as the levels have them
+settings_are : (g : given.Over) (c : After-depth-depth g) → c.self.inside.settings ≡ c.args.zero.now.settings
+settings_are g c = ap (λ (v : OnDisk). v.settings) c.self.view_is ∙ sym c.requires.same
+
+-- what was lent are the rows that the flush reaches
+lent_is : (g : given.Over) (c : After-depth-depth g) (lent : List (List BinAt)) → lent ≡ c.self.inside.rows.items →
+    take c.depth-depth.result lent ≡ take (depth c.args.self.now.settings c.args.m) c.args.self.now.rows
+lent_is g c lent is =
+    ap (take c.depth-depth.result) is
+    ∙ ap (λ d. take d c.self.inside.rows.items) c.depth-depth.ensures.value
+    ∙ ap (λ (v : OnDisk). take (depth v.settings c.args.m) v.rows) c.self.view_is
+
+pub merge_rows-reading-requires : goal.merge_rows-reading-requires
+merge_rows-reading-requires g c =
+    let at = (goal.at.merge_rows-reading-requires g c).After-depth-depth in
     let s = c.args.self.now.settings in
     let t = c.args.zero.now.settings in
     let m = c.args.m in
     let rows = c.args.self.now.rows in
     let young = c.args.zero.now.bins in
-    let settings_is : c.self.inside.settings ≡ s = ap (λ (v : OnDisk). v.settings) c.self.view_is in
-    let depth_is : c.depth-depth.result ≡ depth s m = c.depth-depth.ensures.value ∙ ap (λ (n : Numbers). depth n m) settings_is in
-    let lent = map (λ row. row.items) (take c.depth-depth.result c.deref.result.now) in
-    let lent_is : lent ≡ take (depth s m) rows =
-    reached_rows (λ row. row.items) c.self.inside.settings c.self.inside.rows.items c.deref.result.now c.args.self.now c.self.view_is c.deref.ensures.value c.depth-depth.result
-    ∙ ap (λ d. take d rows) depth_is in
-    let valid : IsValid s = subst IsValid (c.numbers-valid.ensures.value ∙ settings_is) c.numbers-valid.ensures.valid in
+    let same = settings_are g at in
+    let reading = held _ c.self.inside.reading c.take.result c.in-Some.reading c.self.invariant.1 c.take.ensures.value c.in-Some.is in
+    let valid : IsValid s = subst IsValid (c.numbers-valid.ensures.value ∙ ap (λ (v : OnDisk). v.settings) c.self.view_is) c.numbers-valid.ensures.valid in
     let are : AreRows s rows = subst (λ (v : OnDisk). AreRows v.settings v.rows) c.self.view_is c.self.invariant.0.are in
     let some = c.tables-tables.ensures.some (young_some s m c.args.zero.now.from c.args.zero.now.to c.requires.first c.requires.from c.requires.to) in
     let narrow = subst (λ (n : Numbers). All (λ (bin : Bin). bin.to - bin.from ≤ span n 0) young) c.requires.same c.tables-tables.ensures.narrow in
-    subst (λ (rs : List (List BinAt)). AreReached t m young rs) (sym lent_is)
-    (subst (λ (n : Numbers). AreReached n m young (take (depth s m) rows)) (sym c.requires.same)
-    (reached_are s valid m c.requires.first c.requires.last rows c.requires.at are young some narrow))
+    record {
+      same = reading.0 ∙ same;
+      ahead = subst (λ (n : Numbers). (n.levels + 1) * n.bins ≤ c.in-Some.reading.ahead.room) same reading.1;
+      landings = subst (AreLandings t) (sym c.deref_mut.ensures.value)
+          (subst (λ (n : Numbers). AreLandings n c.self.inside.writing.landings.items) same c.self.invariant.2.of_levels);
+      enough = omega (
+        arith,
+        length-take c.depth-depth.result c.deref.result.now,
+        ap (length {A = Landing}) c.deref_mut.ensures.value,
+        c.depth-depth.ensures.within,
+        c.self.invariant.2.count,
+      );
+      parts = subst (λ (n : Numbers). (n.levels + 1) * n.bins ≤ vec_capacity c.self.inside.writing.parts) same c.self.invariant.2.room;
+      first = c.requires.first;
+      last = subst (λ (n : Numbers). m ≤ capacity n) (sym c.requires.same) c.requires.last;
+      reached = subst (AreReached t m young) (sym (lent_is g at c.deref.result.now c.deref.ensures.value))
+          (subst (λ (n : Numbers). AreReached n m young (take (depth s m) rows)) (sym c.requires.same)
+          (reached_are s valid m c.requires.first c.requires.last rows c.requires.at are young some narrow));
+      none_taken = c.requires.none_taken;
+    }
 
 pub invariant_of-self : goal.invariant_of-self
 invariant_of-self g c =
@@ -82,94 +110,25 @@ invariant_of-self g c =
 
 -- ---- behind the merge
 
--- the settings that level 0 and the levels share
-settings_is : (g : given.Over) (c : Joined-self g) → c.self.inside.settings ≡ c.args.self.now.settings
-settings_is g c = ap (λ (v : OnDisk). v.settings) c.self.view_is
-
--- what was lent are the rows that the flush reaches
-lent_is : (g : given.Over) (c : Joined-self g) → map (λ row. row.items) (take c.depth-depth.result c.deref.result.now)
-    ≡ take (depth c.args.self.now.settings c.args.m) c.args.self.now.rows
-lent_is g c =
-    reached_rows (λ row. row.items) c.self.inside.settings c.self.inside.rows.items c.deref.result.now c.args.self.now c.self.view_is c.deref.ensures.value c.depth-depth.result
-    ∙ ap (λ d. take d c.args.self.now.rows) (c.depth-depth.ensures.value ∙ ap (λ (n : Numbers). depth n c.args.m) (settings_is g c))
-
--- what the merge says of the rows as they were lent it says of these
-said : (g : given.Over) (c : Joined-self g) (P : Numbers → List (List BinAt) → Type 0) →
-    P c.args.zero.now.settings (map (λ row. row.items) (take c.depth-depth.result c.deref.result.now)) →
-    P c.args.self.now.settings (take (depth c.args.self.now.settings c.args.m) c.args.self.now.rows)
-said g c P is = turned P c.args.self.now.settings c.args.zero.now.settings _ _ c.requires.same (lent_is g c) is
-
-pub returns-clause-made : goal.returns-clause-made
-returns-clause-made g c =
+pub returns : goal.returns
+returns g c =
+    let at = (goal.at.returns g c).After-depth-depth in
+    let m = c.args.m in
+    let young = c.args.zero.now.bins in
     let took = g.O.Totals.took c.merge_rows-reading.new.totals in
     let before = g.B.Bay.files c.args.bay.now in
     let after = g.B.Bay.files c.merge_rows-reading.new.bay in
-    said g c (λ n rs. OnOk c.merge_rows-reading.result.1 (HasMade n c.args.m c.args.zero.now.bins rs took before after)) c.merge_rows-reading.ensures.made
-
-pub returns-clause-malformed : goal.returns-clause-malformed
-returns-clause-malformed g c seen told at is = said g c (λ n rs. OneBreaks n rs (seen FRAMES) at) (c.merge_rows-reading.ensures.malformed seen told at is)
-
-pub returns-clause-malformed_after : goal.returns-clause-malformed_after
-returns-clause-malformed_after g c seen told at is = said g c (λ n rs. OneBreaks n rs (seen FRAMES) at) (c.merge_rows-reading.ensures.malformed_after seen told at is)
-
-pub returns-clause-rest : goal.returns-clause-rest
-returns-clause-rest g c = said g c (λ n rs. KeepsRest (bays g) (AreApart n c.args.m rs) c.args.bay.now c.merge_rows-reading.new.bay) c.merge_rows-reading.ensures.rest
-
-pub returns-clause-kept : goal.returns-clause-kept
-returns-clause-kept g c = c.merge_rows-reading.ensures.kept
-
-pub returns-clause-valid : goal.returns-clause-valid
-returns-clause-valid g c = subst IsValid (c.numbers-valid.ensures.value ∙ settings_is g c) c.numbers-valid.ensures.valid
-
-pub returns-clause-rows : goal.returns-clause-rows
-returns-clause-rows g c = subst (λ (v : OnDisk). AreRows v.settings v.rows) c.self.view_is c.self.invariant.0.are
-
-pub returns-clause-same : goal.returns-clause-same
-returns-clause-same g c = c.self.view_is
-
--- ---- before it
-
-pub depth-depth-requires-clause-first : goal.depth-depth-requires-clause-first
-depth-depth-requires-clause-first g c = c.requires.first
-
-pub depth-depth-requires-clause-last : goal.depth-depth-requires-clause-last
-depth-depth-requires-clause-last g c = subst (λ (v : OnDisk). c.args.m ≤ capacity v.settings) (sym c.self.view_is) c.requires.last
-
-pub merge_rows-reading-requires-clause-first : goal.merge_rows-reading-requires-clause-first
-merge_rows-reading-requires-clause-first g c = c.requires.first
-
-pub merge_rows-reading-requires-clause-last : goal.merge_rows-reading-requires-clause-last
-merge_rows-reading-requires-clause-last g c = subst (λ (t : Numbers). c.args.m ≤ capacity t) (sym c.requires.same) c.requires.last
-
-pub merge_rows-reading-requires-clause-same : goal.merge_rows-reading-requires-clause-same
-merge_rows-reading-requires-clause-same g c =
-    (held _ c.self.inside.reading c.take.result c.in-Some.reading c.self.invariant.1 c.take.ensures.value c.in-Some.is).0
-    ∙ ap (λ (v : OnDisk). v.settings) c.self.view_is ∙ sym c.requires.same
-
-pub merge_rows-reading-requires-clause-ahead : goal.merge_rows-reading-requires-clause-ahead
-merge_rows-reading-requires-clause-ahead g c =
-    subst (λ (t : Numbers). (t.levels + 1) * t.bins ≤ c.in-Some.reading.ahead.room) (ap (λ (v : OnDisk). v.settings) c.self.view_is ∙ sym c.requires.same)
-    (held _ c.self.inside.reading c.take.result c.in-Some.reading c.self.invariant.1 c.take.ensures.value c.in-Some.is).1
-
-pub merge_rows-reading-requires-clause-parts : goal.merge_rows-reading-requires-clause-parts
-merge_rows-reading-requires-clause-parts g c =
-    subst (λ (t : Numbers). (t.levels + 1) * t.bins ≤ vec_capacity c.self.inside.writing.parts) (ap (λ (v : OnDisk). v.settings) c.self.view_is ∙ sym c.requires.same)
-    c.self.invariant.2.room
-
-pub merge_rows-reading-requires-clause-enough : goal.merge_rows-reading-requires-clause-enough
-merge_rows-reading-requires-clause-enough g c =
-    let taken = length-take c.depth-depth.result c.deref.result.now in
-    let lent = ap (length {A = Landing}) c.deref_mut.ensures.value in
-    omega (arith, taken, lent, c.depth-depth.ensures.within, c.self.invariant.2.count)
-
-pub merge_rows-reading-requires-clause-none_taken : goal.merge_rows-reading-requires-clause-none_taken
-merge_rows-reading-requires-clause-none_taken g c = c.requires.none_taken
-
-pub overflow_cast-depth : goal.overflow_cast-depth
-overflow_cast-depth g c = record { fits = omega (arith, c.depth-depth.type_inv) }
-
-pub slice_bounds-rows-end : goal.slice_bounds-rows-end
-slice_bounds-rows-end g c =
-    let lent = ap (length {A = Vec BinAt Global}) c.deref.ensures.value in
-    let each = length-map c.self.inside.rows.items (λ row. row.items) in
-    sym (length-take-le _ c.deref.result.now (omega (arith, lent, each, c.depth-depth.ensures.within, c.self.invariant.0.are.levels)))
+    let said : (P : Numbers → List (List BinAt) → Type 0) → P c.args.zero.now.settings (take c.depth-depth.result c.deref.result.now) →
+    P c.args.self.now.settings (take (depth c.args.self.now.settings m) c.args.self.now.rows) =
+    λ P is. turned P c.args.self.now.settings c.args.zero.now.settings _ _ c.requires.same (lent_is g at c.deref.result.now c.deref.ensures.value) is in
+    let e = c.merge_rows-reading.ensures in
+    record {
+      same = c.self.view_is;
+      valid = subst IsValid (c.numbers-valid.ensures.value ∙ ap (λ (v : OnDisk). v.settings) c.self.view_is) c.numbers-valid.ensures.valid;
+      rows = subst (λ (v : OnDisk). AreRows v.settings v.rows) c.self.view_is c.self.invariant.0.are;
+      made = said (λ n rs. OnOk c.merge_rows-reading.result.1 (HasMade n m young rs took before after)) e.made;
+      malformed = λ seen told at is. said (λ n rs. OneBreaks n rs (seen FRAMES) at) (e.malformed seen told at is);
+      malformed_after = λ seen told at is. said (λ n rs. OneBreaks n rs (seen FRAMES) at) (e.malformed_after seen told at is);
+      rest = said (λ n rs. KeepsRest (bays g) (AreApart n m rs) c.args.bay.now c.merge_rows-reading.new.bay) e.rest;
+      kept = e.kept;
+    }

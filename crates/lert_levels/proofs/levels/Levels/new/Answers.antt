@@ -1,36 +1,30 @@
-use Rattle.std.proofs.Common.{ℕ, ◌≡◌, ◌+◌, ◌*◌, ◌≤◌, ◌∙◌, List, [], map, replicate, length, ap, sym, subst, arith, vec_capacity}
+use Rattle.std.proofs.Common.{ℕ, ◌≡◌, ◌+◌, ◌*◌, ◌≤◌, ◌∙◌, List, [], replicate, length, ap, sym, subst, arith, vec_capacity}
 use Rattle.std.proofs.lemmas.Nat.{mul-le}
 use Rattle.std.proofs.lemmas.Result.{err_from_is_err_and}
 use Rattle.lert_spec.specs.declared.numbers.Numbers.{Numbers}
 use Rattle.lert_levels.specs.declared.rows.bin_at.BinAt.{BinAt}
 use Rattle.lert_levels.specs.rows.Rows.{AreRows, directory_text}
-use Rattle.lert_levels.proofs.rows.MoveLaws.{all_empty, AreRows-none, short_directory}
+use Rattle.lert_levels.proofs.rows.MoveLaws.{AreRows-none, directory_short}
 use Rattle.lert_levels.proofs.levels.Levels.new.Goals as goal
 
--- rows without a bin have a directory that fits
-directory_fits : (rows : List (List BinAt)) (levels bins room : ℕ) → rows ≡ replicate levels [] → levels * (1 + bins) ≤ room → length (directory_text rows) ≤ room
-directory_fits rows levels bins room empty fits = omega (arith, ap (λ (rs : List (List BinAt)). length (directory_text rs)) empty, short_directory levels bins, fits)
+-- the rows, as the settings count them
+empty : (rows : List (List BinAt)) (n s : Numbers) → rows ≡ replicate n.levels [] → n ≡ s → rows ≡ replicate s.levels []
+empty rows n s are same = are ∙ ap (λ (t : Numbers). replicate {A = List BinAt} t.levels []) same
 
-pub lay_directory-requires-clause-room : goal.lay_directory-requires-clause-room
-lay_directory-requires-clause-room g c =
-    let empty : map (λ row. row.items) c.deref.result.now ≡ replicate c.numbers-numbers.result.levels [] =
-    ap (map (λ row. row.items)) c.deref.ensures.value ∙ all_empty (λ row. row.items) c.in_ok-rows.rows.items c.numbers-numbers.result.levels c.in_ok-rows.ensures.len c.in_ok-rows.ensures.empty
-    in
-    directory_fits (map (λ row. row.items) c.deref.result.now) c.numbers-numbers.result.levels c.numbers-numbers.result.bins (vec_capacity c.in_ok-directory.directory) empty
-    c.in_ok-directory.ensures.capacity
+pub lay_directory-requires : goal.lay_directory-requires
+lay_directory-requires g c =
+    let s = c.args.settings.now in
+    let rows_are = ap (λ (rs : List (List BinAt)). length (directory_text rs)) (c.deref.ensures.value ∙ empty _ _ _ c.in_ok-rows.ensures c.numbers-numbers.ensures.value) in
+    let room = ap (λ (n : Numbers). n.levels * (1 + n.bins)) c.numbers-numbers.ensures.value in
+    omega (arith, rows_are, directory_short s (replicate s.levels []) (AreRows-none s), room, c.in_ok-directory.ensures.capacity)
 
 pub invariant_of-result : goal.invariant_of-result
 invariant_of-result g c =
-    let s = c.args.settings.now in
-    let value = c.numbers-numbers.ensures.value in
-    let empty : map (λ row. row.items) c.in_ok-rows.rows.items ≡ replicate s.levels [] =
-    all_empty (λ row. row.items) c.in_ok-rows.rows.items c.numbers-numbers.result.levels c.in_ok-rows.ensures.len c.in_ok-rows.ensures.empty
-    ∙ ap (λ (n : Numbers). replicate {A = List BinAt} n.levels []) value in (
+    let s = c.args.settings.now in (
       record {
-        are = subst (AreRows s) (sym empty) (AreRows-none s);
-        roomy = λ k d below. omega (arith, c.in_ok-rows.ensures.roomy k d below, ap (λ (n : Numbers). n.bins) value);
-        directory_is = c.lay_directory.ensures.text ∙ ap (λ rows. directory_text (map (λ row. row.items) rows)) c.deref.ensures.value;
-        directory_room = subst (λ (n : Numbers). n.levels * (1 + n.bins) ≤ vec_capacity c.lay_directory.new.directory) value
+        are = subst (AreRows s) (sym (empty _ _ _ c.in_ok-rows.ensures c.numbers-numbers.ensures.value)) (AreRows-none s);
+        directory_is = c.lay_directory.ensures.text ∙ ap directory_text c.deref.ensures.value;
+        directory_room = subst (λ (n : Numbers). n.levels * (1 + n.bins) ≤ vec_capacity c.lay_directory.new.directory) c.numbers-numbers.ensures.value
             (omega (arith, c.in_ok-directory.ensures.capacity, c.lay_directory.ensures.capacity));
         read_by = c.in_ok-new.ensures.settings;
       },
@@ -39,18 +33,12 @@ invariant_of-result g c =
     )
 
 pub returns : goal.returns
-returns g c =
-    ap (λ rows. record { settings = c.args.settings.now; rows = rows })
-    (all_empty (λ row. row.items) c.in_ok-rows.rows.items c.numbers-numbers.result.levels c.in_ok-rows.ensures.len c.in_ok-rows.ensures.empty
-    ∙ ap (λ (n : Numbers). replicate {A = List BinAt} n.levels []) c.numbers-numbers.ensures.value)
+returns g c = ap (λ rows. record { settings = c.args.settings.now; rows = rows }) (empty _ _ _ c.in_ok-rows.ensures c.numbers-numbers.ensures.value)
 
 -- ---- the sums, and the refusals, at which there are no levels
 
 pub overflow_add-bins : goal.overflow_add-bins
 overflow_add-bins g c = omega (arith, c.numbers-numbers.ensures.valid.limits.bins_to)
-
-pub overflow_add-bins-2 : goal.overflow_add-bins-2
-overflow_add-bins-2 g c = omega (arith, c.numbers-numbers.ensures.valid.limits.bins_to)
 
 pub overflow_mul-levels : goal.overflow_mul-levels
 overflow_mul-levels g c =

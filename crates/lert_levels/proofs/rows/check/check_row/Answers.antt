@@ -22,27 +22,29 @@ lawful g = record { as_read = g.met.B.Bay.as_read; since_now = g.met.B.Bay.since
 abbrev nothing : BinAt
 nothing = record { from = 0; to = 0; frame = 0 }
 
-pub check_bin-requires-clause-last : goal.check_bin-requires-clause-last
-check_bin-requires-clause-last g c = subst (λ (s : Numbers). c.args.level ≤ s.levels) (sym c.loop-bin.invariant.settings) c.requires.last
+pub bounds-row-bin-index : goal.bounds-row-bin-index
+bounds-row-bin-index g c = c.loop-bin-test.true
 
-pub check_bin-requires-clause-frame : goal.check_bin-requires-clause-frame
-check_bin-requires-clause-frame g c =
-    subst (λ (s : Numbers). (get_or c.args.row.now c.loop-bin.bin-index nothing).frame ≤ s.bins) (sym c.loop-bin.invariant.settings)
-    (c.requires.row.frames c.loop-bin.bin-index nothing c.loop-bin-test.true)
-
-pub check_bin-requires-clause-width : goal.check_bin-requires-clause-width
-check_bin-requires-clause-width g c =
-    subst (λ (s : Numbers). width_of (get_or c.args.row.now c.loop-bin.bin-index nothing) ≤ span s c.args.level) (sym c.loop-bin.invariant.settings)
-    (c.requires.row.widths c.loop-bin.bin-index nothing c.loop-bin-test.true)
-
-pub returns-in_err-check_bin-clause-malformed : goal.returns-in_err-check_bin-clause-malformed
-returns-in_err-check_bin-clause-malformed g c seen told at =
-    let p = err_from_is_err_and c.from_residual.result c.from_residual.ensures.1 in
-    let s = c.args.reader.now.settings in
+pub check_bin-requires : goal.check_bin-requires
+check_bin-requires g c =
     let i = c.loop-bin.bin-index in
-    rw (p.1, p.2) (λ is. row_breaks (bin_left s (seen FRAMES) c.args.level) c.args.row.now i nothing c.loop-bin-test.true (c.loop-bin.invariant.whole seen told) at
-    (subst (λ (t : Numbers). bin_left t (seen FRAMES) c.args.level (get_or c.args.row.now i nothing) ≡ Some at) c.loop-bin.invariant.settings
-    (c.in_err-check_bin.ensures.malformed seen (c.loop-bin.invariant.only_reads.seen ∙ told) at (same_err _ _ is))))
+    let row = c.requires.row in
+    rw c.loop-bin.invariant.settings (record {
+      first = c.requires.first;
+      last = c.requires.last;
+      frame = row.frames i nothing c.loop-bin-test.true;
+      some = row.some i nothing c.loop-bin-test.true;
+      width = row.widths i nothing c.loop-bin-test.true;
+      end = row.ends i nothing c.loop-bin-test.true;
+    })
+
+pub loop-bin-init : goal.loop-bin-init
+loop-bin-init g c = record {
+  stand = λ seen told k d below. absurd (omega (arith, below));
+  whole = λ seen told. refl;
+  settings = refl;
+  only_reads = reads_none (bays g) (lawful g) c.args.bay.now ⊥ (λ none. none);
+}
 
 pub loop-bin-preserved : goal.loop-bin-preserved
 loop-bin-preserved g c =
@@ -64,58 +66,34 @@ loop-bin-preserved g c =
           (reads_as (bays g) (lawful g) c.loop-bin.bay c.check_bin.new.bay _ ⊥ (λ none. absurd none) c.check_bin.ensures.only_reads);
     }
 
-pub returns-clause-stand : goal.returns-clause-stand
-returns-clause-stand g c seen told =
-    subst (RowStands c.args.reader.now.settings (seen FRAMES) c.args.level) (take_all c.loop-bin.bin-index c.args.row.now c.loop-bin-test.false)
-    (c.loop-bin.invariant.stand seen told)
+pub returns : goal.returns
+returns g c =
+    let is = c.loop-bin.invariant in
+    let all = take_all c.loop-bin.bin-index c.args.row.now c.loop-bin-test.false in
+    let s = c.args.reader.now.settings in
+    record {
+      stand = λ seen told. subst (RowStands s (seen FRAMES) c.args.level) all (is.stand seen told);
+      whole = λ seen told. ap (λ bins. first_of (map (bin_left s (seen FRAMES) c.args.level) bins)) (sym all) ∙ is.whole seen told;
+      malformed = λ seen told at broken. absurd (not_err _ _ broken);
+      settings = is.settings;
+      only_reads = reads_as (bays g) (lawful g) c.args.bay.now c.loop-bin.bay ⊥ _ (λ failed. not_err _ _ failed) is.only_reads;
+    }
 
-pub returns-in_err-check_bin-clause-stand : goal.returns-in_err-check_bin-clause-stand
-returns-in_err-check_bin-clause-stand g c seen told = let p = err_from_is_err_and c.from_residual.result c.from_residual.ensures.1 in rw p.1 tt
-
-pub returns-in_err-check_bin-clause-whole : goal.returns-in_err-check_bin-clause-whole
-returns-in_err-check_bin-clause-whole g c seen told = let p = err_from_is_err_and c.from_residual.result c.from_residual.ensures.1 in rw p.1 tt
-
-pub returns-in_err-check_bin-clause-only_reads : goal.returns-in_err-check_bin-clause-only_reads
-returns-in_err-check_bin-clause-only_reads g c =
+pub returns-in_err-check_bin : goal.returns-in_err-check_bin
+returns-in_err-check_bin g c =
     let p = err_from_is_err_and c.from_residual.result c.from_residual.ensures.1 in
-    rw (p.1, p.2) (reads_as (bays g) (lawful g) c.args.bay.now c.check_bin.new.bay _ _ (λ is. same_err _ _ is)
-    (reads_on (bays g) (lawful g) c.args.bay.now c.loop-bin.bay c.check_bin.new.bay ⊥ _ c.loop-bin.invariant.only_reads c.in_err-check_bin.ensures.only_reads))
-
-pub returns-clause-whole : goal.returns-clause-whole
-returns-clause-whole g c seen told =
-    ap (λ bins. first_of (map (bin_left c.args.reader.now.settings (seen FRAMES) c.args.level) bins)) (sym (take_all c.loop-bin.bin-index c.args.row.now c.loop-bin-test.false))
-    ∙ c.loop-bin.invariant.whole seen told
-
-pub returns-clause-malformed : goal.returns-clause-malformed
-returns-clause-malformed g c seen told at is = absurd (not_err _ _ is)
-
-pub returns-clause-settings : goal.returns-clause-settings
-returns-clause-settings g c = c.loop-bin.invariant.settings
-
-pub returns-clause-only_reads : goal.returns-clause-only_reads
-returns-clause-only_reads g c = reads_as (bays g) (lawful g) c.args.bay.now c.loop-bin.bay ⊥ _ (λ is. not_err _ _ is) c.loop-bin.invariant.only_reads
-
-pub returns-in_err-check_bin-clause-settings : goal.returns-in_err-check_bin-clause-settings
-returns-in_err-check_bin-clause-settings g c = c.in_err-check_bin.ensures.settings ∙ c.loop-bin.invariant.settings
-
-pub loop-bin-init : goal.loop-bin-init
-loop-bin-init g c = record {
-  stand = λ seen told k d below. absurd (omega (arith, below));
-  whole = λ seen told. refl;
-  settings = refl;
-  only_reads = reads_none (bays g) (lawful g) c.args.bay.now ⊥ (λ none. none);
-}
-
--- ---- what a bin asks for
-
-pub bounds-row-bin-index : goal.bounds-row-bin-index
-bounds-row-bin-index g c = c.loop-bin-test.true
-
-pub check_bin-requires-clause-first : goal.check_bin-requires-clause-first
-check_bin-requires-clause-first g c = c.requires.first
-
-pub check_bin-requires-clause-some : goal.check_bin-requires-clause-some
-check_bin-requires-clause-some g c = c.requires.row.some c.loop-bin.bin-index nothing c.loop-bin-test.true
-
-pub check_bin-requires-clause-end : goal.check_bin-requires-clause-end
-check_bin-requires-clause-end g c = c.requires.row.ends c.loop-bin.bin-index nothing c.loop-bin-test.true
+    let s = c.args.reader.now.settings in
+    let i = c.loop-bin.bin-index in
+    let is = c.loop-bin.invariant in
+    let e = c.in_err-check_bin.ensures in
+    rw (p.1, p.2) (record {
+      stand = λ seen told. tt;
+      whole = λ seen told. tt;
+      malformed = λ seen told at broken.
+          row_breaks (bin_left s (seen FRAMES) c.args.level) c.args.row.now i nothing c.loop-bin-test.true (is.whole seen told) at
+          (subst (λ (t : Numbers). bin_left t (seen FRAMES) c.args.level (get_or c.args.row.now i nothing) ≡ Some at) is.settings
+          (e.malformed seen (is.only_reads.seen ∙ told) at (same_err _ _ broken)));
+      settings = e.settings ∙ is.settings;
+      only_reads = reads_as (bays g) (lawful g) c.args.bay.now c.check_bin.new.bay _ _ (λ failed. same_err _ _ failed)
+          (reads_on (bays g) (lawful g) c.args.bay.now c.loop-bin.bay c.check_bin.new.bay ⊥ _ is.only_reads e.only_reads);
+    })

@@ -1,26 +1,19 @@
-use Rattle.std.proofs.Common.{ℕ, ◌≡◌, ◌+◌, ◌<◌, Some, None, [], map, take, get_or}
+use Rattle.std.proofs.Common.{ℕ, ◌≡◌, ◌+◌, ◌<◌, Some, None, [], take, get_or}
 use Rattle.lert_bay.specs.declared.bay.TheConstants.{FRAMES}
 use Rattle.lert_bay.specs.Files.{Files}
 use Rattle.lert_bay.specs.Kept.{Bays, OnlyReads}
+use Rattle.lert_levels.proofs.Bays.{bays_of}
 use Rattle.lert_levels.specs.rows.Checked.{RowStands, rows_left}
 use Rattle.lert_levels.proofs.rows.check.check_rows.Given as goal
 
 abbrev pub bays : (g : goal.Over) → Bays g.row.B.Denot
-bays g = record {
-  faults = g.B.Faulty.faults;
-  mark = g.B.Faulty.mark;
-  files = g.B.Bay.files;
-  leaves = g.B.Bay.leaves;
-  moment = g.B.Bay.moment;
-  left_since = g.B.Bay.left_since;
-  handed_out = g.B.Bay.handed_out;
-}
+bays g = bays_of g.B.Faulty g.B.Bay
 
 -- the levels so far stand, and nothing was changed
 abbrev pub invariant-loop-lower : goal.invariant-loop-lower
 invariant-loop-lower g l = record {
-  stand : (seen : Files) → g.B.Bay.files l.fn.bay ≡ Some seen → (k : ℕ) → k < l.lower → RowStands l.settings (seen FRAMES) (k + 1) (get_or (map (λ row. row.items) l.rows) k []);
-  whole : (seen : Files) → g.B.Bay.files l.fn.bay ≡ Some seen → rows_left l.settings (seen FRAMES) (take l.lower (map (λ row. row.items) l.rows)) ≡ None;
+  stand : (seen : Files) → g.B.Bay.files l.fn.bay ≡ Some seen → (k : ℕ) → k < l.lower → RowStands l.settings (seen FRAMES) (k + 1) (get_or l.rows k []);
+  whole : (seen : Files) → g.B.Bay.files l.fn.bay ≡ Some seen → rows_left l.settings (seen FRAMES) (take l.lower l.rows) ≡ None;
   reader : l.reader.settings ≡ l.settings;
   only_reads : OnlyReads (bays g) l.fn.bay l.bay ⊥;
 }

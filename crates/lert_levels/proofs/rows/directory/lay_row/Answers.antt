@@ -19,7 +19,7 @@ loop-bin-preserved c =
     let is = c.loop-bin.invariant in
     let put = c.put-in-loop-bin in
     record {
-      text = frame_more c.args.directory.now.items c.loop-bin.directory.items put.new.items.items c.args.row.now c.loop-bin.bin-index nothing c.loop-bin-test.true is.text
+      text = frame_more c.args.directory.now.items c.loop-bin.directory.items put.new.directory.items c.args.row.now c.loop-bin.bin-index nothing c.loop-bin-test.true is.text
           put.ensures.items;
       room = omega (arith, is.room, put.ensures.capacity);
       grows = omega (arith, is.grows, put.ensures.capacity);

@@ -1,4 +1,4 @@
-use Rattle.std.proofs.Common.{◌≡◌, ◌+◌, ◌/◌, ◌≤◌, length, map, take, vec_capacity}
+use Rattle.std.proofs.Common.{◌≡◌, ◌+◌, ◌/◌, map, take}
 use Rattle.std.specs.List.{range_with_len}
 use Rattle.lert_levels.specs.rows.Ranges.{range_at}
 use Rattle.lert_levels.specs.rows.Rows.{range_of}
@@ -8,8 +8,6 @@ use Rattle.lert_levels.proofs.rows.named.restore_row.Given as goal
 abbrev pub invariant-loop-frame : goal.invariant-loop-frame
 invariant-loop-frame l = record {
   place : l.interval ≡ l.low / l.wide + l.frame-index;
-  ranges : map range_of l.row.items ≡ map (range_at l.wide l.low l.high) (range_with_len (l.low / l.wide) l.frame-index);
-  frames : map (λ bin. bin.frame) l.row.items ≡ take l.frame-index l.frames;
-  room : length l.frames ≤ vec_capacity l.row;
-  grows : vec_capacity l.fn.row ≤ vec_capacity l.row;
+  ranges : map range_of l.row ≡ map (range_at l.wide l.low l.high) (range_with_len (l.low / l.wide) l.frame-index);
+  frames : map (λ bin. bin.frame) l.row ≡ take l.frame-index l.frames;
 }

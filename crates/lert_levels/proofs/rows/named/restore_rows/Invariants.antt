@@ -1,5 +1,4 @@
-use Rattle.std.proofs.Common.{ℕ, ◌≡◌, ◌<◌, List, [], length, take, get_or, vec_capacity}
-use Rattle.std.specs.List.{All}
+use Rattle.std.proofs.Common.{ℕ, ◌≡◌, ◌<◌, List, length, take, get_or}
 use Rattle.lert_levels.specs.declared.rows.bin_at.BinAt.{BinAt}
 use Rattle.lert_levels.specs.rows.Named.{AreNamed}
 use Rattle.lert_levels.specs.rows.Rows.{directory_text}
@@ -9,6 +8,5 @@ use Rattle.lert_levels.proofs.rows.named.restore_rows.Given as goal
 abbrev pub invariant-loop-lower : goal.invariant-loop-lower
 invariant-loop-lower l = record {
   place : (named : List (List BinAt)) → AreNamed l.settings l.n0 l.directory named → l.at ≡ length (directory_text (take l.lower named));
-  done : (named : List (List BinAt)) → AreNamed l.settings l.n0 l.directory named → (k : ℕ) (d : _) → k < l.lower → (get_or l.rows k d).items ≡ get_or named k [];
-  roomy : All (λ row. l.settings.bins < vec_capacity row) l.rows;
+  done : (named : List (List BinAt)) → AreNamed l.settings l.n0 l.directory named → (k : ℕ) (d : List BinAt) → k < l.lower → get_or l.rows k d ≡ get_or named k d;
 }

@@ -1,12 +1,6 @@
-use Rattle.std.proofs.Common.{ap, length, arith}
+use Rattle.std.proofs.Common.{◌∙◌, ◌++◌, ◌∷◌, []}
+use Rattle.std.proofs.lemmas.List.{replicate-append-replicate}
 use Rattle.lert_levels.proofs.rows.rows.empty_rows.Goals as goal
 
-pub loop-init : goal.loop-init
-loop-init c =
-    let none = c.in_ok-rows.ensures.items in
-    let size = ap length none in
-    record {
-      len = size;
-      empty = λ k d below. absurd (omega (arith, below, size));
-      roomy = λ k d below. absurd (omega (arith, below, size));
-    }
+pub loop-preserved : goal.loop-preserved
+loop-preserved c = c.in_ok-push.ensures.items ∙ (λ i. c.loop.invariant i ++ c.in_ok-new.ensures i ∷ []) ∙ replicate-append-replicate c.loop.counter 1 []
