@@ -1,7 +1,6 @@
 -- What the merge of a flush or a scan makes, in the words of the cone's events.
-use Rattle.std.proofs.Common.{ℕ, ◌≡◌, ◌-◌, ◌<◌, ◌≤◌, List, [], length, map, take, get_or, ap, ◌∙◌, arith, subst, slice_range, sum_by, Result}
+use Rattle.std.proofs.Common.{ℕ, ◌≡◌, ◌-◌, ◌<◌, ◌≤◌, List, [], length, map, take, get_or, ap, ◌∙◌, arith, subst, slice_range, sum_by}
 use Rattle.std.proofs.Common.{length-take}
-use Rattle.std.specs.Prelude.{Ok, Err, IfOk, IfErr, MatchResult}
 use Rattle.std.proofs.lemmas.List.{length-map, get_or-map}
 use Rattle.std.proofs.lemmas.List.FromFn.{get_or-map-range_with_len, length-map-range_with_len}
 use Rattle.lert_frames.specs.Place.{tail_limit}
@@ -23,10 +22,6 @@ use Rattle.lert_levels.specs.rows.Rows.{IsAt, AreRows, tallied_in}
 use Rattle.lert_levels.proofs.ArrivalLaws.{tables_from_bins, part_holds}
 use Rattle.lert_levels.proofs.rows.CoverLaws.{flush_totals, scan_totals}
 use Rattle.lert_levels.proofs.HoldLaws.{rows_stand}
-
-pub matched : {T E : Type 0} (P : T → Type 0) (Q : E → Type 0) (result : Result T E) → IfOk result P → IfErr result Q → MatchResult result P Q
-matched P Q (Ok value) ok err = ok
-matched P Q (Err error) ok err = err
 
 -- how often a tail stands in some lists
 abbrev count_in : List (List Piece) → ℕ → ℕ
@@ -93,12 +88,6 @@ module _ (s : Numbers) (valid : IsValid s) (m : ℕ) (first : 1 ≤ m) (fits : m
   pub made_taken : (file events : List ℕ) → frames file → AreRows s rows → AreEvents (record { settings = s; rows = rows }) m young events file →
       took (tallied s (slice_range events (lookback s m) m))
   made_taken file events here are of = subst took (made_totals file events here are of) is.taken
-
--- the same merge by other words for how deep it goes and for its parts
-pub made_turned : (s : Numbers) (young : List Bin) (rows : List (List BinAt)) (low deep : ℕ) (parts others : List Part) (took : List Piece → Type 0) (frames : List ℕ → Type 0)
-    (made : List (List Piece)) → low ≡ deep → parts ≡ others → IsMade s young (take low rows) parts took frames made → IsMade s young (take deep rows) others took frames made
-made_turned s young rows low deep parts others took frames made deep_is others_are is =
-    subst (λ (ps : List Part). IsMade s young (take deep rows) ps took frames made) others_are (subst (λ (d : ℕ). IsMade s young (take d rows) parts took frames made) deep_is is)
 
 -- ---- a scan
 

@@ -1,5 +1,5 @@
 -- The rows that a flush reaches, and what an answer says of their frames.
-use Rattle.std.proofs.Common.{ℕ, ◌≡◌, ◌+◌, ◌-◌, ◌<◌, ◌≤◌, List, [], length, take, get_or, Option, Some, refl, sym, ◌∙◌, arith, subst, Result, length-take}
+use Rattle.std.proofs.Common.{ℕ, ◌≡◌, ◌+◌, ◌-◌, ◌<◌, ◌≤◌, List, length, take, Option, Some, refl, sym, ◌∙◌, arith, subst, Result, length-take}
 use Rattle.std.specs.Prelude.{Ok, Err, IfErr, IsErrAnd, OnOk, MatchResult, IsSomeAnd}
 use Rattle.std.specs.List.{All}
 use Rattle.std.proofs.lemmas.Option.{none-some}

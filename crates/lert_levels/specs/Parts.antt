@@ -53,11 +53,6 @@ list_at lists stream = slice_index_or lists stream []
 abbrev pub part_table : List (List Piece) → Part → List Piece
 part_table lists part = sums_of (in_part [] lists part)
 
--- a part's streams are among so many
-pub record IsWithin (streams : ℕ) (part : Part) : Type 0 where
-  pub oldest : part.oldest < streams
-  pub newest : (stream : ℕ) → part.newest ≡ Some stream → stream < streams
-
 -- ---- by streams
 
 -- a stream is one of a part's

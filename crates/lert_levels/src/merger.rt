@@ -1,6 +1,6 @@
 //! The merge of one flush or scan.
 
-ghost use Rattle.std.specs.Prelude.{◌≡◌, ℕ, ◌+◌, ◌*◌, ◌-◌, ◌<◌, ◌≤◌, List, [], Err, Some, None, length, map, take, IfOk, OnOk, OnErr, IsErr, IsErrOf, slice_index_or, vec_capacity};
+ghost use Rattle.std.specs.Prelude.{◌≡◌, ℕ, ◌+◌, ◌*◌, ◌-◌, ◌<◌, ◌≤◌, List, [], Err, Some, None, length, map, take, IfOk, OnOk, OnErr, IsErr, IsErrOf, vec_capacity};
 ghost use Rattle.lert_bay.specs.declared.bay.TheConstants.{FRAMES};
 ghost use Rattle.lert_bay.specs.Files.{IfTold};
 ghost use Rattle.lert_bay.specs.Kept.{KeepsBay, OnlyReads};

@@ -1,6 +1,6 @@
 //! Which bins make up the new ones of a flush.
 
-ghost use Rattle.std.specs.Prelude.{◌≡◌, ℕ, ◌+◌, ◌*◌, ◌-◌, ◌<◌, ◌≤◌, ◌++◌, [], Some, None, length, map, replicate, IfSome, slice_index_or, vec_capacity};
+ghost use Rattle.std.specs.Prelude.{◌≡◌, ◌+◌, ◌*◌, ◌-◌, ◌<◌, ◌≤◌, ◌++◌, Some, None, length, replicate, IfSome, vec_capacity};
 ghost use Rattle.lert_spec.specs.Edges.{capacity};
 ghost use Rattle.lert_levels.specs.Parts.{newest_stream, set_two, streams_to, HaveParts, ArePartsOf};
 ghost use Rattle.lert_levels.specs.rows.Rows.{AreFirst};

@@ -1,6 +1,6 @@
 //! The streams of a flush: level 0 and some of the levels on disk.
 
-ghost use Rattle.std.specs.Prelude.{◌≡◌, ℕ, ◌+◌, ◌*◌, ◌<◌, ◌≤◌, ◌++◌, List, [], ◌∷◌, length, map, slice_index_or};
+ghost use Rattle.std.specs.Prelude.{◌≡◌, ℕ, ◌+◌, ◌*◌, ◌<◌, ◌≤◌, ◌++◌, List, [], ◌∷◌, length, map};
 ghost use Rattle.lert_levels.specs.rows.Rows.{IsRow, AreFirst};
 ghost use Rattle.lert_levels.specs.Sources.{Source, of_bin, placed, placed_at, AreBegun};
 

@@ -1,8 +1,8 @@
 -- Worked examples of sums, computed.
-use Rattle.std.proofs.Common.{◌≡◌, ◌<◌, ℕ, zero, suc, List, [], ◌∷◌, Some, None, get_or, refl, lit<, arith}
+use Rattle.std.proofs.Common.{◌≡◌, ℕ, List, [], ◌∷◌, Some, None, refl}
 use Rattle.lert_spec.specs.declared.piece.Piece.{Piece}
 use Rattle.lert_levels.specs.landing.Whole.{whole}
-use Rattle.lert_levels.specs.landing.Summed.{sums, sums_of, tally, ComeFrom}
+use Rattle.lert_levels.specs.landing.Summed.{sums, sums_of, tally}
 
 abbrev of : ℕ → ℕ → Piece
 of tail count = record { tail = tail; count = count }
@@ -28,15 +28,3 @@ same_sums = refl
 
 five : tally 5 order ≡ 4
 five = refl
-
-abbrev both_empty : List (List Piece)
-both_empty = [] ∷ [] ∷ []
-
--- two lists of one tail, of which the second one's piece comes first
-two : ComeFrom ((of 1 2 ∷ []) ∷ (of 1 1 ∷ []) ∷ []) (of 1 1 ∷ of 1 2 ∷ [])
-two = (1, [], lit< tt, refl, (0, [], lit< tt, refl, over))
-  where
-    over : (k : ℕ) → k < 2 → get_or both_empty k [] ≡ []
-    over zero below = refl
-    over (suc zero) below = refl
-    over (suc (suc k)) below = absurd (omega arith)

@@ -28,6 +28,10 @@ use Rattle.lert_levels.proofs.landing.SumLaws.{last_up_to, last_fits, table_belo
 
 -- ---- what is taken
 
+-- what stands of a landing's fields
+abbrev pub Taking : FrameWriter → ℕ → Sum → Type 0
+Taking w frame sum = record { taking : IsTaking w frame sum; given : AreGiven (tail_limit w.settings) (whole w.put sum) }
+
 -- a table with one piece more, whose counts are few in all
 pub given_plus : (s : Numbers) (level : ℕ) (pieces : List Piece) (tail n : ℕ) → IsValid s → level ≤ s.levels → AreGiven (tail_limit s) pieces → tail < tail_limit s → 1 ≤ n →
     total pieces + n ≤ span s level → AreGiven (tail_limit s) (plus pieces tail n)
@@ -61,19 +65,18 @@ module _ (l : Landing) (piece : Piece) (can : CanTake l piece) where
 
   -- it is taken once the writer and the sum have the table with it
   module _ (w : FrameWriter) (sum : Sum) (settings : w.settings ≡ l.writer.settings) (level : w.level ≡ l.writer.level) (all_is : whole w.put sum ≡ plus (taken l) piece.tail piece.count) where
-    pub taking_after : w.frame ≡ l.writer.frame → IsSomeAnd sum.last (λ (p : Piece). p.tail ≡ piece.tail) → IsTaking w l.frame sum
+    pub taking_after : w.frame ≡ l.writer.frame → IsSomeAnd sum.last (λ (p : Piece). p.tail ≡ piece.tail) → Taking w l.frame sum
     taking_after frame last = record {
-      frame_is = frame ∙ l.taking.frame_is;
-      begun = λ none. absurd (never_none piece.tail sum.last last none);
-      fits =
-          let wide : span w.settings w.level ≡ span l.writer.settings l.writer.level = λ i. span (settings i) (level i) in
-          omega (arith, wide, ap total all_is, plus_fits);
+      taking = record {
+        frame_is = frame ∙ l.taking.frame_is;
+        begun = λ none. absurd (never_none piece.tail sum.last last none);
+        fits =
+            let wide : span w.settings w.level ≡ span l.writer.settings l.writer.level = λ i. span (settings i) (level i) in
+            omega (arith, wide, ap total all_is, plus_fits);
+      };
+      given = subst (λ (s : Numbers). AreGiven (tail_limit s) (whole w.put sum)) (sym settings)
+          (subst (AreGiven (tail_limit l.writer.settings)) (sym all_is) plus_given);
     }
-
-    pub given_after : AreGiven (tail_limit w.settings) (whole w.put sum)
-    given_after =
-        subst (λ (s : Numbers). AreGiven (tail_limit s) (whole w.put sum)) (sym settings)
-        (subst (AreGiven (tail_limit l.writer.settings)) (sym all_is) plus_given)
 
 -- a sum that is finished can be put
 module _ (l : Landing) (p : Piece) (last_is : l.sum.last ≡ Some p) where
@@ -92,11 +95,11 @@ module _ (w : FrameWriter) (sum : Sum) (put : w.put ≡ []) (last : sum.last ≡
   pub taken_none : whole w.put sum ≡ []
   taken_none = ap (λ (front : List Piece). front ++ option_to_list sum.last) put ∙ ap (λ (o : Option Piece). option_to_list o) last
 
-  pub taking_none : (frame : ℕ) → w.frame ≡ frame → IsTaking w frame sum
-  taking_none frame frame_is = record { frame_is = frame_is; begun = λ _. put; fits = omega (arith, ap total taken_none) }
-
-  pub given_anew : AreGiven (tail_limit w.settings) (whole w.put sum)
-  given_anew = given_none (tail_limit w.settings) w.put (option_to_list sum.last) put (ap (λ (o : Option Piece). option_to_list o) last)
+  pub taking_anew : (frame : ℕ) → w.frame ≡ frame → Taking w frame sum
+  taking_anew frame frame_is = record {
+    taking = record { frame_is = frame_is; begun = λ _. put; fits = omega (arith, ap total taken_none) };
+    given = given_none (tail_limit w.settings) w.put (option_to_list sum.last) put (ap (λ (o : Option Piece). option_to_list o) last);
+  }
 
 -- a landing's frame is one of those of its level
 pub frame_stands : (l : Landing) (w : FrameWriter) → w.settings ≡ l.writer.settings → l.frame ≤ w.settings.bins

@@ -5,11 +5,11 @@ use Rattle.std.proofs.lemmas.List.{get_or-set_same, get_or-set_other, get_or_def
 use Rattle.lert_bay.specs.declared.bay.TheConstants.{FRAMES}
 use Rattle.lert_bay.specs.Files.{Files, IfTold}
 use Rattle.lert_bay.specs.Kept.{Bays, KeepsBay}
-use Rattle.lert_bay.proofs.KeptLaws.{IsLawful, keeps_none, keeps_on, keeps_as}
+use Rattle.lert_bay.proofs.KeptLaws.{IsLawful, keeps_on, keeps_as}
 use Rattle.lert_frames.specs.Frame.{HoldsFrame}
 use Rattle.lert_frames.proofs.WriteLaws.{turns_back}
 use Rattle.lert_levels.specs.rows.Landing.{IsApart, LeavesRest, KeepsRest}
-use Rattle.lert_levels.proofs.rows.LandLaws.{rest_none, rest_on, rest_fewer}
+use Rattle.lert_levels.proofs.rows.LandLaws.{rest_on, rest_fewer}
 use Rattle.lert_spec.specs.declared.numbers.Numbers.{Numbers}
 use Rattle.lert_levels.specs.declared.landing.landing.Landing.{Landing}
 use Rattle.lert_levels.specs.landing.Landed.{taken, IsLanding, IsLandingOf, SameLanding, Lands}
@@ -84,21 +84,6 @@ pub record AreEnding {B : Type 0} (bays : Bays B) (landings now : List Landing) 
       IfTold (bays.files before) (λ seen. AreLanding landings (seen FRAMES) → IfTold (bays.files after) (λ later. AreHalfLanded s landings count (later FRAMES)))
   pub rest : KeepsRest bays (IsOutside landings) before after
   pub kept : KeepsBay bays before after ⊥
-
--- none yet
-pub ending_none : {B : Type 0} (bays : Bays B) → IsLawful bays → (landings : List Landing) (bay : B) → AreEnding bays landings landings 0 bay bay
-ending_none bays lawful landings bay = record {
-  len = refl;
-  homes = refl;
-  left = λ k d past. refl;
-  stand = λ s are seen told landing later told_later. (
-      let both : Some seen ≡ Some later = sym told ∙ told_later in
-      let same : seen ≡ later = cc in
-      subst (λ (files : Files). AreHalfLanded s landings 0 (files FRAMES)) same
-      (record { landed = λ k d below. absurd (omega (arith, below)); landing = λ k d past below. landing k d below }));
-  rest = rest_none bays lawful (IsOutside landings) bay;
-  kept = keeps_none bays lawful bay ⊥ (λ none. none);
-}
 
 -- one landing more ends
 module _ (s : Numbers) (landings : List Landing) (are : AreLandings s landings) (i : ℕ) (l : Landing) (below : i < length landings) (l_is : l ≡ get_or landings i l) where

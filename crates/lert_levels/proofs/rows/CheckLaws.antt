@@ -4,7 +4,7 @@ use Rattle.std.proofs.Common.{ap₂, sym, ◌∙◌, ◌⊎◌, arith, inl, inr,
 use Rattle.std.specs.Prelude.{Ok, Err, IfErr, IsErrAnd}
 use Rattle.std.specs.List.{All}
 use Rattle.std.proofs.Math.Seq.{drop-cons}
-use Rattle.std.proofs.lemmas.List.{map-append, map_more, append_assoc, take-append-drop, take_more, length-map}
+use Rattle.std.proofs.lemmas.List.{map-append, map_more, append_assoc, take-append-drop, take_more}
 use Rattle.std.proofs.lemmas.List.Elements.{All-head, All-tail}
 use Rattle.std.proofs.lemmas.Option.{none-some}
 use Rattle.lert_base.specs.declared.pieces.PieceFault.{PieceFault}

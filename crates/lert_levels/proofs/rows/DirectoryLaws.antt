@@ -1,5 +1,5 @@
 -- How long a directory is.
-use Rattle.std.proofs.Common.{ℕ, ◌≡◌, ◌+◌, ◌<◌, ◌≤◌, List, ◌∷◌, length, map, take, get_or, ap, ap₂, sym, ◌∙◌, arith, flat_map, [], ◌++◌, append-nil}
+use Rattle.std.proofs.Common.{ℕ, ◌≡◌, ◌+◌, ◌<◌, ◌≤◌, List, ◌∷◌, length, map, take, get_or, ap, ap₂, sym, ◌∙◌, arith, [], ◌++◌, append-nil}
 use Rattle.std.proofs.lemmas.List.{length-map, take_more, map-append, append_assoc, length-append, length-take-le}
 use Rattle.std.proofs.lemmas.Grind.{flat_map-append}
 use Rattle.std.proofs.lemmas.List.Concat.{length-flat_map}

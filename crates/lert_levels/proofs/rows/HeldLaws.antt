@@ -1,6 +1,5 @@
 -- After a check that found each frame whole: what the frames hold, by the bin alone.
-use Rattle.std.proofs.Common.{ℕ, ◌≡◌, ◌+◌, ◌-◌, ◌/◌, ◌<◌, ◌≤◌, zero, suc, cond, List, [], length, map, get_or, ap, sym, ◌∙◌, arith, inl, inr, subst, Result}
-use Rattle.std.specs.Prelude.{Ok, Err, OnOk}
+use Rattle.std.proofs.Common.{ℕ, ◌≡◌, ◌+◌, ◌-◌, ◌/◌, ◌<◌, ◌≤◌, zero, suc, cond, List, [], length, map, get_or, ap, sym, ◌∙◌, arith, inl, inr, subst}
 use Rattle.std.specs.List.{All, range_with_len}
 use Rattle.std.proofs.lemmas.Bool.{cases_lt, lt-ltb, le-ltb}
 use Rattle.std.proofs.lemmas.List.{length-map, get_or-map}
@@ -17,11 +16,6 @@ use Rattle.lert_levels.specs.rows.Rows.{range_of, IsAt}
 use Rattle.lert_levels.proofs.rows.NamedLaws.{ranges_run}
 use Rattle.lert_levels.proofs.rows.RangeLaws.{IsCut, cuts_are}
 use Rattle.lert_levels.proofs.rows.RowLaws.{All-ranges}
-
--- what follows after Ok
-pub on_ok : {T E : Type 0} (result : Result T E) (P Q : Type 0) → (P → Q) → OnOk result P → OnOk result Q
-on_ok (Ok x) P Q turn is = turn is
-on_ok (Err fault) P Q turn is = tt
 
 module _ (s : Numbers) (base : 1 ≤ s.base) (ratio : 1 ≤ s.ratio) (n : ℕ) where
   level_is : (top below to : ℕ) → below < top → edge s (suc below) n < to → to ≤ edge s below n → level_of s n top to ≡ suc below

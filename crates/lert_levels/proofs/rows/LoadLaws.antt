@@ -7,6 +7,7 @@ use Rattle.std.proofs.lemmas.List.{get_or-map, length-map, take-map}
 use Rattle.std.proofs.lemmas.List.Elements.{All-take}
 use Rattle.lert_spec.specs.declared.piece.Piece.{Piece}
 use Rattle.lert_spec.specs.Table.{total}
+use Rattle.lert_base.specs.declared.count_table.CountTable.{Ghosts as TablesOf}
 use Rattle.lert_spec.specs.declared.numbers.Numbers.{Numbers}
 use Rattle.lert_spec.specs.Bins.{Bin}
 use Rattle.lert_spec.specs.Edges.{span}
@@ -48,88 +49,78 @@ bins_of-few wide from to (p ∷ tables) = elim (cases_lt from to) [
 ]
 
 -- how many tables are in use
-pub record IsUsed {T : Type 0} (pieces : T → List Piece) (room quotient remainder : T → ℕ) (s : Numbers) (tables all : List T) (from to : ℕ) (young : Young) (count : ℕ) : Type 0
+pub record IsUsed {T C : Type 0} (of : TablesOf T C) (s : Numbers) (tables all : List T) (from to : ℕ) (young : Young) (count : ℕ) : Type 0
   where
-    pub filled : AreFilled pieces room quotient remainder s all from to
-    pub seen : record { settings = s; from = from; to = to; bins = bins_of (span s 0) from to (map pieces all) } ≡ young
+    pub filled : AreFilled of s all from to
+    pub seen : record { settings = s; from = from; to = to; bins = bins_of (span s 0) from to (map of.pieces all) } ≡ young
     pub same : tables ≡ all
     pub covers : to ≤ from + count * span s 0
     pub few : count * span s 0 < (to - from) + span s 0
 
-pub used_within : {T : Type 0} {pieces : T → List Piece} {room quotient remainder : T → ℕ} {s : Numbers} {tables all : List T} {from to : ℕ} {young : Young} {count : ℕ} →
-    IsUsed pieces room quotient remainder s tables all from to young count → count ≤ length tables
-used_within {T} {pieces} {room} {quotient} {remainder} {s} {tables} {all} {from} {to} {young} {count} used =
-    let few = used.few in
-    let within = used.filled.within in
-    let len : length tables ≡ s.bins = ap length used.same ∙ used.filled.len in
-    elim (cases_lt s.bins count) [
-      | inl more ↦ absurd (let products = mul-le-mul_right (span s 0) (let next : suc s.bins ≤ count = more in next) in let step = suc-mul s.bins (span s 0) in omega arith)
-      | inr few ↦ omega arith
-    ]
+module _ {T C : Type 0} {of : TablesOf T C} {s : Numbers} {tables all : List T} {from to : ℕ} {young : Young} {count : ℕ} (used : IsUsed of s tables all from to young count) where
+  pub used_within : count ≤ length tables
+  used_within =
+      let few = used.few in
+      let within = used.filled.within in
+      let len : length tables ≡ s.bins = ap length used.same ∙ used.filled.len in
+      elim (cases_lt s.bins count) [
+        | inl more ↦ absurd (let products = mul-le-mul_right (span s 0) (let next : suc s.bins ≤ count = more in next) in let step = suc-mul s.bins (span s 0) in omega arith)
+        | inr few ↦ omega arith
+      ]
 
-pub used_are : {T : Type 0} {pieces : T → List Piece} {room quotient remainder : T → ℕ} {s : Numbers} {tables all : List T} {from to : ℕ} {young : Young} {count : ℕ} →
-    IsUsed pieces room quotient remainder s tables all from to young count → map pieces (take count tables) ≡ map (λ (bin : Bin). bin.pieces) young.bins
-used_are {T} {pieces} {room} {quotient} {remainder} {s} {tables} {all} {from} {to} {young} {count} used =
-    sym (take-map pieces count tables)
-    ∙ ap (λ (ts : List T). take count (map pieces ts)) used.same
-    ∙ used_pieces (span s 0) from to count (map pieces all) used.covers used.few
-    ∙ ap (λ (y : Young). map (λ (bin : Bin). bin.pieces) y.bins) used.seen
+  pub used_are : map of.pieces (take count tables) ≡ map (λ (bin : Bin). bin.pieces) young.bins
+  used_are =
+      sym (take-map of.pieces count tables)
+      ∙ ap (λ (ts : List T). take count (map of.pieces ts)) used.same
+      ∙ used_pieces (span s 0) from to count (map of.pieces all) used.covers used.few
+      ∙ ap (λ (y : Young). map (λ (bin : Bin). bin.pieces) y.bins) used.seen
 
-pub used_rooms : {T : Type 0} {pieces : T → List Piece} {room quotient remainder : T → ℕ} {s : Numbers} {tables all : List T} {from to : ℕ} {young : Young} {count : ℕ} →
-    IsUsed pieces room quotient remainder s tables all from to young count →
-    All (λ table. (room table ≤ 2 ^ 47) × (quotient table + remainder table ≡ 64 - young.settings.cone_bits)) (take count tables)
-used_rooms {T} {pieces} {room} {quotient} {remainder} {s} {tables} {all} {from} {to} {young} {count} used =
-    subst (λ (y : Young). All (λ table. (room table ≤ 2 ^ 47) × (quotient table + remainder table ≡ 64 - y.settings.cone_bits)) (take count tables)) used.seen
-    (All-take (λ table. (room table ≤ 2 ^ 47) × (quotient table + remainder table ≡ 64 - s.cone_bits)) count tables
-    (subst (All (λ table. (room table ≤ 2 ^ 47) × (quotient table + remainder table ≡ 64 - s.cone_bits))) (sym used.same)
-    (λ k d below. let numbers = (used.filled.each k d below).of_zero in
-    (omega (arith, numbers.events, width_within s used.filled.valid), bits_of_zero s used.filled.valid numbers))))
+  pub used_rooms : All (λ table. (of.room table ≤ 2 ^ 47) × (of.quotient_bits table + of.width table ≡ 64 - young.settings.cone_bits)) (take count tables)
+  used_rooms =
+      subst (λ (y : Young). All (λ table. (of.room table ≤ 2 ^ 47) × (of.quotient_bits table + of.width table ≡ 64 - y.settings.cone_bits)) (take count tables)) used.seen
+      (All-take (λ table. (of.room table ≤ 2 ^ 47) × (of.quotient_bits table + of.width table ≡ 64 - s.cone_bits)) count tables
+      (subst (All (λ table. (of.room table ≤ 2 ^ 47) × (of.quotient_bits table + of.width table ≡ 64 - s.cone_bits))) (sym used.same)
+      (λ k d below. let numbers = (used.filled.each k d below).of_zero in
+      (omega (arith, numbers.events, width_within s used.filled.valid), bits_of_zero s used.filled.valid numbers))))
 
-pub used_of_zero : {T : Type 0} {pieces : T → List Piece} {room quotient remainder : T → ℕ} {s : Numbers} {tables all : List T} {from to : ℕ} {young : Young} {count : ℕ} →
-    IsUsed pieces room quotient remainder s tables all from to young count →
-    All (λ table. IsOfZero young.settings (room table) (quotient table) (remainder table)) (take count tables)
-used_of_zero {T} {pieces} {room} {quotient} {remainder} {s} {tables} {all} {from} {to} {young} {count} used =
-    subst (λ (y : Young). All (λ table. IsOfZero y.settings (room table) (quotient table) (remainder table)) (take count tables)) used.seen
-    (All-take (λ table. IsOfZero s (room table) (quotient table) (remainder table)) count tables
-    (subst (All (λ table. IsOfZero s (room table) (quotient table) (remainder table))) (sym used.same) (λ k d below. (used.filled.each k d below).of_zero)))
+  pub used_of_zero : All (λ table. IsOfZero young.settings (of.room table) (of.quotient_bits table) (of.width table)) (take count tables)
+  used_of_zero =
+      subst (λ (y : Young). All (λ table. IsOfZero y.settings (of.room table) (of.quotient_bits table) (of.width table)) (take count tables)) used.seen
+      (All-take (λ table. IsOfZero s (of.room table) (of.quotient_bits table) (of.width table)) count tables
+      (subst (All (λ table. IsOfZero s (of.room table) (of.quotient_bits table) (of.width table))) (sym used.same) (λ k d below. (used.filled.each k d below).of_zero)))
 
-pub used_widths : {T : Type 0} {pieces : T → List Piece} {room quotient remainder : T → ℕ} {s : Numbers} {tables all : List T} {from to : ℕ} {young : Young} {count : ℕ} →
-    IsUsed pieces room quotient remainder s tables all from to young count → All (λ (bin : Bin). total bin.pieces ≡ bin.to - bin.from) young.bins
-used_widths {T} {pieces} {room} {quotient} {remainder} {s} {tables} {all} {from} {to} {young} {count} used =
-    subst (λ (y : Young). All (λ (bin : Bin). total bin.pieces ≡ bin.to - bin.from) y.bins) used.seen
-    (bins_of-each (λ (bin : Bin). total bin.pieces ≡ bin.to - bin.from) (span s 0) from to (map pieces all)
-    (λ k start is under within. some_width all used.filled.each k start is under (omega (arith, length-map all pieces))))
-  where
-    some_width : (all : List T) → ((k : ℕ) (d : T) → k < length all → IsFilled s from to k (pieces (get_or all k d)) (room (get_or all k d)) (quotient (get_or all k d))
-        (remainder (get_or all k d))) →
-        (k start : ℕ) → start ≡ from + k * span s 0 → start < to → k < length all → total (get_or (map pieces all) k []) ≡ min to (start + span s 0) - start
-    some_width [] each k start is under within = absurd (omega arith)
-    some_width (first ∷ rest) each k start is under within =
-        let here = each k first within in
-        ap total (get_or-map pieces (first ∷ rest) k first [] within) ∙ here.summed ∙ omega arith
+  pub used_widths : All (λ (bin : Bin). total bin.pieces ≡ bin.to - bin.from) young.bins
+  used_widths =
+      subst (λ (y : Young). All (λ (bin : Bin). total bin.pieces ≡ bin.to - bin.from) y.bins) used.seen
+      (bins_of-each (λ (bin : Bin). total bin.pieces ≡ bin.to - bin.from) (span s 0) from to (map of.pieces all)
+      (λ k start is under within. some_width all used.filled.each k start is under (omega (arith, length-map all of.pieces))))
+    where
+      some_width : (all : List T) → ((k : ℕ) (d : T) → k < length all → IsFilled of s from to k (get_or all k d)) →
+          (k start : ℕ) → start ≡ from + k * span s 0 → start < to → k < length all → total (get_or (map of.pieces all) k []) ≡ min to (start + span s 0) - start
+      some_width [] each k start is under within = absurd (omega arith)
+      some_width (first ∷ rest) each k start is under within =
+          let here = each k first within in
+          ap total (get_or-map of.pieces (first ∷ rest) k first [] within) ∙ here.summed ∙ omega arith
 
-pub used_narrow : {T : Type 0} {pieces : T → List Piece} {room quotient remainder : T → ℕ} {s : Numbers} {tables all : List T} {from to : ℕ} {young : Young} {count : ℕ} →
-    IsUsed pieces room quotient remainder s tables all from to young count → All (λ (bin : Bin). bin.to - bin.from ≤ span young.settings 0) young.bins
-used_narrow {T} {pieces} {room} {quotient} {remainder} {s} {tables} {all} {from} {to} {young} {count} used =
-    subst (λ (y : Young). All (λ (bin : Bin). bin.to - bin.from ≤ span y.settings 0) y.bins) used.seen
-    (bins_of-each (λ (bin : Bin). bin.to - bin.from ≤ span s 0) (span s 0) from to (map pieces all) (λ k start is under within. omega arith))
+  pub used_narrow : All (λ (bin : Bin). bin.to - bin.from ≤ span young.settings 0) young.bins
+  used_narrow =
+      subst (λ (y : Young). All (λ (bin : Bin). bin.to - bin.from ≤ span y.settings 0) y.bins) used.seen
+      (bins_of-each (λ (bin : Bin). bin.to - bin.from ≤ span s 0) (span s 0) from to (map of.pieces all) (λ k start is under within. omega arith))
 
-pub used_some : {T : Type 0} {pieces : T → List Piece} {room quotient remainder : T → ℕ} {s : Numbers} {tables all : List T} {from to : ℕ} {young : Young} {count : ℕ} →
-    IsUsed pieces room quotient remainder s tables all from to young count → young.from < young.to → 1 ≤ length young.bins
-used_some {T} {pieces} {room} {quotient} {remainder} {s} {tables} {all} {from} {to} {young} {count} used =
-    subst (λ (y : Young). y.from < y.to → 1 ≤ length y.bins) used.seen
-    (λ under. bins_of-length (span s 0) from to (map pieces all) under (omega (arith, length-map all pieces, used.filled.len, used.filled.valid.limits.bins_from)))
+  pub used_some : young.from < young.to → 1 ≤ length young.bins
+  used_some =
+      subst (λ (y : Young). y.from < y.to → 1 ≤ length y.bins) used.seen
+      (λ under. bins_of-length (span s 0) from to (map of.pieces all) under (omega (arith, length-map all of.pieces, used.filled.len, used.filled.valid.limits.bins_from)))
 
-pub used_few : {T : Type 0} {pieces : T → List Piece} {room quotient remainder : T → ℕ} {s : Numbers} {tables all : List T} {from to : ℕ} {young : Young} {count : ℕ} →
-    IsUsed pieces room quotient remainder s tables all from to young count → length young.bins ≤ young.settings.bins
-used_few {T} {pieces} {room} {quotient} {remainder} {s} {tables} {all} {from} {to} {young} {count} used =
-    subst (λ (y : Young). length y.bins ≤ y.settings.bins) used.seen
-    (omega (arith, bins_of-few (span s 0) from to (map pieces all), length-map all pieces, used.filled.len))
+  pub used_few : length young.bins ≤ young.settings.bins
+  used_few =
+      subst (λ (y : Young). length y.bins ≤ y.settings.bins) used.seen
+      (omega (arith, bins_of-few (span s 0) from to (map of.pieces all), length-map all of.pieces, used.filled.len))
 
-pub used : {T : Type 0} (pieces : T → List Piece) (room quotient remainder : T → ℕ) {s : Numbers} {tables all : List T} {from to : ℕ} {young : Young} {count end : ℕ} →
-    AreFilled pieces room quotient remainder s all from to → record { settings = s; from = from; to = to; bins = bins_of (span s 0) from to (map pieces all) } ≡ young → tables ≡ all →
-    AreNumbered s from to count end → IsUsed pieces room quotient remainder s tables all from to young count
-used pieces room quotient remainder filled seen same numbered =
+pub used : {T C : Type 0} (of : TablesOf T C) {s : Numbers} {tables all : List T} {from to : ℕ} {young : Young} {count end : ℕ} →
+    AreFilled of s all from to → record { settings = s; from = from; to = to; bins = bins_of (span s 0) from to (map of.pieces all) } ≡ young → tables ≡ all →
+    AreNumbered s from to count end → IsUsed of s tables all from to young count
+used of filled seen same numbered =
     record {
       filled = filled;
       seen = seen;

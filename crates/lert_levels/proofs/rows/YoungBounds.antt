@@ -8,6 +8,7 @@ use Rattle.std.proofs.lemmas.Bool.Decides.{nat_tests}
 use Rattle.std.proofs.lemmas.List.Sums.{sum_by-cons, sum_by_push, sum_by-set, sum_by-take-drop, sum_by-take-le}
 use Rattle.lert_levels.specs.declared.bound.pair.Pair.{Pair}
 use Rattle.lert_levels.specs.bound.Covers.{CoversCounts}
+use Rattle.lert_base.specs.declared.count_table.CountTable.{Ghosts as TablesOf}
 use Rattle.lert_spec.specs.declared.numbers.Numbers.{Numbers}
 use Rattle.lert_spec.specs.declared.piece.Piece.{Piece}
 use Rattle.lert_spec.specs.Bins.{Bin}
@@ -95,36 +96,36 @@ module _ {T : Type 0} (pieces : T → List Piece) where
 
 -- ---- no event yet
 
-pub empty_bounded : {T : Type 0} (pieces : T → List Piece) (room quotient remainder : T → ℕ) (s : Numbers) (tables : List T) (count : ℕ) (pairs : List Pair) →
-    AreEmpty pieces room quotient remainder s tables count → CoversCounts pairs (λ _. 0) (λ _. 0) → AreBounded pieces s tables 0 0 pairs 0
-empty_bounded pieces room quotient remainder s tables count pairs empty covers = record {
+pub empty_bounded : {T C : Type 0} (of : TablesOf T C) (s : Numbers) (tables : List T) (count : ℕ) (pairs : List Pair) →
+    AreEmpty of s tables count → CoversCounts pairs (λ _. 0) (λ _. 0) → AreBounded of.pieces s tables 0 0 pairs 0
+empty_bounded of s tables count pairs empty covers = record {
   full = omega arith;
-  covers = covers_fewer pairs (λ _. 0) (λ _. 0) (times_in pieces (take 0 tables)) (times_in pieces (drop 0 tables)) covers
+  covers = covers_fewer pairs (λ _. 0) (λ _. 0) (times_in of.pieces (take 0 tables)) (times_in of.pieces (drop 0 tables)) covers
       (λ tail. omega arith)
-      (λ tail. omega (arith, none_behind pieces 0 tables tail (λ k d low below. (empty.each k d below).unused (omega arith))));
+      (λ tail. omega (arith, none_behind of.pieces 0 tables tail (λ k d low below. (empty.each k d below).unused (omega arith))));
 }
 
 -- ---- one more event
 
-pub added_bounded : {T : Type 0} {pieces : T → List Piece} {room quotient remainder : T → ℕ} {s : Numbers} {tables : List T} {from to : ℕ} {young : Young} {m begin wide at : ℕ} →
-    Adds pieces room quotient remainder s tables from to young m begin wide at → (old new : T) (tail : ℕ) → old ≡ get_or tables at old → pieces new ≡ plus (pieces old) tail 1 →
-    (pairs pairs' : List Pair) (earlier : ℕ) → AreBounded pieces s tables from to pairs earlier →
+pub added_bounded : {T C : Type 0} {of : TablesOf T C} {s : Numbers} {tables : List T} {from to : ℕ} {young : Young} {m begin wide at : ℕ} →
+    Adds of s tables from to young m begin wide at → (old new : T) (tail : ℕ) → old ≡ get_or tables at old → of.pieces new ≡ plus (of.pieces old) tail 1 →
+    (pairs pairs' : List Pair) (earlier : ℕ) → AreBounded of.pieces s tables from to pairs earlier →
     ((before present : ℕ → ℕ) → CoversCounts pairs before present → CoversCounts pairs' before (λ other. present other + cond (eqb other tail) 1 0)) →
-    AreBounded pieces s (set tables at new) begin m pairs' earlier
-added_bounded {T} {pieces} {room} {quotient} {remainder} {s} {tables} {from} {to} {young} {m} {begin} {wide} {at} adds old new tail is pieces_are pairs pairs' earlier bounded more =
+    AreBounded of.pieces s (set tables at new) begin m pairs' earlier
+added_bounded {T} {C} {of} {s} {tables} {from} {to} {young} {m} {begin} {wide} {at} adds old new tail is pieces_are pairs pairs' earlier bounded more =
     let behind = add_behind adds earlier bounded.full in
-    let first : ℕ → ℕ = times_in pieces (take earlier tables) in
-    let others : ℕ → ℕ = times_in pieces (drop earlier tables) in
+    let first : ℕ → ℕ = times_in of.pieces (take earlier tables) in
+    let others : ℕ → ℕ = times_in of.pieces (drop earlier tables) in
     record {
       full = behind.1;
       covers = covers_fewer pairs' first (λ other. others other + cond {A = ℕ} (eqb other tail) 1 0)
-          (times_in pieces (take earlier (set tables at new))) (times_in pieces (drop earlier (set tables at new)))
+          (times_in of.pieces (take earlier (set tables at new))) (times_in of.pieces (drop earlier (set tables at new)))
           (more first others bounded.covers)
-          (λ other. omega (arith, ap (λ ts. times_in pieces ts other) (take-set_behind earlier at tables new behind.0)))
+          (λ other. omega (arith, ap (λ ts. times_in of.pieces ts other) (take-set_behind earlier at tables new behind.0)))
           (λ other.
-          let one : count_of (pieces new) other ≤ count_of (pieces old) other + cond {A = ℕ} (eqb other tail) 1 0 =
-          subst (λ ps. count_of ps other ≤ count_of (pieces old) other + cond {A = ℕ} (eqb other tail) 1 0) (sym pieces_are) (count_of-plus_le (pieces old) tail other) in
-          times_in-set pieces earlier at tables old new other (cond {A = ℕ} (eqb other tail) 1 0) behind.0 (add_place adds) is one);
+          let one : count_of (of.pieces new) other ≤ count_of (of.pieces old) other + cond {A = ℕ} (eqb other tail) 1 0 =
+          subst (λ ps. count_of ps other ≤ count_of (of.pieces old) other + cond {A = ℕ} (eqb other tail) 1 0) (sym pieces_are) (count_of-plus_le (of.pieces old) tail other) in
+          times_in-set of.pieces earlier at tables old new other (cond {A = ℕ} (eqb other tail) 1 0) behind.0 (add_place adds) is one);
     }
 
 -- ---- the oldest bin dropped
@@ -198,45 +199,45 @@ module _ {T : Type 0} (pieces : T → List Piece) (s : Numbers) (first new : T) 
     ]
   ]
 
-drop_bounded : {T : Type 0} (pieces : T → List Piece) (room quotient remainder : T → ℕ) (tables : List T) {s : Numbers} {from to wide : ℕ}
+drop_bounded : {T C : Type 0} (of : TablesOf T C) (tables : List T) {s : Numbers} {from to wide : ℕ}
     (new : T) (pairs pairs' : List Pair) (earlier count : ℕ) →
-    1 ≤ length tables → wide ≡ span s 0 → 1 ≤ wide → from + wide ≤ to → pieces new ≡ [] → AreBounded pieces s tables from to pairs earlier →
-    AreFilled pieces room quotient remainder s (drop 1 (set tables 0 new) ++ take 1 (set tables 0 new)) (from + wide) to →
+    1 ≤ length tables → wide ≡ span s 0 → 1 ≤ wide → from + wide ≤ to → of.pieces new ≡ [] → AreBounded of.pieces s tables from to pairs earlier →
+    AreFilled of s (drop 1 (set tables 0 new) ++ take 1 (set tables 0 new)) (from + wide) to →
     (1 < earlier → (pairs' ≡ pairs) × (count ≡ earlier - 1)) →
     (earlier ≤ 1 → (to - (from + wide)) % wide ≢ 0 → (pairs' ≡ pairs) × (count ≡ 0)) →
     (earlier ≤ 1 → (to - (from + wide)) % wide ≡ 0 → (count ≡ (to - (from + wide)) / wide)
     × ((before present : ℕ → ℕ) → CoversCounts pairs before present → CoversCounts pairs' present (λ _. 0))) →
-    AreBounded pieces s (drop 1 (set tables 0 new) ++ take 1 (set tables 0 new)) (from + wide) to pairs' count
-drop_bounded pieces room quotient remainder [] new pairs pairs' earlier count some wide_is positive whole empty bounded filled stays part none = absurd (omega arith)
-drop_bounded pieces room quotient remainder (first ∷ rest) {s} {from} {to} {wide} new pairs pairs' earlier count some wide_is positive whole empty bounded filled stays part none =
-    left_bounded pieces s first new rest from to wide pairs earlier wide_is whole empty bounded pairs' count positive stays part none
+    AreBounded of.pieces s (drop 1 (set tables 0 new) ++ take 1 (set tables 0 new)) (from + wide) to pairs' count
+drop_bounded of [] new pairs pairs' earlier count some wide_is positive whole empty bounded filled stays part none = absurd (omega arith)
+drop_bounded of (first ∷ rest) {s} {from} {to} {wide} new pairs pairs' earlier count some wide_is positive whole empty bounded filled stays part none =
+    left_bounded of.pieces s first new rest from to wide pairs earlier wide_is whole empty bounded pairs' count positive stays part none
     (λ k d below over. (filled.each k d below).unused over)
 
-pub dropped_bounded : {T : Type 0} {pieces : T → List Piece} {room quotient remainder : T → ℕ} {s : Numbers} {tables : List T} {from to : ℕ} {young : Young} {wide : ℕ} {new : T}
+pub dropped_bounded : {T C : Type 0} {of : TablesOf T C} {s : Numbers} {tables : List T} {from to : ℕ} {young : Young} {wide : ℕ} {new : T}
     {after : List T} →
-    Drops pieces room quotient remainder s tables from to young wide new after → AreFilled pieces room quotient remainder s after (from + wide) to → pieces new ≡ [] →
-    (pairs pairs' : List Pair) (earlier count : ℕ) → AreBounded pieces s tables from to pairs earlier →
+    Drops of s tables from to young wide new after → AreFilled of s after (from + wide) to → of.pieces new ≡ [] →
+    (pairs pairs' : List Pair) (earlier count : ℕ) → AreBounded of.pieces s tables from to pairs earlier →
     (1 < earlier → (pairs' ≡ pairs) × (count ≡ earlier - 1)) →
     (earlier ≤ 1 → (to - (from + wide)) % wide ≢ 0 → (pairs' ≡ pairs) × (count ≡ 0)) →
     (earlier ≤ 1 → (to - (from + wide)) % wide ≡ 0 → (count ≡ (to - (from + wide)) / wide)
     × ((before present : ℕ → ℕ) → CoversCounts pairs before present → CoversCounts pairs' present (λ _. 0))) →
-    AreBounded pieces s after (from + wide) to pairs' count
-dropped_bounded {T} {pieces} {room} {quotient} {remainder} {s} {tables} {from} {to} {young} {wide} {new} {after} drops filled empty pairs pairs' earlier count bounded stays part none =
+    AreBounded of.pieces s after (from + wide) to pairs' count
+dropped_bounded {T} {C} {of} {s} {tables} {from} {to} {young} {wide} {new} {after} drops filled empty pairs pairs' earlier count bounded stays part none =
     let fits = subst (λ (y : Young). y.from + span y.settings 0 ≤ y.to) (sym drops.seen) drops.whole in
     let wide_is = drops.wide_is in
     let some : 1 ≤ length tables = omega (arith, drops.filled.len, some_bins s drops.filled.valid) in
-    subst (λ (ts : List T). AreBounded pieces s ts (from + wide) to pairs' count) (sym drops.after_is)
-    (drop_bounded pieces room quotient remainder tables new pairs pairs' earlier count some wide_is drops.positive (omega arith) empty bounded
-    (subst (λ (ts : List T). AreFilled pieces room quotient remainder s ts (from + wide) to) drops.after_is filled) stays part none)
+    subst (λ (ts : List T). AreBounded of.pieces s ts (from + wide) to pairs' count) (sym drops.after_is)
+    (drop_bounded of tables new pairs pairs' earlier count some wide_is drops.positive (omega arith) empty bounded
+    (subst (λ (ts : List T). AreFilled of s ts (from + wide) to) drops.after_is filled) stays part none)
 
 -- ---- a tail that the bound refuses
 
-pub fewer_in_bins : {T : Type 0} (pieces : T → List Piece) (room quotient remainder : T → ℕ) {s : Numbers} {tables : List T} {from to : ℕ} {young : Young} →
-    AreFilled pieces room quotient remainder s tables from to → record { settings = s; from = from; to = to; bins = bins_of (span s 0) from to (map pieces tables) } ≡ young →
-    (earlier tail count : ℕ) → times_in pieces (take earlier tables) tail + times_in pieces (drop earlier tables) tail < count →
+pub fewer_in_bins : {T C : Type 0} (of : TablesOf T C) {s : Numbers} {tables : List T} {from to : ℕ} {young : Young} →
+    AreFilled of s tables from to → record { settings = s; from = from; to = to; bins = bins_of (span s 0) from to (map of.pieces tables) } ≡ young →
+    (earlier tail count : ℕ) → times_in of.pieces (take earlier tables) tail + times_in of.pieces (drop earlier tables) tail < count →
     sum_by (λ bin. count_of bin.pieces tail) young.bins < count
-fewer_in_bins {T} pieces room quotient remainder {s} {tables} {from} {to} {young} filled seen earlier tail count fewer =
-    let all : sum_by (λ (bin : Bin). count_of bin.pieces tail) young.bins ≡ times_in pieces tables tail =
+fewer_in_bins {T} {C} of {s} {tables} {from} {to} {young} filled seen earlier tail count fewer =
+    let all : sum_by (λ (bin : Bin). count_of bin.pieces tail) young.bins ≡ times_in of.pieces tables tail =
     ap (λ (y : Young). sum_by (λ (bin : Bin). count_of bin.pieces tail) y.bins) (sym seen)
-    ∙ counts_are pieces tail (span s 0) from to tables (λ k d below behind. (filled.each k d below).unused behind) in
-    omega (arith, all, sum_by-take-drop (λ (t : T). count_of (pieces t) tail) tables earlier, fewer)
+    ∙ counts_are of.pieces tail (span s 0) from to tables (λ k d below behind. (filled.each k d below).unused behind) in
+    omega (arith, all, sum_by-take-drop (λ (t : T). count_of (of.pieces t) tail) tables earlier, fewer)

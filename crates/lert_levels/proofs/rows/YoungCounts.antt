@@ -4,6 +4,7 @@ use Rattle.std.proofs.Common.{inr, sum_by, take}
 use Rattle.std.proofs.Math.Nat.{suc-mul, pow-zero}
 use Rattle.std.proofs.lemmas.Bool.{cases_lt, cases_eq}
 use Rattle.std.proofs.lemmas.List.{take_all}
+use Rattle.lert_base.specs.declared.count_table.CountTable.{Ghosts as TablesOf}
 use Rattle.lert_spec.specs.declared.numbers.Numbers.{Numbers}
 use Rattle.lert_spec.specs.declared.piece.Piece.{Piece}
 use Rattle.lert_spec.specs.Bins.{Bin}
@@ -30,25 +31,25 @@ pub record IsCounted {T : Type 0} (pieces : T → List Piece) (tables : List T) 
   pub is : count ≡ sum_by (λ table. count_of (pieces table) tail) (take number tables)
   pub few : count ≤ number * 65536
 
-pub counted_more : {T : Type 0} (pieces : T → List Piece) (room quotient remainder : T → ℕ) (s : Numbers) (all tables : List T) (from to : ℕ) →
-    AreFilled pieces room quotient remainder s all from to → tables ≡ all →
-    (tail number count : ℕ) → IsCounted pieces tables tail number count → number < length tables → (table : T) → table ≡ get_or tables number table → (more : ℕ) →
-    more ≡ count_of (pieces table) tail →
-    IsCounted pieces tables tail (number + 1) (count + more)
-counted_more {T} pieces room quotient remainder s all tables from to filled same_tables tail number count counted below table is more more_is =
-    let here = (subst (λ (ts : List T). AreFilled pieces room quotient remainder s ts from to) (sym same_tables) filled).each number table below in
-    let few = count_of_le-total (pieces table) tail in
-    let same : total (pieces (get_or tables number table)) ≡ total (pieces table) = ap (λ (t : T). total (pieces t)) (sym is) in
+pub counted_more : {T C : Type 0} (of : TablesOf T C) (s : Numbers) (all tables : List T) (from to : ℕ) →
+    AreFilled of s all from to → tables ≡ all →
+    (tail number count : ℕ) → IsCounted of.pieces tables tail number count → number < length tables → (table : T) → table ≡ get_or tables number table → (more : ℕ) →
+    more ≡ count_of (of.pieces table) tail →
+    IsCounted of.pieces tables tail (number + 1) (count + more)
+counted_more {T} {C} of s all tables from to filled same_tables tail number count counted below table is more more_is =
+    let here = (subst (λ (ts : List T). AreFilled of s ts from to) (sym same_tables) filled).each number table below in
+    let few = count_of_le-total (of.pieces table) tail in
+    let same : total (of.pieces (get_or tables number table)) ≡ total (of.pieces table) = ap (λ (t : T). total (of.pieces t)) (sym is) in
     let narrow = width_within s filled.valid in
     record {
-      is = ap₂ (λ a b. a + b) counted.is (more_is ∙ ap (λ (t : T). count_of (pieces t) tail) is) ∙ sym (sum_by_more (λ (t : T). count_of (pieces t) tail) tables number table below);
+      is = ap₂ (λ a b. a + b) counted.is (more_is ∙ ap (λ (t : T). count_of (of.pieces t) tail) is) ∙ sym (sum_by_more (λ (t : T). count_of (of.pieces t) tail) tables number table below);
       few = omega (arith, counted.few, here.summed);
     }
 
-pub counted_fits : {T : Type 0} (pieces : T → List Piece) (room quotient remainder : T → ℕ) (s : Numbers) (all tables : List T) (from to : ℕ) →
-    AreFilled pieces room quotient remainder s all from to → tables ≡ all →
-    (tail number count : ℕ) → IsCounted pieces tables tail number count → number ≤ length tables → count < 2 ^ 63
-counted_fits pieces room quotient remainder s all tables from to filled same_tables tail number count counted below =
+pub counted_fits : {T C : Type 0} (of : TablesOf T C) (s : Numbers) (all tables : List T) (from to : ℕ) →
+    AreFilled of s all from to → tables ≡ all →
+    (tail number count : ℕ) → IsCounted of.pieces tables tail number count → number ≤ length tables → count < 2 ^ 63
+counted_fits of s all tables from to filled same_tables tail number count counted below =
     let len = filled.len in
     omega (arith, counted.few, filled.valid.limits.bins_to, ap length same_tables)
 
@@ -72,12 +73,12 @@ counts_are {T} pieces tail wide from to (table ∷ tables) unused =
           ap (sum_by (λ (bin : Bin). count_of bin.pieces tail)) over ∙ omega (arith, later))
     ]
 
-pub counted_all : {T : Type 0} (pieces : T → List Piece) (room quotient remainder : T → ℕ) (s : Numbers) (all tables : List T) (from to : ℕ) →
-    AreFilled pieces room quotient remainder s all from to → tables ≡ all →
-    (young : Young) → record { settings = s; from = from; to = to; bins = bins_of (span s 0) from to (map pieces all) } ≡ young →
-    (tail number count : ℕ) → IsCounted pieces tables tail number count → length tables ≤ number → count ≡ sum_by (λ bin. count_of bin.pieces tail) young.bins
-counted_all {T} pieces room quotient remainder s all tables from to filled same_tables young seen tail number count counted over =
+pub counted_all : {T C : Type 0} (of : TablesOf T C) (s : Numbers) (all tables : List T) (from to : ℕ) →
+    AreFilled of s all from to → tables ≡ all →
+    (young : Young) → record { settings = s; from = from; to = to; bins = bins_of (span s 0) from to (map of.pieces all) } ≡ young →
+    (tail number count : ℕ) → IsCounted of.pieces tables tail number count → length tables ≤ number → count ≡ sum_by (λ bin. count_of bin.pieces tail) young.bins
+counted_all {T} {C} of s all tables from to filled same_tables young seen tail number count counted over =
     counted.is
-    ∙ ap (sum_by (λ (t : T). count_of (pieces t) tail)) (take_all number tables over ∙ same_tables)
-    ∙ sym (counts_are pieces tail (span s 0) from to all (λ k d below behind. (filled.each k d below).unused behind))
+    ∙ ap (sum_by (λ (t : T). count_of (of.pieces t) tail)) (take_all number tables over ∙ same_tables)
+    ∙ sym (counts_are of.pieces tail (span s 0) from to all (λ k d below behind. (filled.each k d below).unused behind))
     ∙ ap (λ (y : Young). sum_by (λ (bin : Bin). count_of bin.pieces tail) y.bins) seen

@@ -6,6 +6,7 @@ use Rattle.std.proofs.lemmas.Bool.{cases_lt}
 use Rattle.std.proofs.Math.ListN.{get_or-append}
 use Rattle.std.proofs.Math.Seq.{get_or-append_seam}
 use Rattle.std.proofs.lemmas.List.{map-append, length-map}
+use Rattle.lert_base.specs.declared.count_table.CountTable.{Ghosts as TablesOf}
 use Rattle.lert_spec.specs.declared.numbers.Numbers.{Numbers}
 use Rattle.lert_spec.specs.declared.piece.Piece.{Piece}
 use Rattle.lert_spec.specs.Bins.{Bin}
@@ -21,14 +22,14 @@ bins_of-behind wide from to (p ∷ tables) more covered =
     let step = suc-mul (length tables) wide in
     ap (λ bins. cond {A = List Bin} (ltb from to) (record { from = from; to = min to (from + wide); pieces = p } ∷ bins) []) (bins_of-behind wide (from + wide) to tables more (omega arith))
 
-drop_filled : {T : Type 0} (pieces : T → List Piece) (room quotient remainder : T → ℕ) (tables : List T) {s : Numbers} {from to wide : ℕ} →
-    AreFilled pieces room quotient remainder s tables from to →
-    wide ≡ span s 0 → 1 ≤ wide → from + wide ≤ to → (old new : T) → old ≡ get_or tables 0 old → pieces new ≡ [] → room new ≡ room old → quotient new ≡ quotient old →
-    remainder new ≡ remainder old →
-    AreFilled pieces room quotient remainder s (drop 1 (set tables 0 new) ++ take 1 (set tables 0 new)) (from + wide) to
-drop_filled pieces room quotient remainder [] {s} {from} {to} {wide} filled wide_is positive whole old new is pieces_are room_is quotient_is remainder_is =
+drop_filled : {T C : Type 0} (of : TablesOf T C) (tables : List T) {s : Numbers} {from to wide : ℕ} →
+    AreFilled of s tables from to →
+    wide ≡ span s 0 → 1 ≤ wide → from + wide ≤ to → (old new : T) → old ≡ get_or tables 0 old → of.pieces new ≡ [] → of.room new ≡ of.room old → of.quotient_bits new ≡ of.quotient_bits old →
+    of.width new ≡ of.width old →
+    AreFilled of s (drop 1 (set tables 0 new) ++ take 1 (set tables 0 new)) (from + wide) to
+drop_filled of [] {s} {from} {to} {wide} filled wide_is positive whole old new is pieces_are room_is quotient_is remainder_is =
     absurd (omega (arith, filled.len, some_bins s filled.valid))
-drop_filled pieces room quotient remainder (first ∷ rest) {s} {from} {to} {wide} filled wide_is positive whole old new is pieces_are room_is quotient_is remainder_is =
+drop_filled of (first ∷ rest) {s} {from} {to} {wide} filled wide_is positive whole old new is pieces_are room_is quotient_is remainder_is =
     let len : length (rest ++ new ∷ []) ≡ s.bins = omega (arith, length-append rest (new ∷ []), filled.len) in
     let parts = div-add-mod from (span s 0) in
     let oldest = filled.each 0 old (omega arith) in
@@ -49,7 +50,7 @@ drop_filled pieces room quotient remainder (first ∷ rest) {s} {from} {to} {wid
             let before = filled.each (suc k) d (omega arith) in
             let one = suc-mul k (span s 0) in
             let summed = before.summed in
-            subst (λ t. IsFilled s (from + wide) to k (pieces t) (room t) (quotient t) (remainder t)) (sym at_it) (record {
+            subst (λ t. IsFilled of s (from + wide) to k t) (sym at_it) (record {
               summed = omega arith;
               unused = λ over. before.unused (omega arith);
               of_zero = before.of_zero;
@@ -59,80 +60,67 @@ drop_filled pieces room quotient remainder (first ∷ rest) {s} {from} {to} {wid
             let at_it : get_or (rest ++ new ∷ []) k d ≡ new = ap (λ n. get_or (rest ++ new ∷ []) n d) last ∙ get_or-append_seam rest new [] d in
             let same : get_or (first ∷ rest) 0 old ≡ old = sym is in
             let over : to ≤ from + wide + k * span s 0 = (let at_last = ap (λ n. n * span s 0) last in omega arith) in
-            subst (λ t. IsFilled s (from + wide) to k (pieces t) (room t) (quotient t) (remainder t)) (sym at_it) (record {
+            subst (λ t. IsFilled of s (from + wide) to k t) (sym at_it) (record {
               summed = ap total pieces_are ∙ omega arith;
               unused = λ _. pieces_are;
-              of_zero = same_numbers s oldest.of_zero (room_is ∙ ap room is) (quotient_is ∙ ap quotient is) (remainder_is ∙ ap remainder is);
+              of_zero = same_numbers s oldest.of_zero (room_is ∙ ap of.room is) (quotient_is ∙ ap of.quotient_bits is) (remainder_is ∙ ap of.width is);
             }))
       ];
     }
 
-drop_bins : {T : Type 0} (pieces : T → List Piece) (room quotient remainder : T → ℕ) (tables : List T) {s : Numbers} {from to wide : ℕ} {young : Young} →
-    AreFilled pieces room quotient remainder s tables from to →
-    record { settings = s; from = from; to = to; bins = bins_of (span s 0) from to (map pieces tables) } ≡ young →
+drop_bins : {T C : Type 0} (of : TablesOf T C) (tables : List T) {s : Numbers} {from to wide : ℕ} {young : Young} →
+    AreFilled of s tables from to →
+    record { settings = s; from = from; to = to; bins = bins_of (span s 0) from to (map of.pieces tables) } ≡ young →
     wide ≡ span s 0 → 1 ≤ wide → young.from + span young.settings 0 ≤ young.to → (new : T) →
-    record { settings = s; from = from + wide; to = to; bins = bins_of (span s 0) (from + wide) to (map pieces (drop 1 (set tables 0 new) ++ take 1 (set tables 0 new))) }
+    record { settings = s; from = from + wide; to = to; bins = bins_of (span s 0) (from + wide) to (map of.pieces (drop 1 (set tables 0 new) ++ take 1 (set tables 0 new))) }
     ≡ record young { from = young.from + span young.settings 0; bins = drop 1 young.bins }
-drop_bins pieces room quotient remainder [] {s} {from} {to} {wide} {young} filled seen wide_is positive whole new = absurd (omega (arith, filled.len, some_bins s filled.valid))
-drop_bins pieces room quotient remainder (first ∷ rest) {s} {from} {to} {wide} {young} filled seen wide_is positive whole new =
-    let held = map pieces rest in
+drop_bins of [] {s} {from} {to} {wide} {young} filled seen wide_is positive whole new = absurd (omega (arith, filled.len, some_bins s filled.valid))
+drop_bins of (first ∷ rest) {s} {from} {to} {wide} {young} filled seen wide_is positive whole new =
+    let held = map of.pieces rest in
     let fits = subst (λ (y : Young). y.from + span y.settings 0 ≤ y.to) (sym seen) whole in
     let bins : s.bins ≡ suc (length rest) = omega (arith, filled.len) in
     let all : s.bins * span s 0 ≡ suc (length rest) * span s 0 = ap (λ n. n * span s 0) bins in
     let step = suc-mul (length rest) (span s 0) in
-    let len : length held * span s 0 ≡ length rest * span s 0 = ap (λ n. n * span s 0) (length-map rest pieces) in
+    let len : length held * span s 0 ≡ length rest * span s 0 = ap (λ n. n * span s 0) (length-map rest of.pieces) in
     let within = filled.within in
-    let bins_are : bins_of (span s 0) (from + wide) to (map pieces (rest ++ new ∷ [])) ≡ drop 1 (bins_of (span s 0) from to (pieces first ∷ held)) =
-    ap (bins_of (span s 0) (from + wide) to) (map-append pieces rest (new ∷ []))
-    ∙ bins_of-behind (span s 0) (from + wide) to held (pieces new ∷ []) (omega arith)
+    let bins_are : bins_of (span s 0) (from + wide) to (map of.pieces (rest ++ new ∷ [])) ≡ drop 1 (bins_of (span s 0) from to (of.pieces first ∷ held)) =
+    ap (bins_of (span s 0) (from + wide) to) (map-append of.pieces rest (new ∷ []))
+    ∙ bins_of-behind (span s 0) (from + wide) to held (of.pieces new ∷ []) (omega arith)
     ∙ ap (λ w. bins_of (span s 0) (from + w) to held) wide_is
-    ∙ sym (ap (drop 1) (bins_of-some (span s 0) from to (pieces first) held (omega arith))) in
-    subst (λ (y : Young). record { settings = s; from = from + wide; to = to; bins = bins_of (span s 0) (from + wide) to (map pieces (rest ++ new ∷ [])) }
+    ∙ sym (ap (drop 1) (bins_of-some (span s 0) from to (of.pieces first) held (omega arith))) in
+    subst (λ (y : Young). record { settings = s; from = from + wide; to = to; bins = bins_of (span s 0) (from + wide) to (map of.pieces (rest ++ new ∷ [])) }
     ≡ record y { from = y.from + span y.settings 0; bins = drop 1 y.bins }) seen
     (λ i. record { settings = s; from = from + wide_is i; to = to; bins = bins_are i })
 
 -- what is known where the oldest bin is dropped
-pub record Drops {T : Type 0} (pieces : T → List Piece) (room quotient remainder : T → ℕ) (s : Numbers) (tables : List T) (from to : ℕ) (young : Young) (wide : ℕ) (new : T)
+pub record Drops {T C : Type 0} (of : TablesOf T C) (s : Numbers) (tables : List T) (from to : ℕ) (young : Young) (wide : ℕ) (new : T)
     (after : List T) : Type 0 where
-  pub filled : AreFilled pieces room quotient remainder s tables from to
-  pub seen : record { settings = s; from = from; to = to; bins = bins_of (span s 0) from to (map pieces tables) } ≡ young
+  pub filled : AreFilled of s tables from to
+  pub seen : record { settings = s; from = from; to = to; bins = bins_of (span s 0) from to (map of.pieces tables) } ≡ young
   pub whole : young.from + span young.settings 0 ≤ young.to
   pub wide_is : wide ≡ span s 0
   pub positive : 1 ≤ wide
   pub after_is : after ≡ drop 1 (set tables 0 new) ++ take 1 (set tables 0 new)
 
-pub drops : {T : Type 0} (pieces : T → List Piece) (room quotient remainder : T → ℕ) (new : T) {s : Numbers} {tables : List T} {from to : ℕ} {young : Young} {wide : ℕ} {after : List T}
-    →
-    AreFilled pieces room quotient remainder s tables from to → record { settings = s; from = from; to = to; bins = bins_of (span s 0) from to (map pieces tables) } ≡ young →
-    young.from + span young.settings 0 ≤ young.to → wide ≡ span s 0 → 1 ≤ wide → after ≡ drop 1 (set tables 0 new) ++ take 1 (set tables 0 new) →
-    Drops pieces room quotient remainder s tables from to young wide new after
-drops pieces room quotient remainder new filled seen whole wide_is positive after_is =
-    record { filled = filled; seen = seen; whole = whole; wide_is = wide_is; positive = positive; after_is = after_is }
+module _ {T C : Type 0} {of : TablesOf T C} {s : Numbers} {tables : List T} {from to : ℕ} {young : Young} {wide : ℕ} {new : T} {after : List T}
+    (drops : Drops of s tables from to young wide new after) where
+  -- the same of the fields
+  pub drops_whole : from + wide ≤ to
+  drops_whole =
+      let fits = subst (λ (y : Young). y.from + span y.settings 0 ≤ y.to) (sym drops.seen) drops.whole in
+      omega (arith, drops.wide_is)
 
--- the same of the fields
-pub drops_whole : {T : Type 0} {pieces : T → List Piece} {room quotient remainder : T → ℕ} {s : Numbers} {tables : List T} {from to : ℕ} {young : Young} {wide : ℕ} {new : T}
-    {after : List T} →
-    Drops pieces room quotient remainder s tables from to young wide new after → from + wide ≤ to
-drops_whole {T} {pieces} {room} {quotient} {remainder} {s} {tables} {from} {to} {young} {wide} {new} {after} drops =
-    let fits = subst (λ (y : Young). y.from + span y.settings 0 ≤ y.to) (sym drops.seen) drops.whole in
-    omega (arith, drops.wide_is)
+  pub dropped_filled : (old : T) → old ≡ get_or tables 0 old → of.pieces new ≡ [] → of.room new ≡ of.room old →
+      of.quotient_bits new ≡ of.quotient_bits old → of.width new ≡ of.width old →
+      AreFilled of s after (from + wide) to
+  dropped_filled old is pieces_are room_is quotient_is remainder_is =
+      let fits = subst (λ (y : Young). y.from + span y.settings 0 ≤ y.to) (sym drops.seen) drops.whole in
+      let wide_is = drops.wide_is in
+      subst (λ (ts : List T). AreFilled of s ts (from + wide) to) (sym drops.after_is)
+      (drop_filled of tables drops.filled drops.wide_is drops.positive (omega arith) old new is pieces_are room_is quotient_is remainder_is)
 
-pub dropped_filled : {T : Type 0} {pieces : T → List Piece} {room quotient remainder : T → ℕ} {s : Numbers} {tables : List T} {from to : ℕ} {young : Young} {wide : ℕ} {new : T}
-    {after : List T} →
-    Drops pieces room quotient remainder s tables from to young wide new after → (old : T) → old ≡ get_or tables 0 old → pieces new ≡ [] → room new ≡ room old →
-    quotient new ≡ quotient old → remainder new ≡ remainder old →
-    AreFilled pieces room quotient remainder s after (from + wide) to
-dropped_filled {T} {pieces} {room} {quotient} {remainder} {s} {tables} {from} {to} {young} {wide} {new} {after} drops old is pieces_are room_is quotient_is remainder_is =
-    let fits = subst (λ (y : Young). y.from + span y.settings 0 ≤ y.to) (sym drops.seen) drops.whole in
-    let wide_is = drops.wide_is in
-    subst (λ (ts : List T). AreFilled pieces room quotient remainder s ts (from + wide) to) (sym drops.after_is)
-    (drop_filled pieces room quotient remainder tables drops.filled drops.wide_is drops.positive (omega arith) old new is pieces_are room_is quotient_is remainder_is)
-
-pub dropped_bins : {T : Type 0} {pieces : T → List Piece} {room quotient remainder : T → ℕ} {s : Numbers} {tables : List T} {from to : ℕ} {young : Young} {wide : ℕ} {new : T}
-    {after : List T} →
-    Drops pieces room quotient remainder s tables from to young wide new after →
-    record { settings = s; from = from + wide; to = to; bins = bins_of (span s 0) (from + wide) to (map pieces after) }
-    ≡ record young { from = young.from + span young.settings 0; bins = drop 1 young.bins }
-dropped_bins {T} {pieces} {room} {quotient} {remainder} {s} {tables} {from} {to} {young} {wide} {new} {after} drops =
-    (λ i. record { settings = s; from = from + wide; to = to; bins = bins_of (span s 0) (from + wide) to (map pieces (drops.after_is i)) })
-    ∙ drop_bins pieces room quotient remainder tables drops.filled drops.seen drops.wide_is drops.positive drops.whole new
+  pub dropped_bins : record { settings = s; from = from + wide; to = to; bins = bins_of (span s 0) (from + wide) to (map of.pieces after) }
+      ≡ record young { from = young.from + span young.settings 0; bins = drop 1 young.bins }
+  dropped_bins =
+      (λ i. record { settings = s; from = from + wide; to = to; bins = bins_of (span s 0) (from + wide) to (map of.pieces (drops.after_is i)) })
+      ∙ drop_bins of tables drops.filled drops.seen drops.wide_is drops.positive drops.whole new

@@ -6,6 +6,7 @@ use Rattle.std.proofs.lemmas.Bool.{lt-ltb, le-ltb, eq-eqb, ne_eqb, cases_lt}
 use Rattle.std.proofs.Math.ListN.{get_or-append}
 use Rattle.std.proofs.Math.Seq.{get_or-append_seam}
 use Rattle.std.proofs.lemmas.Nat.{mod-mul-add}
+use Rattle.lert_base.specs.declared.count_table.CountTable.{Ghosts as TablesOf}
 use Rattle.lert_spec.specs.declared.numbers.Numbers.{Numbers}
 use Rattle.lert_spec.specs.declared.piece.Piece.{Piece}
 use Rattle.lert_spec.specs.Bins.{Bin}
@@ -139,26 +140,26 @@ some_bins s valid = omega (arith, valid.limits.bins_from)
 -- ---- no event yet
 
 -- the tables so far are empty
-pub record AreEmpty {T : Type 0} (pieces : T → List Piece) (room quotient remainder : T → ℕ) (s : Numbers) (tables : List T) (count : ℕ) : Type 0 where
+pub record AreEmpty {T C : Type 0} (of : TablesOf T C) (s : Numbers) (tables : List T) (count : ℕ) : Type 0 where
   pub len : length tables ≡ count
-  pub each : (k : ℕ) (d : T) → k < length tables → IsFilled s 0 0 k (pieces (get_or tables k d)) (room (get_or tables k d)) (quotient (get_or tables k d)) (remainder (get_or tables k d))
+  pub each : (k : ℕ) (d : T) → k < length tables → IsFilled of s 0 0 k (get_or tables k d)
 
-pub empty_begin : {T : Type 0} (pieces : T → List Piece) (room quotient remainder : T → ℕ) (s : Numbers) (tables : List T) → tables ≡ [] →
-    AreEmpty pieces room quotient remainder s tables 0
-empty_begin pieces room quotient remainder s tables none = record { len = ap length none; each = λ k d below. absurd (omega (arith, ap length none)) }
+pub empty_begin : {T C : Type 0} (of : TablesOf T C) (s : Numbers) (tables : List T) → tables ≡ [] →
+    AreEmpty of s tables 0
+empty_begin of s tables none = record { len = ap length none; each = λ k d below. absurd (omega (arith, ap length none)) }
 
-pub empty_more : {T : Type 0} (pieces : T → List Piece) (room quotient remainder : T → ℕ) (s : Numbers) (tables : List T) (count : ℕ) →
-    AreEmpty pieces room quotient remainder s tables count → (table : T) →
-    pieces table ≡ [] → room table ≡ span s 0 → quotient table ≡ quotient_bits s 0 → remainder table ≡ width s 0 →
-    AreEmpty pieces room quotient remainder s (tables ++ table ∷ []) (count + 1)
-empty_more {T} pieces room quotient remainder s tables count empty table pieces_are room_is quotient_is remainder_is = record {
+pub empty_more : {T C : Type 0} (of : TablesOf T C) (s : Numbers) (tables : List T) (count : ℕ) →
+    AreEmpty of s tables count → (table : T) →
+    of.pieces table ≡ [] → of.room table ≡ span s 0 → of.quotient_bits table ≡ quotient_bits s 0 → of.width table ≡ width s 0 →
+    AreEmpty of s (tables ++ table ∷ []) (count + 1)
+empty_more {T} {C} of s tables count empty table pieces_are room_is quotient_is remainder_is = record {
   len = omega (arith, length-append tables (table ∷ []), empty.len);
   each = λ k d below. let len = length-append tables (table ∷ []) in elim (cases_lt k (length tables)) [
-    | inl inner ↦ subst (λ (t : T). IsFilled s 0 0 k (pieces t) (room t) (quotient t) (remainder t)) (sym (get_or-append tables (table ∷ []) d k inner)) (empty.each k d inner)
+    | inl inner ↦ subst (λ (t : T). IsFilled of s 0 0 k t) (sym (get_or-append tables (table ∷ []) d k inner)) (empty.each k d inner)
     | inr outer ↦ (
         let last : k ≡ length tables = omega arith in
         let at_it : get_or (tables ++ table ∷ []) k d ≡ table = ap (λ n. get_or (tables ++ table ∷ []) n d) last ∙ get_or-append_seam tables table [] d in
-        subst (λ (t : T). IsFilled s 0 0 k (pieces t) (room t) (quotient t) (remainder t)) (sym at_it) (record {
+        subst (λ (t : T). IsFilled of s 0 0 k t) (sym at_it) (record {
           summed = ap total pieces_are ∙ omega arith;
           unused = λ _. pieces_are;
           of_zero = record { events = room_is; quotients = quotient_is; remainders = remainder_is };
@@ -166,10 +167,10 @@ empty_more {T} pieces room quotient remainder s tables count empty table pieces_
   ];
 }
 
-pub empty_filled : {T : Type 0} (pieces : T → List Piece) (room quotient remainder : T → ℕ) (s now : Numbers) (tables : List T) (count : ℕ) → now ≡ s → IsValid now →
-    AreEmpty pieces room quotient remainder s tables count →
-    now.bins ≤ count → count ≤ now.bins → AreFilled pieces room quotient remainder s tables 0 0
-empty_filled pieces room quotient remainder s now tables count same valid empty least most = record {
+pub empty_filled : {T C : Type 0} (of : TablesOf T C) (s now : Numbers) (tables : List T) (count : ℕ) → now ≡ s → IsValid now →
+    AreEmpty of s tables count →
+    now.bins ≤ count → count ≤ now.bins → AreFilled of s tables 0 0
+empty_filled of s now tables count same valid empty least most = record {
   valid = subst IsValid same valid;
   len = omega (arith, empty.len, ap (λ (n : Numbers). n.bins) same);
   aligned = (let parts = div-add-mod 0 (span s 0) in omega arith);

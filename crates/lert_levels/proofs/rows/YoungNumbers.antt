@@ -3,8 +3,8 @@ use Rattle.std.proofs.Common.{ℕ, suc, ◌≡◌, ◌≢◌, ◌+◌, ◌-◌, 
 use Rattle.std.proofs.Math.Nat.{mul-le-mul_right, suc-mul}
 use Rattle.std.proofs.lemmas.Bool.{eq-eqb, ne_eqb, cases_lt, cases_eq}
 use Rattle.std.proofs.lemmas.Nat.{div-mul-add}
+use Rattle.lert_base.specs.declared.count_table.CountTable.{Ghosts as TablesOf}
 use Rattle.lert_spec.specs.declared.numbers.Numbers.{Numbers}
-use Rattle.lert_spec.specs.declared.piece.Piece.{Piece}
 use Rattle.lert_spec.specs.Edges.{span}
 use Rattle.lert_spec.specs.Limits.{IsValid}
 use Rattle.lert_spec.proofs.EdgeLaws.{span_pos}
@@ -105,12 +105,12 @@ pub record IsNumbered (s : Numbers) (begin m wide bins end : ℕ) : Type 0 where
   pub some : 1 ≤ bins
   pub at_is : bins - 1 ≡ (m - 1 - begin) / wide
 
-pub numbered : {T : Type 0} (pieces : T → List Piece) (room quotient remainder : T → ℕ) {s : Numbers} {tables : List T} {from to : ℕ} {young : Young}
+pub numbered : {T C : Type 0} (of : TablesOf T C) {s : Numbers} {tables : List T} {from to : ℕ} {young : Young}
     {m begin wide bins end bins' end' : ℕ} →
-    AreFilled pieces room quotient remainder s tables from to → record { settings = s; from = from; to = to; bins = bins_of (span s 0) from to (map pieces tables) } ≡ young →
+    AreFilled of s tables from to → record { settings = s; from = from; to = to; bins = bins_of (span s 0) from to (map of.pieces tables) } ≡ young →
     IsNextPosition young m → AreNumbered s from to bins end → begin ≡ cond (eqb from to) (m - 1) from → wide ≡ span s 0 → 1 ≤ wide →
     (to ≡ end → (bins' ≡ bins + 1) × (end' ≡ m - 1 + wide)) → (to ≢ end → (bins' ≡ bins) × (end' ≡ end)) → IsNumbered s begin m wide bins' end'
-numbered pieces room quotient remainder {s} {tables} {from} {to} {young} {m} {begin} {wide} {bins} {end} {bins'} {end'} filled seen next old begin_is wide_is positive begins grows =
+numbered of {s} {tables} {from} {to} {young} {m} {begin} {wide} {bins} {end} {bins'} {end'} filled seen next old begin_is wide_is positive begins grows =
     let here = subst (λ y. IsNextPosition y m) (sym seen) next in
     let same : bins * span s 0 ≡ bins * wide = ap (λ w. bins * w) (sym wide_is) in
     let new = newest wide from to bins end m begin bins' end' positive filled.ordered here.first (omega (arith, old.end_is)) old.covers (omega (arith, old.few))
@@ -123,9 +123,9 @@ numbered pieces room quotient remainder {s} {tables} {from} {to} {young} {m} {be
     }
 
 -- there are no more bins than a level has
-pub few_bins : {T : Type 0} {pieces : T → List Piece} {room quotient remainder : T → ℕ} {s : Numbers} {tables : List T} {from to bins end : ℕ} →
-    AreFilled pieces room quotient remainder s tables from to → AreNumbered s from to bins end → bins ≤ s.bins
-few_bins {T} {pieces} {room} {quotient} {remainder} {s} {tables} {from} {to} {bins} {end} filled numbers = elim (cases_lt s.bins bins) [
+pub few_bins : {T C : Type 0} {of : TablesOf T C} {s : Numbers} {tables : List T} {from to bins end : ℕ} →
+    AreFilled of s tables from to → AreNumbered s from to bins end → bins ≤ s.bins
+few_bins {T} {C} {of} {s} {tables} {from} {to} {bins} {end} filled numbers = elim (cases_lt s.bins bins) [
   | inl more ↦ absurd (
       let products = mul-le-mul_right (span s 0) (let next : suc s.bins ≤ bins = more in next) in
       let step = suc-mul s.bins (span s 0) in
@@ -134,15 +134,15 @@ few_bins {T} {pieces} {room} {quotient} {remainder} {s} {tables} {from} {to} {bi
 ]
 
 -- and numbers of them are far from the greatest
-pub small_bins : {T : Type 0} {pieces : T → List Piece} {room quotient remainder : T → ℕ} {s : Numbers} {tables : List T} {from to bins end : ℕ} →
-    AreFilled pieces room quotient remainder s tables from to → AreNumbered s from to bins end → bins < 2 ^ 63
-small_bins {T} {pieces} {room} {quotient} {remainder} {s} {tables} {from} {to} {bins} {end} filled numbers =
+pub small_bins : {T C : Type 0} {of : TablesOf T C} {s : Numbers} {tables : List T} {from to bins end : ℕ} →
+    AreFilled of s tables from to → AreNumbered s from to bins end → bins < 2 ^ 63
+small_bins {T} {C} {of} {s} {tables} {from} {to} {bins} {end} filled numbers =
     omega (arith, few_bins filled numbers, filled.valid.limits.bins_to)
 
-pub small_end : {T : Type 0} (pieces : T → List Piece) (room quotient remainder : T → ℕ) {s : Numbers} {tables : List T} {from to : ℕ} {young : Young} {m wide : ℕ} →
-    AreFilled pieces room quotient remainder s tables from to → record { settings = s; from = from; to = to; bins = bins_of (span s 0) from to (map pieces tables) } ≡ young →
+pub small_end : {T C : Type 0} (of : TablesOf T C) {s : Numbers} {tables : List T} {from to : ℕ} {young : Young} {m wide : ℕ} →
+    AreFilled of s tables from to → record { settings = s; from = from; to = to; bins = bins_of (span s 0) from to (map of.pieces tables) } ≡ young →
     IsNextPosition young m → wide ≡ span s 0 → m + wide < 2 ^ 63
-small_end pieces room quotient remainder {s} {tables} {from} {to} {young} {m} {wide} filled seen next wide_is =
+small_end of {s} {tables} {from} {to} {young} {m} {wide} filled seen next wide_is =
     let here = subst (λ y. IsNextPosition y m) (sym seen) next in
     omega (arith, here.last, filled.valid.positions_fit, width_within s filled.valid)
 

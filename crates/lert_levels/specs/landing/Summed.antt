@@ -1,8 +1,7 @@
 -- The sums of the counts of pieces that come in any order.
-use Rattle.std.specs.Prelude.{ℕ, ◌≡◌, ◌+◌, ◌<◌, ◌≤◌, ◌==◌, List, [], ◌∷◌, All, fold, length, sum_by, if◌then◌else◌, slice_index_or, slice_set}
+use Rattle.std.specs.Prelude.{ℕ, ◌<◌, ◌≤◌, ◌==◌, List, [], All, fold, length, sum_by, if◌then◌else◌, slice_index_or}
 use Rattle.lert_spec.specs.declared.piece.Piece.{Piece}
-use Rattle.lert_spec.specs.Table.{count_of, total, plus, IsTable}
-use Rattle.lert_levels.specs.landing.Whole.{AreUpTo}
+use Rattle.lert_spec.specs.Table.{plus, IsTable}
 
 -- a table with the counts of more pieces
 abbrev pub summed : List Piece → List Piece → List Piece
@@ -27,21 +26,3 @@ AreCounted limit pieces = All (λ piece. (piece.tail < limit) × (1 ≤ piece.co
 -- each list is a table of tails below the limit
 abbrev pub AreTables : ℕ → List (List Piece) → Type 0
 AreTables limit lists = (k : ℕ) → k < length lists → IsTable limit (slice_index_or lists k [])
-
--- nothing is left in the lists
-abbrev pub AreOver : List (List Piece) → Type 0
-AreOver lists = (k : ℕ) → k < length lists → slice_index_or lists k [] ≡ []
-
--- pieces that come each from the front of one of the lists, until nothing is left in them
-abbrev pub ComeFrom : List (List Piece) → List Piece → Type 0
-ComeFrom lists [] = AreOver lists
-ComeFrom lists (piece ∷ pieces) = (k : ℕ) × (rest : List Piece) × (k < length lists) × (slice_index_or lists k [] ≡ piece ∷ rest) × ComeFrom (slice_set lists k rest) pieces
-
--- the sums of what came of the lists in ascending tails, and what is left of them
-pub record AreSummed (limit : ℕ) (lists left : List (List Piece)) (sums_so_far : List Piece) : Type 0 where
-  pub len : length left ≡ length lists
-  pub table : IsTable limit sums_so_far
-  pub tables : AreTables limit left
-  pub counts : (tail : ℕ) → count_of sums_so_far tail + sum_by (λ pieces. count_of pieces tail) left ≡ sum_by (λ pieces. count_of pieces tail) lists
-  pub totals : total sums_so_far + sum_by total left ≡ sum_by total lists
-  pub ahead : (k : ℕ) → k < length left → All (λ piece. AreUpTo piece.tail sums_so_far) (slice_index_or left k [])

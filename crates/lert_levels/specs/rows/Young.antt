@@ -3,6 +3,7 @@ use Rattle.std.specs.Prelude.{ℕ, suc, ◌≡◌, ◌≢◌, ◌+◌, ◌-◌, 
 use Rattle.std.specs.Prelude.{if◌then◌else◌, slice_index_or, take, drop, sum_by}
 use Rattle.lert_levels.specs.declared.bound.pair.Pair.{Pair}
 use Rattle.lert_levels.specs.bound.Covers.{CoversCounts}
+use Rattle.lert_base.specs.declared.count_table.CountTable.{Ghosts as TablesOf}
 use Rattle.lert_spec.specs.declared.numbers.Numbers.{Numbers}
 use Rattle.lert_spec.specs.declared.piece.Piece.{Piece}
 use Rattle.lert_spec.specs.Bins.{Bin}
@@ -65,22 +66,20 @@ pub record IsOfZero (s : Numbers) (room quotient remainder : ℕ) : Type 0 where
   pub remainders : remainder ≡ width s 0
 
 -- the table with this number has the events of its bin, and none where no position is in it
-pub record IsFilled (s : Numbers) (from to number : ℕ) (pieces : List Piece) (room quotient remainder : ℕ) : Type 0 where
-  pub summed : total pieces ≡ min (span s 0) (to - (from + number * span s 0))
-  pub unused : to ≤ from + number * span s 0 → pieces ≡ []
-  pub of_zero : IsOfZero s room quotient remainder
+pub record IsFilled {T C : Type 0} (of : TablesOf T C) (s : Numbers) (from to number : ℕ) (table : T) : Type 0 where
+  pub summed : total (of.pieces table) ≡ min (span s 0) (to - (from + number * span s 0))
+  pub unused : to ≤ from + number * span s 0 → of.pieces table ≡ []
+  pub of_zero : IsOfZero s (of.room table) (of.quotient_bits table) (of.width table)
 
 -- what stands between two calls
-pub record AreFilled {T : Type 0} (pieces : T → List Piece) (room quotient remainder : T → ℕ) (s : Numbers) (tables : List T) (from to : ℕ) : Type 0 where
+pub record AreFilled {T C : Type 0} (of : TablesOf T C) (s : Numbers) (tables : List T) (from to : ℕ) : Type 0 where
   pub valid : IsValid s
   pub len : length tables ≡ s.bins
   pub aligned : from % span s 0 ≡ 0
   pub ordered : from ≤ to
   pub within : to ≤ from + s.bins * span s 0
   pub last : to ≤ capacity s
-  pub each : (k : ℕ) (d : T) → k < length tables →
-      IsFilled s from to k (pieces (slice_index_or tables k d)) (room (slice_index_or tables k d))
-      (quotient (slice_index_or tables k d)) (remainder (slice_index_or tables k d))
+  pub each : (k : ℕ) (d : T) → k < length tables → IsFilled of s from to k (slice_index_or tables k d)
 
 -- so many bins, the newest of which has room up to `end`
 pub record AreNumbered (s : Numbers) (from to bins end : ℕ) : Type 0 where

@@ -44,7 +44,7 @@ impl<T: CountTable> Model for Zero<T> {
       bins = bins_of (span z.settings 0) z.extent.from z.extent.to (map T.pieces z.tables.items);
     } };
 
-    ghost invariant = { λ z. AreFilled T.pieces T.room T.quotient_bits T.width z.settings z.tables.items z.extent.from z.extent.to
+    ghost invariant = { λ z. AreFilled T.CountTable z.settings z.tables.items z.extent.from z.extent.to
         × AreBounded T.pieces z.settings z.tables.items z.extent.from z.extent.to z.bound z.earlier
         × AreNumbered z.settings z.extent.from z.extent.to z.extent.bins z.extent.end };
 }

@@ -15,14 +15,8 @@ bays g = bays_of g.B.Faulty g.B.Bay
 lawful : (g : given.Over) → IsLawful (bays g)
 lawful g = record { as_read = g.met.B.Bay.as_read; since_now = g.met.B.Bay.since_now; only_now = g.met.B.Bay.only_now; since_earlier = g.met.B.Bay.since_earlier }
 
-pub merge_all-requires-clause-unread : goal.merge_all-requires-clause-unread
-merge_all-requires-clause-unread g c = c.requires.unread
-
-pub merge_all-requires-clause-wide : goal.merge_all-requires-clause-wide
-merge_all-requires-clause-wide g c = c.requires.wide
-
-pub merge_all-requires-clause-totals : goal.merge_all-requires-clause-totals
-merge_all-requires-clause-totals g c = c.requires.totals
+pub merge_all-requires : goal.merge_all-requires
+merge_all-requires g c = record { unread = c.requires.unread; wide = c.requires.wide; totals = c.requires.totals }
 
 pub returns : goal.returns
 returns g c =

@@ -85,20 +85,12 @@ returns g c =
 
 -- ---- what a merge asks for
 
-pub merge_bins-requires-clause-unread : goal.merge_bins-requires-clause-unread
-merge_bins-requires-clause-unread g c = c.requires.unread
-
-pub merge_bins-requires-clause-parts : goal.merge_bins-requires-clause-parts
-merge_bins-requires-clause-parts g c = c.requires.parts
-
-pub merge_bins-requires-clause-room : goal.merge_bins-requires-clause-room
-merge_bins-requires-clause-room g c = c.requires.room
-
-pub merge_bins-requires-clause-apart : goal.merge_bins-requires-clause-apart
-merge_bins-requires-clause-apart g c = c.requires.apart
-
-pub merge_bins-requires-clause-sure : goal.merge_bins-requires-clause-sure
-merge_bins-requires-clause-sure g c = c.requires.sure
-
-pub merge_bins-requires-clause-totals : goal.merge_bins-requires-clause-totals
-merge_bins-requires-clause-totals g c = c.requires.totals
+pub merge_bins-requires : goal.merge_bins-requires
+merge_bins-requires g c = record {
+  unread = c.requires.unread;
+  parts = c.requires.parts;
+  room = c.requires.room;
+  apart = c.requires.apart;
+  sure = c.requires.sure;
+  totals = c.requires.totals;
+}

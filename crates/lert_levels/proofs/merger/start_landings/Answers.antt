@@ -3,7 +3,7 @@ use Rattle.lert_levels.specs.landing.Landed.{taken, IsLanding}
 use Rattle.lert_levels.specs.declared.landing.landing.Landing.{Landing}
 use Rattle.lert_levels.specs.declared.rows.bin_at.BinAt.{BinAt}
 use Rattle.lert_levels.specs.rows.Landing.{landing_frame}
-use Rattle.lert_levels.specs.rows.Rows.{IsRow, arrived}
+use Rattle.lert_levels.specs.rows.Rows.{arrived}
 use Rattle.lert_levels.proofs.rows.LandLaws.{landing_within}
 use Rattle.lert_levels.proofs.rows.ReadLaws.{row_here}
 use Rattle.lert_spec.specs.declared.numbers.Numbers.{Numbers}

@@ -18,43 +18,42 @@ bays g = bays_of g.B.Faulty g.B.Bay
 lawful : (g : given.Over) → IsLawful (bays g)
 lawful g = record { as_read = g.met.B.Bay.as_read; since_now = g.met.B.Bay.since_now; only_now = g.met.B.Bay.only_now; since_earlier = g.met.B.Bay.since_earlier }
 
-pub returns-in_default-clause-stands : goal.returns-in_default-clause-stands
-returns-in_default-clause-stands g c =
+pub returns-in_default : goal.returns-in_default
+returns-in_default g c =
     let w = c.args.writer.now in
-    on_ok _ _ c.end.result c.end.ensures.stands (λ stands seen told writing later told_later.
-    holds_turned w.settings w.settings w.level w.level w.frame w.frame (later FRAMES) w.put (w.put ++ option_to_list c.args.last) refl refl refl
-    (sym (ap (λ (o : Option Piece). w.put ++ option_to_list o) c.in_default.is ∙ append-nil w.put)) (stands seen told writing later told_later))
-
-pub returns-in_default-clause-rest : goal.returns-in_default-clause-rest
-returns-in_default-clause-rest g c =
-    let w = c.args.writer.now in
-    within_rest (bays g) w.settings w.level w.frame c.args.bay.now c.end.new.bay c.end.ensures.within
+    let e = c.end.ensures in
+    record {
+      stands = on_ok _ _ c.end.result e.stands (λ stands seen told writing later told_later.
+          holds_turned w.settings w.settings w.level w.level w.frame w.frame (later FRAMES) w.put (w.put ++ option_to_list c.args.last) refl refl refl
+          (sym (ap (λ (o : Option Piece). w.put ++ option_to_list o) c.in_default.is ∙ append-nil w.put)) (stands seen told writing later told_later));
+      settings = e.settings;
+      level = e.level;
+      rest = within_rest (bays g) w.settings w.level w.frame c.args.bay.now c.end.new.bay e.within;
+      kept = e.kept;
+    }
 
 pub returns-in_err-put-clause-rest : goal.returns-in_err-put-clause-rest
 returns-in_err-put-clause-rest g c =
     let w = c.args.writer.now in
     within_rest (bays g) w.settings w.level w.frame c.args.bay.now c.put.new.bay c.put.ensures.within
 
-pub returns-clause-stands : goal.returns-clause-stands
-returns-clause-stands g c =
+pub returns : goal.returns
+returns g c =
     let w = c.args.writer.now in
     let v = c.put.new.self in
     let put = c.in_ok-put.ensures in
-    on_ok _ _ c.end-2.result c.end-2.ensures.stands (λ stands seen told writing later told_later.
-    let middle = c.put.ensures.within.wrote.seen.told seen told in
-    holds_turned v.settings w.settings v.level w.level v.frame w.frame (later FRAMES) v.put (w.put ++ option_to_list c.args.last) put.settings put.level put.frame
-    (put.put ∙ ap (λ (o : Option Piece). w.put ++ option_to_list o) (sym c.in-Some.is))
-    (stands middle.0 middle.1 (put.writing seen told writing middle.0 middle.1) later told_later))
-
-pub returns-clause-rest : goal.returns-clause-rest
-returns-clause-rest g c =
-    let w = c.args.writer.now in
-    let v = c.put.new.self in
-    let put = c.put.ensures in
-    rest_on (bays g) (lawful g) (IsApart w.settings w.level w.frame) c.args.bay.now c.put.new.bay c.end-2.new.bay _ _ put.kept c.end-2.ensures.kept
-    (within_rest (bays g) w.settings w.level w.frame c.args.bay.now c.put.new.bay put.within)
-    (rest_turned (bays g) v.settings w.settings v.level w.level v.frame w.frame c.put.new.bay c.end-2.new.bay put.settings put.level put.frame
-    (within_rest (bays g) v.settings v.level v.frame c.put.new.bay c.end-2.new.bay c.end-2.ensures.within))
-
-pub returns-clause-kept : goal.returns-clause-kept
-returns-clause-kept g c = keeps_on (bays g) (lawful g) c.args.bay.now c.put.new.bay c.end-2.new.bay _ _ c.put.ensures.kept c.end-2.ensures.kept
+    let e = c.end-2.ensures in
+    record {
+      stands = on_ok _ _ c.end-2.result e.stands (λ stands seen told writing later told_later.
+          let middle = put.within.wrote.seen.told seen told in
+          holds_turned v.settings w.settings v.level w.level v.frame w.frame (later FRAMES) v.put (w.put ++ option_to_list c.args.last) put.settings put.level put.frame
+          (put.put ∙ ap (λ (o : Option Piece). w.put ++ option_to_list o) (sym c.in-Some.is))
+          (stands middle.0 middle.1 (put.writing seen told writing middle.0 middle.1) later told_later));
+      settings = e.settings ∙ put.settings;
+      level = e.level ∙ put.level;
+      rest = rest_on (bays g) (lawful g) (IsApart w.settings w.level w.frame) c.args.bay.now c.put.new.bay c.end-2.new.bay _ _ put.kept e.kept
+          (within_rest (bays g) w.settings w.level w.frame c.args.bay.now c.put.new.bay put.within)
+          (rest_turned (bays g) v.settings w.settings v.level w.level v.frame w.frame c.put.new.bay c.end-2.new.bay put.settings put.level put.frame
+          (within_rest (bays g) v.settings v.level v.frame c.put.new.bay c.end-2.new.bay e.within));
+      kept = keeps_on (bays g) (lawful g) c.args.bay.now c.put.new.bay c.end-2.new.bay _ _ put.kept e.kept;
+    }

@@ -21,56 +21,25 @@ bounds-landings-part g c = c.requires.part
 pub add-requires : goal.add-requires
 add-requires g c = c.requires.piece c.index-landings-part.result
 
-pub returns-clause-kept : goal.returns-clause-kept
-returns-clause-kept g c = c.add.ensures.lands.kept
-
-pub returns-clause-others : goal.returns-clause-others
-returns-clause-others g c k d other =
-    let xs = c.args.landings.now in
-    let i = c.args.part in
-    let l = get_or xs i c.index-landings-part.result in
-    others_set xs i l c.add.new.self c.requires.part (get_or_default xs i c.index-landings-part.result l c.requires.part) k d other
-
-pub returns-clause-taken : goal.returns-clause-taken
-returns-clause-taken g c =
+pub returns : goal.returns
+returns g c =
     let xs = c.args.landings.now in
     let i = c.args.part in
     let l = get_or xs i c.index-landings-part.result in
     let l_is = get_or_default xs i c.index-landings-part.result l c.requires.part in
-    on_ok _ _ c.add.result c.add.ensures.taken (λ taken_is.
-    map-set taken xs i c.add.new.self
-    ∙ ap (set (map taken xs) i)
-    (taken_is ∙ ap (λ (ps : List Piece). plus ps c.args.piece.tail c.args.piece.count) (sym (taken_here xs i l c.add.new.self c.requires.part l_is))))
-
-pub returns-clause-failed : goal.returns-clause-failed
-returns-clause-failed g c =
-    let xs = c.args.landings.now in
-    on_err_from _ _ c.add.result c.add.ensures.failed (λ none. map-set taken xs c.args.part c.add.new.self ∙ ap (set (map taken xs) c.args.part) none)
-
-pub returns-clause-homes : goal.returns-clause-homes
-returns-clause-homes g c =
-    let xs = c.args.landings.now in
-    let i = c.args.part in
-    let l = get_or xs i c.index-landings-part.result in
-    let l_is = get_or_default xs i c.index-landings-part.result l c.requires.part in
-    homes_set xs i l c.add.new.self c.requires.part l_is c.add.ensures.lands.same
-
-pub returns-clause-landing : goal.returns-clause-landing
-returns-clause-landing g c s are seen told landing later told_later =
-    let xs = c.args.landings.now in
-    let i = c.args.part in
-    let l = get_or xs i c.index-landings-part.result in
-    let l_is = get_or_default xs i c.index-landings-part.result l c.requires.part in
-    let lands = c.add.ensures.lands in
-    let step = LeavesRest (IsApart l.writer.settings l.writer.level l.frame) in
-    landing_set xs i l c.add.new.self c.requires.part l_is s are seen later
-    (turns_to step (g.B.Bay.files c.args.bay.now) (g.B.Bay.files c.add.new.bay) seen later lands.rest.seen told told_later)
-    (lands.landing seen told (landing i c.index-landings-part.result c.requires.part) later told_later) landing
-
-pub returns-clause-rest : goal.returns-clause-rest
-returns-clause-rest g c =
-    let xs = c.args.landings.now in
-    let i = c.args.part in
-    let l = get_or xs i c.index-landings-part.result in
-    let l_is = get_or_default xs i c.index-landings-part.result l c.requires.part in
-    apart_one (bays g) xs i l c.args.bay.now c.add.new.bay c.requires.part l_is c.add.ensures.lands.rest
+    let new = c.add.new.self in
+    let e = c.add.ensures in
+    record {
+      taken = on_ok _ _ c.add.result e.taken (λ taken_is.
+          map-set taken xs i new
+          ∙ ap (set (map taken xs) i) (taken_is ∙ ap (λ (ps : List Piece). plus ps c.args.piece.tail c.args.piece.count) (sym (taken_here xs i l new c.requires.part l_is))));
+      failed = on_err_from _ _ c.add.result e.failed (λ none. map-set taken xs i new ∙ ap (set (map taken xs) i) none);
+      others = others_set xs i l new c.requires.part l_is;
+      homes = homes_set xs i l new c.requires.part l_is e.lands.same;
+      landing = λ s are seen told landing later told_later.
+          landing_set xs i l new c.requires.part l_is s are seen later
+          (turns_to (LeavesRest (IsApart l.writer.settings l.writer.level l.frame)) (g.B.Bay.files c.args.bay.now) (g.B.Bay.files c.add.new.bay) seen later e.lands.rest.seen told told_later)
+          (e.lands.landing seen told (landing i c.index-landings-part.result c.requires.part) later told_later) landing;
+      rest = apart_one (bays g) xs i l c.args.bay.now c.add.new.bay c.requires.part l_is e.lands.rest;
+      kept = e.lands.kept;
+    }

@@ -12,31 +12,6 @@ use Rattle.lert_levels.proofs.landing.landings.end_all.Goals as goal
 lawful : (g : given.Over) → IsLawful (bays g)
 lawful g = record { as_read = g.met.B.Bay.as_read; since_now = g.met.B.Bay.since_now; only_now = g.met.B.Bay.only_now; since_earlier = g.met.B.Bay.since_earlier }
 
-pub returns-in_err-end-clause-homes : goal.returns-in_err-end-clause-homes
-returns-in_err-end-clause-homes g c =
-    let was = c.loop-landing.invariant in
-    let xs = c.loop-landing.landings in
-    let i = c.loop-landing.landing-index in
-    let below : i < length xs = omega (arith, c.loop-landing-test.true) in
-    let l = get_or xs i c.landing-item.result in
-    let l_is = get_or_default xs i c.landing-item.result l below in
-    homes_more (bays g) (lawful g) c.args.landings.now xs i c.args.bay.now c.loop-landing.bay c.end.new.bay was l c.end.new.self below l_is _ c.end.ensures.lands
-
-pub returns-in_err-end-clause-rest : goal.returns-in_err-end-clause-rest
-returns-in_err-end-clause-rest g c =
-    let was = c.loop-landing.invariant in
-    let xs = c.loop-landing.landings in
-    let i = c.loop-landing.landing-index in
-    let below : i < length xs = omega (arith, c.loop-landing-test.true) in
-    let l = get_or xs i c.landing-item.result in
-    let l_is = get_or_default xs i c.landing-item.result l below in
-    rest_more (bays g) (lawful g) c.args.landings.now xs i c.args.bay.now c.loop-landing.bay c.end.new.bay was l c.end.new.self below l_is _ c.end.ensures.lands
-
-pub returns-in_err-end-clause-kept : goal.returns-in_err-end-clause-kept
-returns-in_err-end-clause-kept g c =
-    let p = err_from_is_err_and c.from_residual.result c.from_residual.ensures.1 in
-    rw p.1 (keeps_on (bays g) (lawful g) c.args.bay.now c.loop-landing.bay c.end.new.bay ⊥ _ c.loop-landing.invariant.kept c.in_err-end.ensures.lands.kept)
-
 pub loop-landing-preserved : goal.loop-landing-preserved
 loop-landing-preserved g c =
     let was = c.loop-landing.invariant in
@@ -47,20 +22,30 @@ loop-landing-preserved g c =
     let l_is = get_or_default xs i c.landing-item.result l below in
     ending_more (bays g) (lawful g) c.args.landings.now xs i c.args.bay.now c.loop-landing.bay c.end.new.bay was l c.end.new.self below l_is _ c.end.ensures.lands c.in_ok-end.ensures.stands
 
-pub returns-clause-stand : goal.returns-clause-stand
-returns-clause-stand g c s are seen told landing later told_later =
+pub returns : goal.returns
+returns g c =
     let was = c.loop-landing.invariant in
-    ended_all s c.args.landings.now c.loop-landing.landing-index (later FRAMES) (omega (arith, c.loop-landing-test.false, was.len))
-    (was.stand s are seen told landing later told_later)
+    record {
+      stand = λ s are seen told landing later told_later.
+          ended_all s c.args.landings.now c.loop-landing.landing-index (later FRAMES) (omega (arith, c.loop-landing-test.false, was.len)) (was.stand s are seen told landing later told_later);
+      homes = was.homes;
+      rest = was.rest;
+      kept = keeps_as (bays g) (lawful g) c.args.bay.now c.loop-landing.bay ⊥ _ (λ failed. false≢true failed) was.kept;
+    }
 
-pub returns-in_err-end-clause-stand : goal.returns-in_err-end-clause-stand
-returns-in_err-end-clause-stand g c = rw (err_from_is_err_and c.from_residual.result c.from_residual.ensures.1).1 tt
-
-pub returns-clause-homes : goal.returns-clause-homes
-returns-clause-homes g c = c.loop-landing.invariant.homes
-
-pub returns-clause-rest : goal.returns-clause-rest
-returns-clause-rest g c = c.loop-landing.invariant.rest
-
-pub returns-clause-kept : goal.returns-clause-kept
-returns-clause-kept g c = keeps_as (bays g) (lawful g) c.args.bay.now c.loop-landing.bay ⊥ _ (λ failed. false≢true failed) c.loop-landing.invariant.kept
+pub returns-in_err-end : goal.returns-in_err-end
+returns-in_err-end g c =
+    let p = err_from_is_err_and c.from_residual.result c.from_residual.ensures.1 in
+    let was = c.loop-landing.invariant in
+    let xs = c.loop-landing.landings in
+    let i = c.loop-landing.landing-index in
+    let below : i < length xs = omega (arith, c.loop-landing-test.true) in
+    let l = get_or xs i c.landing-item.result in
+    let l_is = get_or_default xs i c.landing-item.result l below in
+    let lands = c.end.ensures.lands in
+    record {
+      stand = rw p.1 tt;
+      homes = homes_more (bays g) (lawful g) c.args.landings.now xs i c.args.bay.now c.loop-landing.bay c.end.new.bay was l c.end.new.self below l_is _ lands;
+      rest = rest_more (bays g) (lawful g) c.args.landings.now xs i c.args.bay.now c.loop-landing.bay c.end.new.bay was l c.end.new.self below l_is _ lands;
+      kept = rw p.1 (keeps_on (bays g) (lawful g) c.args.bay.now c.loop-landing.bay c.end.new.bay ⊥ _ was.kept c.in_err-end.ensures.lands.kept);
+    }

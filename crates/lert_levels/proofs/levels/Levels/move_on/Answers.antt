@@ -1,4 +1,4 @@
-use Rattle.std.proofs.Common.{◌≡◌, ◌≤◌, ◌++◌, ◌∙◌, ap, length, take, drop, sym, subst}
+use Rattle.std.proofs.Common.{◌≤◌, ◌++◌, ◌∙◌, ap, length, take, drop, sym, subst}
 use Rattle.lert_spec.specs.Edges.{capacity}
 use Rattle.lert_spec.specs.Limits.{IsValid}
 use Rattle.lert_levels.specs.OnDisk.{OnDisk}

@@ -1,4 +1,4 @@
-use Rattle.std.proofs.Common.{◌≡◌, ◌≤◌, ◌∙◌, refl, arith, Some, None, get_or, map, subst, sym, ap}
+use Rattle.std.proofs.Common.{◌≡◌, ◌∙◌, refl, arith, Some, None, get_or, map, subst, sym, ap}
 use Rattle.std.proofs.lemmas.List.{take_all}
 use Rattle.std.proofs.lemmas.List.Elements.{All-more}
 use Rattle.std.proofs.lemmas.Result.{err_from_is_err_and}
@@ -7,10 +7,9 @@ use Rattle.lert_bay.proofs.KeptLaws.{IsLawful, reads_none, reads_on, reads_as}
 use Rattle.lert_frames.proofs.FaultLaws.{not_err}
 use Rattle.lert_frames.proofs.WriteLaws.{same_err}
 use Rattle.lert_spec.specs.declared.numbers.Numbers.{Numbers}
-use Rattle.lert_spec.specs.Edges.{span}
 use Rattle.lert_levels.specs.declared.rows.bin_at.BinAt.{BinAt}
 use Rattle.lert_levels.specs.rows.Checked.{pieces_in, RowStands, bin_left, first_of}
-use Rattle.lert_levels.specs.rows.Loading.{width_of, Stands}
+use Rattle.lert_levels.specs.rows.Loading.{Stands}
 use Rattle.lert_levels.proofs.rows.CheckLaws.{row_more, row_breaks}
 use Rattle.lert_levels.proofs.rows.check.check_row.Given as given
 use Rattle.lert_levels.proofs.rows.check.check_row.Invariants.{bays}

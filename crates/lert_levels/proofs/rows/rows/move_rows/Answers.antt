@@ -1,4 +1,4 @@
-use Rattle.std.proofs.Common.{◌<◌, ◌≤◌, ◌∙◌, ap, arith, length, refl, sym, subst, []}
+use Rattle.std.proofs.Common.{◌∙◌, ap, arith, length, refl, []}
 use Rattle.std.proofs.lemmas.List.{get_or-set_other, get_or_default}
 use Rattle.lert_spec.specs.declared.numbers.Numbers.{Numbers}
 use Rattle.lert_levels.proofs.rows.MoveLaws.{rows_moved, moved_on}

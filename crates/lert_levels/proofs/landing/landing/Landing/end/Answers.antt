@@ -6,7 +6,7 @@ use Rattle.lert_levels.proofs.Bays.{bays_of}
 use Rattle.lert_frames.proofs.WriteLaws.{on_ok}
 use Rattle.lert_spec.specs.declared.piece.Piece.{Piece}
 use Rattle.lert_levels.specs.landing.Landed.{taken}
-use Rattle.lert_levels.proofs.landing.LandingLaws.{taken_none, taking_none, given_anew, frame_stands, can_end, rest_of, holds_turned}
+use Rattle.lert_levels.proofs.landing.LandingLaws.{taken_none, taking_anew, frame_stands, can_end, rest_of, holds_turned}
 use Rattle.lert_levels.proofs.landing.landing.Landing.end.Given as given
 use Rattle.lert_levels.proofs.landing.landing.Landing.end.Goals as goal
 
@@ -20,32 +20,23 @@ pub start-requires : goal.start-requires
 start-requires g c = frame_stands c.args.self.now c.end_frame-ended.new.writer c.end_frame-ended.ensures.settings
 
 pub invariant_of-self : goal.invariant_of-self
-invariant_of-self g c =
-    let w = c.start.new.self in
-    let sum = c.take-last.new.self in
-    record {
-      taking = taking_none w sum c.start.ensures.put c.take-last.ensures.none c.args.self.now.frame c.start.ensures.frame;
-      given = given_anew w sum c.start.ensures.put c.take-last.ensures.none;
-    }
+invariant_of-self g c = taking_anew c.start.new.self c.take-last.new.self c.start.ensures.put c.take-last.ensures.none c.args.self.now.frame c.start.ensures.frame
 
-pub returns-clause-stands : goal.returns-clause-stands
-returns-clause-stands g c =
+pub returns : goal.returns
+returns g c =
     let l = c.args.self.now in
     let w = l.writer in
-    on_ok _ _ c.end_frame-ended.result c.end_frame-ended.ensures.stands (λ stands seen told writing later told_later.
-    holds_turned w.settings w.settings w.level w.level w.frame l.frame (later FRAMES) (w.put ++ option_to_list c.take-last.result) (taken l) refl refl l.taking.frame_is
-    (ap (λ (o : Option Piece). w.put ++ option_to_list o) c.take-last.ensures.finished) (stands seen told writing later told_later))
-
-pub returns-clause-taken : goal.returns-clause-taken
-returns-clause-taken g c = taken_none c.start.new.self c.take-last.new.self c.start.ensures.put c.take-last.ensures.none
-
-pub returns-clause-lands : goal.returns-clause-lands
-returns-clause-lands g c =
     let ended = c.end_frame-ended.ensures in
     let started = c.start.ensures in
     record {
-      same = record { settings = started.settings ∙ ended.settings; level = started.level ∙ ended.level; frame = refl };
-      landing = λ seen told landing later told_later. started.writing (later FRAMES);
-      rest = rest_of (bays g) c.args.self.now c.args.bay.now c.end_frame-ended.new.bay ended.rest;
-      kept = ended.kept;
+      stands = on_ok _ _ c.end_frame-ended.result ended.stands (λ stands seen told writing later told_later.
+          holds_turned w.settings w.settings w.level w.level w.frame l.frame (later FRAMES) (w.put ++ option_to_list c.take-last.result) (taken l) refl refl l.taking.frame_is
+          (ap (λ (o : Option Piece). w.put ++ option_to_list o) c.take-last.ensures.finished) (stands seen told writing later told_later));
+      taken = taken_none c.start.new.self c.take-last.new.self started.put c.take-last.ensures.none;
+      lands = record {
+        same = record { settings = started.settings ∙ ended.settings; level = started.level ∙ ended.level; frame = refl };
+        landing = λ seen told landing later told_later. started.writing (later FRAMES);
+        rest = rest_of (bays g) l c.args.bay.now c.end_frame-ended.new.bay ended.rest;
+        kept = ended.kept;
+      };
     }

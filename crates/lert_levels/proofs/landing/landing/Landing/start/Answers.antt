@@ -1,14 +1,8 @@
-use Rattle.lert_levels.proofs.landing.LandingLaws.{taken_none, taking_none, given_anew}
+use Rattle.lert_levels.proofs.landing.LandingLaws.{taken_none, taking_anew}
 use Rattle.lert_levels.proofs.landing.landing.Landing.start.Goals as goal
 
 pub invariant_of-self : goal.invariant_of-self
-invariant_of-self c =
-    let w = c.start.new.self in
-    let sum = c.new-self.result in
-    record {
-      taking = taking_none w sum c.start.ensures.put c.new-self.ensures c.args.frame c.start.ensures.frame;
-      given = given_anew w sum c.start.ensures.put c.new-self.ensures;
-    }
+invariant_of-self c = taking_anew c.start.new.self c.new-self.result c.start.ensures.put c.new-self.ensures c.args.frame c.start.ensures.frame
 
 pub returns-clause-taken : goal.returns-clause-taken
 returns-clause-taken c = taken_none c.start.new.self c.new-self.result c.start.ensures.put c.new-self.ensures

@@ -1,18 +1,31 @@
 use Rattle.lert_levels.proofs.rows.YoungBounds.{dropped_bounded}
-use Rattle.lert_levels.proofs.rows.YoungDrops.{drops, drops_whole, dropped_filled, dropped_bins}
+use Rattle.lert_levels.proofs.rows.YoungDrops.{Drops, drops_whole, dropped_filled, dropped_bins}
 use Rattle.lert_levels.proofs.rows.YoungNumbers.{some_numbered, dropped_numbered}
+use Rattle.lert_levels.proofs.rows.zero.Zero.drop_oldest.Given as given
+use Rattle.lert_levels.proofs.rows.zero.Zero.drop_oldest.Goals.{After-rotate_left}
 use Rattle.lert_levels.proofs.rows.zero.Zero.drop_oldest.Goals as goal
+
+known : (g : given.Over) (c : After-rotate_left g) → Drops g.T.CountTable c.self.inside.settings c.self.inside.tables.items c.self.inside.extent.from c.self.inside.extent.to c.args.self.now
+    c.span-span.result c.clear.new.self c.rotate_left.new.self.items
+known g c = record {
+  filled = c.self.invariant.0;
+  seen = c.self.view_is;
+  whole = c.requires;
+  wide_is = c.span-span.ensures.value;
+  positive = c.span-span.ensures.positive;
+  after_is = c.rotate_left.ensures.items;
+}
 
 pub overflow_sub-self : goal.overflow_sub-self
 overflow_sub-self g c =
-    some_numbered c.self.inside.settings c.self.invariant.2 c.span-span.ensures.value c.span-span.ensures.positive
-    (drops_whole (drops g.T.CountTable.pieces g.T.CountTable.room g.T.CountTable.quotient_bits g.T.CountTable.width c.clear.new.self c.self.invariant.0 c.self.view_is c.requires
-    c.span-span.ensures.value c.span-span.ensures.positive c.rotate_left.ensures.items))
+    some_numbered c.self.inside.settings c.self.invariant.2 c.span-span.ensures.value c.span-span.ensures.positive (drops_whole (known g (goal.at.overflow_sub-self g c).After-rotate_left))
+
+pub overflow_sub-stay : goal.overflow_sub-stay
+overflow_sub-stay g c = drops_whole (known g (goal.at.overflow_sub-stay g c).After-rotate_left)
 
 pub invariant_of-self : goal.invariant_of-self
 invariant_of-self g c =
-    let known = drops g.T.CountTable.pieces g.T.CountTable.room g.T.CountTable.quotient_bits g.T.CountTable.width c.clear.new.self c.self.invariant.0 c.self.view_is c.requires
-    c.span-span.ensures.value c.span-span.ensures.positive c.rotate_left.ensures.items in
+    let known = known g (goal.at.invariant_of-self g c).After-rotate_left in
     let filled = dropped_filled known
     c.index_mut.result.now c.index_mut.ensures.value c.clear.ensures.pieces c.clear.ensures.room c.clear.ensures.quotient_bits c.clear.ensures.width in (
       filled,
@@ -22,11 +35,4 @@ invariant_of-self g c =
     )
 
 pub returns : goal.returns
-returns g c =
-    dropped_bins (drops g.T.CountTable.pieces g.T.CountTable.room g.T.CountTable.quotient_bits g.T.CountTable.width c.clear.new.self c.self.invariant.0 c.self.view_is c.requires
-    c.span-span.ensures.value c.span-span.ensures.positive c.rotate_left.ensures.items)
-
-pub overflow_sub-stay : goal.overflow_sub-stay
-overflow_sub-stay g c =
-    drops_whole (drops g.T.CountTable.pieces g.T.CountTable.room g.T.CountTable.quotient_bits g.T.CountTable.width c.clear.new.self c.self.invariant.0 c.self.view_is c.requires
-    c.span-span.ensures.value c.span-span.ensures.positive c.rotate_left.ensures.items)
+returns g c = dropped_bins (known g (goal.at.returns g c).After-rotate_left)
