@@ -11,7 +11,7 @@ use Rattle.lert_base.specs.declared.count_table.CountTable.{Ghosts as TablesOf}
 use Rattle.lert_spec.specs.declared.numbers.Numbers.{Numbers}
 use Rattle.lert_spec.specs.Bins.{Bin}
 use Rattle.lert_spec.specs.Edges.{span}
-use Rattle.lert_levels.specs.rows.Young.{Young, bins_of, IsOfZero, IsFilled, AreFilled, AreNumbered}
+use Rattle.lert_levels.specs.rows.Young.{seen_as, Young, bins_of, IsOfZero, IsFilled, AreFilled, AreNumbered}
 use Rattle.lert_levels.proofs.rows.YoungLaws.{bins_of-none, bins_of-some, bins_of-length, bits_of_zero}
 use Rattle.lert_levels.proofs.rows.YoungCounts.{width_within}
 
@@ -52,7 +52,7 @@ bins_of-few wide from to (p ∷ tables) = elim (cases_lt from to) [
 pub record IsUsed {T C : Type 0} (of : TablesOf T C) (s : Numbers) (tables all : List T) (from to : ℕ) (young : Young) (count : ℕ) : Type 0
   where
     pub filled : AreFilled of s all from to
-    pub seen : record { settings = s; from = from; to = to; bins = bins_of (span s 0) from to (map of.pieces all) } ≡ young
+    pub seen : seen_as of s all from to ≡ young
     pub same : tables ≡ all
     pub covers : to ≤ from + count * span s 0
     pub few : count * span s 0 < (to - from) + span s 0
@@ -118,7 +118,7 @@ module _ {T C : Type 0} {of : TablesOf T C} {s : Numbers} {tables all : List T} 
       (omega (arith, bins_of-few (span s 0) from to (map of.pieces all), length-map all of.pieces, used.filled.len))
 
 pub used : {T C : Type 0} (of : TablesOf T C) {s : Numbers} {tables all : List T} {from to : ℕ} {young : Young} {count end : ℕ} →
-    AreFilled of s all from to → record { settings = s; from = from; to = to; bins = bins_of (span s 0) from to (map of.pieces all) } ≡ young → tables ≡ all →
+    AreFilled of s all from to → seen_as of s all from to ≡ young → tables ≡ all →
     AreNumbered s from to count end → IsUsed of s tables all from to young count
 used of filled seen same numbered =
     record {

@@ -217,30 +217,24 @@ ranges_back s n level wide low high count positive wide_is low_is high_is count_
     ∙ sym (ranges_run s n level (omega (arith, positive, wide_is)))
 
 -- a level's named row
-pub named_ranges : (s : Numbers) (n : ℕ) (text : List ℕ) (named : List (List BinAt)) → AreNamed s n text named → (i : ℕ) → i < s.levels →
-    map range_of (get_or named i []) ≡ ranges s n (i + 1)
-named_ranges s n text named is i within =
-    let place : i + 1 - 1 ≡ i = omega arith in
-    ap (λ j. map range_of (get_or named j [])) (sym place) ∙ is.at.each (i + 1) (omega arith) (omega arith)
+module _ (s : Numbers) (n : ℕ) (text : List ℕ) (named : List (List BinAt)) (is : AreNamed s n text named) (i : ℕ) (within : i < s.levels) where
+  place : i + 1 - 1 ≡ i
+  place = omega arith
 
-pub named_count : (s : Numbers) (n : ℕ) (text : List ℕ) (named : List (List BinAt)) → AreNamed s n text named → (i : ℕ) → i < s.levels →
-    length (get_or named i []) ≡ length (ranges s n (i + 1))
-named_count s n text named is i within = sym (length-map (get_or named i []) range_of) ∙ ap length (named_ranges s n text named is i within)
+  named_ranges : map range_of (get_or named i []) ≡ ranges s n (i + 1)
+  named_ranges = ap (λ j. map range_of (get_or named j [])) (sym place) ∙ is.at.each (i + 1) (omega arith) (omega arith)
 
-pub named_few : (s : Numbers) (n : ℕ) (text : List ℕ) (named : List (List BinAt)) → AreNamed s n text named → (i : ℕ) → i < s.levels → length (get_or named i []) ≤ s.bins
-named_few s n text named is i within =
-    let place : i + 1 - 1 ≡ i = omega arith in
-    let row = is.are.each (i + 1) (omega arith) (omega arith) in
-    omega (arith, row.few, ap (λ j. length (get_or named j [])) place)
+  pub named_count : length (get_or named i []) ≡ length (ranges s n (i + 1))
+  named_count = sym (length-map (get_or named i []) range_of) ∙ ap length named_ranges
 
--- the row with a level's positions and the named frames is the named one
-pub row_restored : (s : Numbers) (n : ℕ) (text : List ℕ) (named : List (List BinAt)) → AreNamed s n text named → (i at : ℕ) → i < s.levels →
-    at ≡ length (directory_text (take i named)) → (row : List BinAt) (frames : List ℕ) →
-    map range_of row ≡ ranges s n (i + 1) → map (λ (bin : BinAt). bin.frame) row ≡ frames → frames ≡ slice_range text (at + 1) (at + 1 + slice_index text at) →
-    row ≡ get_or named i []
-row_restored s n text named is i at within at_is row frames ranges_are frames_are lent =
-    row_same row (get_or named i []) (ranges_are ∙ sym (named_ranges s n text named is i within))
-    (frames_are ∙ lent ∙ frames_there text named is.text_is i at (omega (arith, is.at.levels)) at_is)
+  pub named_few : length (get_or named i []) ≤ s.bins
+  named_few = omega (arith, (is.are.each (i + 1) (omega arith) (omega arith)).few, ap (λ j. length (get_or named j [])) place)
+
+  -- the row with its positions and the named frames is the named one
+  pub row_restored : (at : ℕ) → at ≡ length (directory_text (take i named)) → (row : List BinAt) (frames : List ℕ) → map range_of row ≡ ranges s n (i + 1) →
+      map (λ (bin : BinAt). bin.frame) row ≡ frames → frames ≡ slice_range text (at + 1) (at + 1 + slice_index text at) → row ≡ get_or named i []
+  row_restored at at_is row frames ranges_are frames_are lent =
+      row_same row (get_or named i []) (ranges_are ∙ sym named_ranges) (frames_are ∙ lent ∙ frames_there text named is.text_is i at (omega (arith, is.at.levels)) at_is)
 
 -- one row more
 pub restored_more : (named rows : List (List BinAt)) (i : ℕ) (new : List BinAt) → i < length rows → i < length named →

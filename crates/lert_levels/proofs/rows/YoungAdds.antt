@@ -9,14 +9,14 @@ use Rattle.lert_spec.specs.declared.numbers.Numbers.{Numbers}
 use Rattle.lert_spec.specs.Edges.{span, capacity}
 use Rattle.lert_spec.specs.Table.{total, plus}
 use Rattle.lert_spec.proofs.Tables.{total-plus}
-use Rattle.lert_levels.specs.rows.Young.{Young, added, with_event, IsNextPosition, bins_of, IsFilled, AreFilled}
+use Rattle.lert_levels.specs.rows.Young.{seen_as, Young, added, with_event, IsNextPosition, bins_of, IsFilled, AreFilled}
 use Rattle.lert_levels.proofs.rows.YoungLaws.{bins_of-none, bins_of-begin, bins_of-grow, IsPlace, place_of, added-begin, added-grow, some_bins, bits_of_zero, same_numbers}
 
 -- what is known where a position is added: the fields, what callers see, and the number of the table
 pub record Adds {T C : Type 0} (of : TablesOf T C) (s : Numbers) (tables : List T) (from to : ℕ) (young : Young) (m begin wide at : ℕ) : Type 0
   where
     pub filled : AreFilled of s tables from to
-    pub seen : record { settings = s; from = from; to = to; bins = bins_of (span s 0) from to (map of.pieces tables) } ≡ young
+    pub seen : seen_as of s tables from to ≡ young
     pub next : IsNextPosition young m
     pub begin_is : begin ≡ cond (eqb from to) (m - 1) from
     pub wide_is : wide ≡ span s 0
@@ -177,7 +177,7 @@ module _ {T C : Type 0} {of : TablesOf T C} {s : Numbers} {tables : List T} {fro
       }
 
   pub add_bins : (old new : T) (tail : ℕ) → old ≡ get_or tables at old → of.pieces new ≡ plus (of.pieces old) tail 1 →
-      record { settings = s; from = begin; to = m; bins = bins_of (span s 0) begin m (map of.pieces (set tables at new)) } ≡ with_event young tail m
+      seen_as of s (set tables at new) begin m ≡ with_event young tail m
   add_bins old new tail is pieces_are =
       let place = stands.place in
       let within = add_place in
@@ -204,5 +204,5 @@ module _ {T C : Type 0} {of : TablesOf T C} {s : Numbers} {tables : List T} {fro
       ∙ ap (λ k. bins_of (span s 0) begin k (set held at (plus (get_or held at []) tail 1))) (sym stands.first)
       ∙ grows
       ∙ ap₂ (λ bins k. added s bins tail k) stands.same stands.first in
-      subst (λ y. record { settings = s; from = begin; to = m; bins = bins_of (span s 0) begin m (map of.pieces (set tables at new)) } ≡ with_event y tail m) adds.seen
+      subst (λ y. seen_as of s (set tables at new) begin m ≡ with_event y tail m) adds.seen
       (λ i. record { settings = s; from = adds.begin_is i; to = m; bins = bins_are i })

@@ -1,6 +1,6 @@
 -- What the bound of level 0 covers, as an event is added and the oldest bin is dropped.
 use Rattle.std.proofs.Common.{ℕ, zero, suc, ◌≡◌, ◌≢◌, ◌+◌, ◌-◌, ◌*◌, ◌/◌, ◌%◌, ◌<◌, ◌≤◌, cond, eqb, List, [], ◌∷◌, ◌++◌, length, get_or}
-use Rattle.std.proofs.Common.{set, map, refl, ap, sym, ◌∙◌}
+use Rattle.std.proofs.Common.{set, refl, ap, sym, ◌∙◌}
 use Rattle.std.proofs.Common.{subst, arith, inl, inr, take, drop, sum_by}
 use Rattle.std.proofs.Math.Nat.{div-add-mod, mul-le-mul_right, suc-mul, mul_comm}
 use Rattle.std.proofs.lemmas.Bool.{cases_lt, cases_eq, cases_order}
@@ -15,7 +15,7 @@ use Rattle.lert_spec.specs.Bins.{Bin}
 use Rattle.lert_spec.specs.Edges.{span}
 use Rattle.lert_spec.specs.Table.{count_of, plus}
 use Rattle.lert_spec.proofs.Tables.{plus_here, plus_before, plus_behind}
-use Rattle.lert_levels.specs.rows.Young.{Young, bins_of, AreFilled, AreBounded, times_in}
+use Rattle.lert_levels.specs.rows.Young.{seen_as, Young, AreFilled, AreBounded, times_in}
 use Rattle.lert_levels.proofs.rows.YoungLaws.{AreEmpty, some_bins}
 use Rattle.lert_levels.proofs.rows.YoungAdds.{Adds, add_place, add_behind}
 use Rattle.lert_levels.proofs.rows.YoungCounts.{counts_are}
@@ -233,7 +233,7 @@ dropped_bounded {T} {C} {of} {s} {tables} {from} {to} {young} {wide} {new} {afte
 -- ---- a tail that the bound refuses
 
 pub fewer_in_bins : {T C : Type 0} (of : TablesOf T C) {s : Numbers} {tables : List T} {from to : ℕ} {young : Young} →
-    AreFilled of s tables from to → record { settings = s; from = from; to = to; bins = bins_of (span s 0) from to (map of.pieces tables) } ≡ young →
+    AreFilled of s tables from to → seen_as of s tables from to ≡ young →
     (earlier tail count : ℕ) → times_in of.pieces (take earlier tables) tail + times_in of.pieces (drop earlier tables) tail < count →
     sum_by (λ bin. count_of bin.pieces tail) young.bins < count
 fewer_in_bins {T} {C} of {s} {tables} {from} {to} {young} filled seen earlier tail count fewer =

@@ -13,7 +13,7 @@ use Rattle.lert_spec.specs.Limits.{IsValid}
 use Rattle.lert_spec.specs.Table.{count_of, total}
 use Rattle.lert_spec.proofs.TallyLaws.{count_of-cons_same, count_of-cons_other}
 use Rattle.std.proofs.lemmas.List.Sums.{sum_by-cons, sum_by_more}
-use Rattle.lert_levels.specs.rows.Young.{Young, bins_of, AreFilled}
+use Rattle.lert_levels.specs.rows.Young.{seen_as, Young, bins_of, AreFilled}
 use Rattle.lert_levels.proofs.rows.YoungLaws.{bins_of-none, bins_of-some}
 
 pub count_of_le-total : (ps : List Piece) (tail : ℕ) → count_of ps tail ≤ total ps
@@ -30,28 +30,6 @@ width_within s valid = let one : s.ratio ^ 0 ≡ 1 = pow-zero s.ratio in omega (
 pub record IsCounted {T : Type 0} (pieces : T → List Piece) (tables : List T) (tail number count : ℕ) : Type 0 where
   pub is : count ≡ sum_by (λ table. count_of (pieces table) tail) (take number tables)
   pub few : count ≤ number * 65536
-
-pub counted_more : {T C : Type 0} (of : TablesOf T C) (s : Numbers) (all tables : List T) (from to : ℕ) →
-    AreFilled of s all from to → tables ≡ all →
-    (tail number count : ℕ) → IsCounted of.pieces tables tail number count → number < length tables → (table : T) → table ≡ get_or tables number table → (more : ℕ) →
-    more ≡ count_of (of.pieces table) tail →
-    IsCounted of.pieces tables tail (number + 1) (count + more)
-counted_more {T} {C} of s all tables from to filled same_tables tail number count counted below table is more more_is =
-    let here = (subst (λ (ts : List T). AreFilled of s ts from to) (sym same_tables) filled).each number table below in
-    let few = count_of_le-total (of.pieces table) tail in
-    let same : total (of.pieces (get_or tables number table)) ≡ total (of.pieces table) = ap (λ (t : T). total (of.pieces t)) (sym is) in
-    let narrow = width_within s filled.valid in
-    record {
-      is = ap₂ (λ a b. a + b) counted.is (more_is ∙ ap (λ (t : T). count_of (of.pieces t) tail) is) ∙ sym (sum_by_more (λ (t : T). count_of (of.pieces t) tail) tables number table below);
-      few = omega (arith, counted.few, here.summed);
-    }
-
-pub counted_fits : {T C : Type 0} (of : TablesOf T C) (s : Numbers) (all tables : List T) (from to : ℕ) →
-    AreFilled of s all from to → tables ≡ all →
-    (tail number count : ℕ) → IsCounted of.pieces tables tail number count → number ≤ length tables → count < 2 ^ 63
-counted_fits of s all tables from to filled same_tables tail number count counted below =
-    let len = filled.len in
-    omega (arith, counted.few, filled.valid.limits.bins_to, ap length same_tables)
 
 pub counts_are : {T : Type 0} (pieces : T → List Piece) (tail wide from to : ℕ) (tables : List T) →
     ((k : ℕ) (d : T) → k < length tables → to ≤ from + k * wide → pieces (get_or tables k d) ≡ []) →
@@ -73,12 +51,27 @@ counts_are {T} pieces tail wide from to (table ∷ tables) unused =
           ap (sum_by (λ (bin : Bin). count_of bin.pieces tail)) over ∙ omega (arith, later))
     ]
 
-pub counted_all : {T C : Type 0} (of : TablesOf T C) (s : Numbers) (all tables : List T) (from to : ℕ) →
-    AreFilled of s all from to → tables ≡ all →
-    (young : Young) → record { settings = s; from = from; to = to; bins = bins_of (span s 0) from to (map of.pieces all) } ≡ young →
-    (tail number count : ℕ) → IsCounted of.pieces tables tail number count → length tables ≤ number → count ≡ sum_by (λ bin. count_of bin.pieces tail) young.bins
-counted_all {T} {C} of s all tables from to filled same_tables young seen tail number count counted over =
-    counted.is
-    ∙ ap (sum_by (λ (t : T). count_of (of.pieces t) tail)) (take_all number tables over ∙ same_tables)
-    ∙ sym (counts_are of.pieces tail (span s 0) from to all (λ k d below behind. (filled.each k d below).unused behind))
-    ∙ ap (λ (y : Young). sum_by (λ (bin : Bin). count_of bin.pieces tail) y.bins) seen
+-- as one table after the other is asked
+module _ {T C : Type 0} (of : TablesOf T C) (s : Numbers) (all tables : List T) (from to : ℕ) (filled : AreFilled of s all from to) (same_tables : tables ≡ all)
+    (tail number count : ℕ) (counted : IsCounted of.pieces tables tail number count) where
+  pub counted_more : number < length tables → (table : T) → table ≡ get_or tables number table → (more : ℕ) → more ≡ count_of (of.pieces table) tail →
+      IsCounted of.pieces tables tail (number + 1) (count + more)
+  counted_more below table is more more_is =
+      let here = (subst (λ (ts : List T). AreFilled of s ts from to) (sym same_tables) filled).each number table below in
+      let few = count_of_le-total (of.pieces table) tail in
+      let same : total (of.pieces (get_or tables number table)) ≡ total (of.pieces table) = ap (λ (t : T). total (of.pieces t)) (sym is) in
+      let narrow = width_within s filled.valid in
+      record {
+        is = ap₂ (λ a b. a + b) counted.is (more_is ∙ ap (λ (t : T). count_of (of.pieces t) tail) is) ∙ sym (sum_by_more (λ (t : T). count_of (of.pieces t) tail) tables number table below);
+        few = omega (arith, counted.few, here.summed);
+      }
+
+  pub counted_fits : number ≤ length tables → count < 2 ^ 63
+  counted_fits below = omega (arith, counted.few, filled.valid.limits.bins_to, filled.len, ap length same_tables)
+
+  pub counted_all : (young : Young) → seen_as of s all from to ≡ young → length tables ≤ number → count ≡ sum_by (λ bin. count_of bin.pieces tail) young.bins
+  counted_all young seen over =
+      counted.is
+      ∙ ap (sum_by (λ (t : T). count_of (of.pieces t) tail)) (take_all number tables over ∙ same_tables)
+      ∙ sym (counts_are of.pieces tail (span s 0) from to all (λ k d below behind. (filled.each k d below).unused behind))
+      ∙ ap (λ (y : Young). sum_by (λ (bin : Bin). count_of bin.pieces tail) y.bins) seen

@@ -12,7 +12,7 @@ use Rattle.lert_spec.specs.declared.piece.Piece.{Piece}
 use Rattle.lert_spec.specs.Bins.{Bin}
 use Rattle.lert_spec.specs.Edges.{span}
 use Rattle.lert_spec.specs.Table.{total}
-use Rattle.lert_levels.specs.rows.Young.{Young, bins_of, IsFilled, AreFilled}
+use Rattle.lert_levels.specs.rows.Young.{seen_as, Young, bins_of, IsFilled, AreFilled}
 use Rattle.lert_levels.proofs.rows.YoungLaws.{bins_of-none, bins_of-some, rest_of, some_bins, same_numbers}
 
 -- tables behind the last position show nothing
@@ -70,7 +70,7 @@ drop_filled of (first ∷ rest) {s} {from} {to} {wide} filled wide_is positive w
 
 drop_bins : {T C : Type 0} (of : TablesOf T C) (tables : List T) {s : Numbers} {from to wide : ℕ} {young : Young} →
     AreFilled of s tables from to →
-    record { settings = s; from = from; to = to; bins = bins_of (span s 0) from to (map of.pieces tables) } ≡ young →
+    seen_as of s tables from to ≡ young →
     wide ≡ span s 0 → 1 ≤ wide → young.from + span young.settings 0 ≤ young.to → (new : T) →
     record { settings = s; from = from + wide; to = to; bins = bins_of (span s 0) (from + wide) to (map of.pieces (drop 1 (set tables 0 new) ++ take 1 (set tables 0 new))) }
     ≡ record young { from = young.from + span young.settings 0; bins = drop 1 young.bins }
@@ -88,7 +88,7 @@ drop_bins of (first ∷ rest) {s} {from} {to} {wide} {young} filled seen wide_is
     ∙ bins_of-behind (span s 0) (from + wide) to held (of.pieces new ∷ []) (omega arith)
     ∙ ap (λ w. bins_of (span s 0) (from + w) to held) wide_is
     ∙ sym (ap (drop 1) (bins_of-some (span s 0) from to (of.pieces first) held (omega arith))) in
-    subst (λ (y : Young). record { settings = s; from = from + wide; to = to; bins = bins_of (span s 0) (from + wide) to (map of.pieces (rest ++ new ∷ [])) }
+    subst (λ (y : Young). seen_as of s (rest ++ new ∷ []) (from + wide) to
     ≡ record y { from = y.from + span y.settings 0; bins = drop 1 y.bins }) seen
     (λ i. record { settings = s; from = from + wide_is i; to = to; bins = bins_are i })
 
@@ -96,7 +96,7 @@ drop_bins of (first ∷ rest) {s} {from} {to} {wide} {young} filled seen wide_is
 pub record Drops {T C : Type 0} (of : TablesOf T C) (s : Numbers) (tables : List T) (from to : ℕ) (young : Young) (wide : ℕ) (new : T)
     (after : List T) : Type 0 where
   pub filled : AreFilled of s tables from to
-  pub seen : record { settings = s; from = from; to = to; bins = bins_of (span s 0) from to (map of.pieces tables) } ≡ young
+  pub seen : seen_as of s tables from to ≡ young
   pub whole : young.from + span young.settings 0 ≤ young.to
   pub wide_is : wide ≡ span s 0
   pub positive : 1 ≤ wide
@@ -119,8 +119,8 @@ module _ {T C : Type 0} {of : TablesOf T C} {s : Numbers} {tables : List T} {fro
       subst (λ (ts : List T). AreFilled of s ts (from + wide) to) (sym drops.after_is)
       (drop_filled of tables drops.filled drops.wide_is drops.positive (omega arith) old new is pieces_are room_is quotient_is remainder_is)
 
-  pub dropped_bins : record { settings = s; from = from + wide; to = to; bins = bins_of (span s 0) (from + wide) to (map of.pieces after) }
+  pub dropped_bins : seen_as of s after (from + wide) to
       ≡ record young { from = young.from + span young.settings 0; bins = drop 1 young.bins }
   dropped_bins =
-      (λ i. record { settings = s; from = from + wide; to = to; bins = bins_of (span s 0) (from + wide) to (map of.pieces (drops.after_is i)) })
+      (λ i. seen_as of s (drops.after_is i) (from + wide) to)
       ∙ drop_bins of tables drops.filled drops.seen drops.wide_is drops.positive drops.whole new

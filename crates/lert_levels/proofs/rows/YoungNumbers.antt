@@ -1,5 +1,5 @@
 -- The numbers that level 0 keeps of its bins, as an event is added and the oldest bin is dropped.
-use Rattle.std.proofs.Common.{ℕ, suc, ◌≡◌, ◌≢◌, ◌+◌, ◌-◌, ◌*◌, ◌/◌, ◌^◌, ◌<◌, ◌≤◌, cond, eqb, List, map, ap, sym, ◌∙◌, subst, arith, inl, inr}
+use Rattle.std.proofs.Common.{ℕ, suc, ◌≡◌, ◌≢◌, ◌+◌, ◌-◌, ◌*◌, ◌/◌, ◌^◌, ◌<◌, ◌≤◌, cond, eqb, List, ap, sym, ◌∙◌, subst, arith, inl, inr}
 use Rattle.std.proofs.Math.Nat.{mul-le-mul_right, suc-mul}
 use Rattle.std.proofs.lemmas.Bool.{eq-eqb, ne_eqb, cases_lt, cases_eq}
 use Rattle.std.proofs.lemmas.Nat.{div-mul-add}
@@ -8,7 +8,7 @@ use Rattle.lert_spec.specs.declared.numbers.Numbers.{Numbers}
 use Rattle.lert_spec.specs.Edges.{span}
 use Rattle.lert_spec.specs.Limits.{IsValid}
 use Rattle.lert_spec.proofs.EdgeLaws.{span_pos}
-use Rattle.lert_levels.specs.rows.Young.{Young, IsNextPosition, bins_of, AreFilled, AreNumbered}
+use Rattle.lert_levels.specs.rows.Young.{seen_as, Young, IsNextPosition, AreFilled, AreNumbered}
 use Rattle.lert_levels.proofs.rows.YoungCounts.{width_within}
 
 -- where a position is in the newest bin
@@ -107,7 +107,7 @@ pub record IsNumbered (s : Numbers) (begin m wide bins end : ℕ) : Type 0 where
 
 pub numbered : {T C : Type 0} (of : TablesOf T C) {s : Numbers} {tables : List T} {from to : ℕ} {young : Young}
     {m begin wide bins end bins' end' : ℕ} →
-    AreFilled of s tables from to → record { settings = s; from = from; to = to; bins = bins_of (span s 0) from to (map of.pieces tables) } ≡ young →
+    AreFilled of s tables from to → seen_as of s tables from to ≡ young →
     IsNextPosition young m → AreNumbered s from to bins end → begin ≡ cond (eqb from to) (m - 1) from → wide ≡ span s 0 → 1 ≤ wide →
     (to ≡ end → (bins' ≡ bins + 1) × (end' ≡ m - 1 + wide)) → (to ≢ end → (bins' ≡ bins) × (end' ≡ end)) → IsNumbered s begin m wide bins' end'
 numbered of {s} {tables} {from} {to} {young} {m} {begin} {wide} {bins} {end} {bins'} {end'} filled seen next old begin_is wide_is positive begins grows =
@@ -140,7 +140,7 @@ small_bins {T} {C} {of} {s} {tables} {from} {to} {bins} {end} filled numbers =
     omega (arith, few_bins filled numbers, filled.valid.limits.bins_to)
 
 pub small_end : {T C : Type 0} (of : TablesOf T C) {s : Numbers} {tables : List T} {from to : ℕ} {young : Young} {m wide : ℕ} →
-    AreFilled of s tables from to → record { settings = s; from = from; to = to; bins = bins_of (span s 0) from to (map of.pieces tables) } ≡ young →
+    AreFilled of s tables from to → seen_as of s tables from to ≡ young →
     IsNextPosition young m → wide ≡ span s 0 → m + wide < 2 ^ 63
 small_end of {s} {tables} {from} {to} {young} {m} {wide} filled seen next wide_is =
     let here = subst (λ y. IsNextPosition y m) (sym seen) next in

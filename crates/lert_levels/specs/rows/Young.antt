@@ -1,5 +1,5 @@
 -- Level 0 in memory: the bins of the newest positions, oldest first, each with a table of its own.
-use Rattle.std.specs.Prelude.{ℕ, suc, ◌≡◌, ◌≢◌, ◌+◌, ◌-◌, ◌*◌, ◌%◌, ◌<◌, ◌≤◌, ◌==◌, nat_lt, min, List, [], ◌∷◌, ◌++◌, length}
+use Rattle.std.specs.Prelude.{ℕ, suc, ◌≡◌, ◌≢◌, ◌+◌, ◌-◌, ◌*◌, ◌%◌, ◌<◌, ◌≤◌, ◌==◌, nat_lt, min, List, [], ◌∷◌, ◌++◌, length, map}
 use Rattle.std.specs.Prelude.{if◌then◌else◌, slice_index_or, take, drop, sum_by}
 use Rattle.lert_levels.specs.declared.bound.pair.Pair.{Pair}
 use Rattle.lert_levels.specs.bound.Covers.{CoversCounts}
@@ -58,6 +58,10 @@ bins_of wide from to (pieces ∷ tables) =
     if nat_lt from to
     then record { from = from; to = min to (from + wide); pieces = pieces } ∷ bins_of wide (from + wide) to tables
     else []
+
+-- what tables are seen as
+abbrev pub seen_as : {T C : Type 0} → TablesOf T C → Numbers → List T → ℕ → ℕ → Young
+seen_as of s tables from to = record { settings = s; from = from; to = to; bins = bins_of (span s 0) from to (map of.pieces tables) }
 
 -- a table with the room, the quotient bits and the width of level 0
 pub record IsOfZero (s : Numbers) (room quotient remainder : ℕ) : Type 0 where

@@ -31,18 +31,12 @@ pub struct Zero<T: CountTable> {
 }
 
 impl<T: CountTable> Model for Zero<T> {
-    ghost use Rattle.std.specs.Prelude.{map};
-    ghost use Rattle.lert_spec.specs.Edges.{span};
-    ghost use Rattle.lert_levels.specs.rows.Young.{Young, bins_of, AreFilled, AreBounded, AreNumbered};
+    ghost use Rattle.std.specs.Prelude.{◌≡◌};
+    ghost use Rattle.lert_levels.specs.rows.Young.{Young, seen_as, AreFilled, AreBounded, AreNumbered};
 
     ghost Value = { Young };
 
-    ghost view = { λ z. record {
-      settings = z.settings;
-      from = z.extent.from;
-      to = z.extent.to;
-      bins = bins_of (span z.settings 0) z.extent.from z.extent.to (map T.pieces z.tables.items);
-    } };
+    ghost view = { λ z. seen_as T.CountTable z.settings z.tables.items z.extent.from z.extent.to };
 
     ghost invariant = { λ z. AreFilled T.CountTable z.settings z.tables.items z.extent.from z.extent.to
         × AreBounded T.pieces z.settings z.tables.items z.extent.from z.extent.to z.bound z.earlier

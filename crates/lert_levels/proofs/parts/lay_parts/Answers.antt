@@ -1,5 +1,4 @@
 use Rattle.std.proofs.Common.{◌≡◌, ◌+◌, ◌<◌, ◌∙◌, ◌++◌, None, replicate, length, ap, sym, subst, arith, add-one, refl}
-use Rattle.lert_spec.specs.declared.numbers.Numbers.{Numbers}
 use Rattle.lert_levels.specs.Parts.{ArePartsOf, streams_to, oldest_stream, newest_stream, part_at, set_two}
 use Rattle.lert_levels.proofs.PartLaws.{IsAdded, level_added, streams_more, streams_few_more, parts_none, some_streams}
 use Rattle.lert_levels.proofs.rows.ReadLaws.{row_here}
@@ -46,16 +45,6 @@ add_streams-requires-in-loop-lower c =
       c.requires.room,
       c.loop-lower.invariant.room,
     )
-
-pub overflow_cast-lower : goal.overflow_cast-lower
-overflow_cast-lower c =
-    let levels = ap (λ (s : Numbers). s.levels) c.numbers-valid.ensures.value in
-    record { fits = omega (arith, c.loop-lower-test.true, c.requires.rows.few, levels, c.numbers-valid.ensures.valid.limits.levels_to) }
-
-pub overflow_add-lower : goal.overflow_add-lower
-overflow_add-lower c =
-    let levels = ap (λ (s : Numbers). s.levels) c.numbers-valid.ensures.value in
-    record { fits = omega (arith, c.loop-lower-test.true, c.requires.rows.few, levels, c.numbers-valid.ensures.valid.limits.levels_to) }
 
 pub newest_of-newest-requires : goal.newest_of-newest-requires
 newest_of-newest-requires c = record {

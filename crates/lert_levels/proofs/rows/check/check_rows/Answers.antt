@@ -26,16 +26,6 @@ here g c = row_here c.args.rows.now c.loop-lower.lower c.index-rows-lower.result
 pub bounds-rows-lower : goal.bounds-rows-lower
 bounds-rows-lower g c = c.loop-lower-test.true
 
-pub overflow_cast-lower : goal.overflow_cast-lower
-overflow_cast-lower g c =
-    let levels = ap (λ (s : Numbers). s.levels) c.numbers-valid.ensures.value in
-    record { fits = omega (arith, c.loop-lower-test.true, c.requires.rows.few, levels, c.numbers-valid.ensures.valid.limits.levels_to) }
-
-pub overflow_add-lower : goal.overflow_add-lower
-overflow_add-lower g c =
-    let levels = ap (λ (s : Numbers). s.levels) c.numbers-valid.ensures.value in
-    record { fits = omega (arith, c.loop-lower-test.true, c.requires.rows.few, levels, c.numbers-valid.ensures.valid.limits.levels_to) }
-
 pub check_row-requires : goal.check_row-requires
 check_row-requires g c =
     let i = c.loop-lower.lower in

@@ -45,7 +45,7 @@ loop-lower-preserved c =
       done = λ named is.
           restored_more named c.loop-lower.rows i c.restore_row.new.row (omega (arith, c.loop-lower-test.true, c.loop-lower.auto.rows)) (omega (arith, within, is.at.levels))
           (c.loop-lower.invariant.done named is)
-          (row_restored c.args.settings.now c.args.n0 text named is i c.loop-lower.at within (c.loop-lower.invariant.place named is) c.restore_row.new.row c.frames_at-frames.result.now
+          (row_restored c.args.settings.now c.args.n0 text named is i within c.loop-lower.at (c.loop-lower.invariant.place named is) c.restore_row.new.row c.frames_at-frames.result.now
           c.restore_row.ensures.ranges c.restore_row.ensures.frames c.frames_at-frames.ensures.frames);
     }
 

@@ -8,16 +8,6 @@ use Rattle.lert_levels.proofs.rows.rows.move_rows.Goals as goal
 pub bounds-rows-lower : goal.bounds-rows-lower
 bounds-rows-lower c = omega (arith, c.loop-lower-test.true, c.loop-lower.auto.rows)
 
-pub overflow_cast-lower : goal.overflow_cast-lower
-overflow_cast-lower c =
-    let levels = ap (λ (s : Numbers). s.levels) c.numbers-valid.ensures.value in
-    record { fits = omega (arith, c.loop-lower-test.true, c.requires.rows.levels, levels, c.numbers-valid.ensures.valid.limits.levels_to) }
-
-pub overflow_add-lower : goal.overflow_add-lower
-overflow_add-lower c =
-    let levels = ap (λ (s : Numbers). s.levels) c.numbers-valid.ensures.value in
-    record { fits = omega (arith, c.loop-lower-test.true, c.requires.rows.levels, levels, c.numbers-valid.ensures.valid.limits.levels_to) }
-
 pub move_row-requires : goal.move_row-requires
 move_row-requires c =
     let i = c.loop-lower.lower in
