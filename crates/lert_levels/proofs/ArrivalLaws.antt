@@ -1,6 +1,6 @@
 -- What the parts of a flush's merge make: the new bins.
 use Rattle.std.proofs.Common.{ℕ, ◌≡◌, ◌+◌, ◌-◌, ◌*◌, ◌/◌, ◌%◌, ◌^◌, ◌<◌, ◌≤◌, ◌≢◌, zero, suc, cond, true, false, List, [], ◌∷◌, ◌++◌, length, map, take, get_or, Some}
-use Rattle.std.proofs.Common.{None, refl, ap, ap₂, sym, ◌∙◌, arith, inl, inr, subst, sum_by, flat_map, slice_range}
+use Rattle.std.proofs.Common.{None, refl, ap, ap₂, sym, ◌∙◌, arith, inl, inr, subst, flat_map, slice_range}
 use Rattle.std.specs.Prelude.{sum}
 use Rattle.std.specs.List.{All}
 use Rattle.std.proofs.Math.Nat.{mul-suc, mul_comm, mul-mod_left}
@@ -16,20 +16,17 @@ use Rattle.lert_spec.specs.Table.{count_of, IsTable}
 use Rattle.lert_spec.proofs.EdgeLaws.{steps, moves_by_one, deepest_within}
 use Rattle.lert_spec.proofs.TallyLaws.{IsTable-tallied}
 use Rattle.lert_levels.specs.landing.Summed.{sums_of, AreTables}
-use Rattle.lert_levels.proofs.landing.SummedLaws.{IsTable-sums_of, count_of-sums_of}
+use Rattle.lert_levels.proofs.landing.SummedLaws.{count_in, IsTable-sums_of, count_of-sums_of}
 use Rattle.lert_levels.specs.declared.rows.bin_at.BinAt.{BinAt}
 use Rattle.lert_levels.specs.rows.Loading.{width_of, widths_in, held_in}
 use Rattle.lert_levels.specs.Merged.{streams_of, widths_of, Fills, AreBins}
 use Rattle.lert_levels.specs.Parts.{streams_to, oldest_stream, part_at, list_at, newest_in, in_part, part_table, HaveParts}
 use Rattle.lert_levels.specs.rows.Ranges.{Range, ranges, filled, young_bins}
-use Rattle.lert_levels.specs.rows.Rows.{range_of, row_of, IsAt, newest, begins, arrived, tallied_in}
+use Rattle.lert_levels.specs.rows.Rows.{range_of, row_of, IsAt, newest, begins, arrived, tallied_in, nothing}
 use Rattle.lert_levels.proofs.PartLaws.{streams_more, stream_at}
 use Rattle.lert_levels.proofs.rows.RangeLaws.{range_cuts, oldest_is, oldest_young, depth_moves}
 use Rattle.lert_levels.proofs.rows.RowLaws.{row_among, Arrives, arrives}
 use Rattle.lert_levels.proofs.rows.Windows.{counted, counted-join, window_table, young-ranges}
-
-abbrev nothing : BinAt
-nothing = record { from = 0; to = 0; frame = 0 }
 
 -- a level's newest bin among the streams
 newest_at : {X : Type 0} (h : BinAt → X) (first : List X) (rows : List (List BinAt)) (young k : ℕ) (e : X) → length first ≡ young → k < length rows →
@@ -48,10 +45,6 @@ oldest_at : {X : Type 0} (h : BinAt → X) (first : List X) (rows : List (List B
 oldest_at h first rows young k e len below some =
     stream_at (λ r. map h r) (λ r. length-map r h) first rows young k 0 (streams_to young rows k) e len below (omega arith) (omega arith)
     ∙ get_or-map h (get_or rows k []) 0 nothing e (omega arith)
-
--- how often a tail stands in some lists
-abbrev count_in : List (List Piece) → ℕ → ℕ
-count_in lists tail = sum_by (λ pieces. count_of pieces tail) lists
 
 -- one of some bins
 bins_at : (limit : ℕ) (widths : List ℕ) (lists : List (List Piece)) (k : ℕ) → AreBins limit widths lists → k < length lists → Fills limit (get_or widths k 0) (get_or lists k [])
@@ -79,10 +72,10 @@ module _ (s : Numbers) (valid : IsValid s) (m : ℕ) (first : 1 ≤ m) (fits : m
   ratio : 1 ≤ s.ratio
   ratio = omega (arith, valid.limits.ratio_from)
 
-  deep : depth s m ≤ s.levels
+  pub deep : depth s m ≤ s.levels
   deep = deepest_within s base ratio s.levels m
 
-  enough : length (take (depth s m) rows) ≡ depth s m
+  pub enough : length (take (depth s m) rows) ≡ depth s m
   enough = omega (arith, length-take (depth s m) rows, at.levels, deep)
 
   -- the row of a level that the flush reaches

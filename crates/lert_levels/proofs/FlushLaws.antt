@@ -1,6 +1,5 @@
 -- What the merge of a flush or a scan makes, in the words of the cone's events.
-use Rattle.std.proofs.Common.{ℕ, ◌≡◌, ◌-◌, ◌<◌, ◌≤◌, List, [], length, map, take, get_or, ap, ◌∙◌, arith, subst, slice_range, sum_by}
-use Rattle.std.proofs.Common.{length-take}
+use Rattle.std.proofs.Common.{ℕ, ◌≡◌, ◌-◌, ◌<◌, ◌≤◌, List, [], length, map, take, get_or, ap, ◌∙◌, arith, subst, slice_range}
 use Rattle.std.proofs.lemmas.List.{length-map, get_or-map}
 use Rattle.std.proofs.lemmas.List.FromFn.{get_or-map-range_with_len, length-map-range_with_len}
 use Rattle.lert_frames.specs.Place.{tail_limit}
@@ -9,23 +8,18 @@ use Rattle.lert_spec.specs.declared.piece.Piece.{Piece}
 use Rattle.lert_spec.specs.Bins.{Bin, tallied}
 use Rattle.lert_spec.specs.Edges.{edge, depth, lookback, capacity}
 use Rattle.lert_spec.specs.Limits.{IsValid}
-use Rattle.lert_spec.specs.Table.{count_of, IsTable}
-use Rattle.lert_spec.proofs.EdgeLaws.{deepest_within}
+use Rattle.lert_spec.specs.Table.{IsTable}
 use Rattle.lert_levels.specs.landing.Summed.{sums_of}
-use Rattle.lert_levels.proofs.landing.SummedLaws.{IsTable-sums_of, count_of-sums_of}
+use Rattle.lert_levels.proofs.landing.SummedLaws.{count_in, IsTable-sums_of, count_of-sums_of}
 use Rattle.lert_levels.specs.declared.rows.bin_at.BinAt.{BinAt}
 use Rattle.lert_levels.specs.Flushed.{AreNew, AreEvents, AreAllEvents}
 use Rattle.lert_levels.specs.Merged.{IsMade, streams_of, widths_of}
 use Rattle.lert_levels.specs.Parts.{Part, part_at, parts_at, part_table}
 use Rattle.lert_levels.specs.rows.Ranges.{young_bins}
 use Rattle.lert_levels.specs.rows.Rows.{IsAt, AreRows, tallied_in}
-use Rattle.lert_levels.proofs.ArrivalLaws.{tables_from_bins, part_holds}
+use Rattle.lert_levels.proofs.ArrivalLaws.{deep, enough, tables_from_bins, part_holds}
 use Rattle.lert_levels.proofs.rows.CoverLaws.{flush_totals, scan_totals}
 use Rattle.lert_levels.proofs.HoldLaws.{rows_stand}
-
--- how often a tail stands in some lists
-abbrev count_in : List (List Piece) → ℕ → ℕ
-count_in lists tail = sum_by (λ pieces. count_of pieces tail) lists
 
 -- a made list behind its place
 pub made_at : (lists : List (List Piece)) (s : Numbers) (m young : ℕ) (rows : List (List BinAt)) (made : List (List Piece)) → made ≡ map (part_table lists) (parts_at s m young rows) →
@@ -41,17 +35,11 @@ made_at lists s m young rows made is k below =
 module _ (s : Numbers) (valid : IsValid s) (m : ℕ) (first : 1 ≤ m) (fits : m ≤ capacity s) (rows : List (List BinAt)) (at : IsAt s (m - 1) rows) (young : List Bin)
     (took : List Piece → Type 0) (frames : List ℕ → Type 0) (made : List (List Piece))
     (is : IsMade s young (take (depth s m) rows) (parts_at s m (length young) (take (depth s m) rows)) took frames made) where
-  deep : depth s m ≤ s.levels
-  deep = deepest_within s (omega (arith, valid.limits.base_from)) (omega (arith, valid.limits.ratio_from)) s.levels m
-
-  reached : length (take (depth s m) rows) ≡ depth s m
-  reached = omega (arith, length-take (depth s m) rows, at.levels, deep)
-
   pub made_count : length made ≡ depth s m
   made_count =
       let parts = parts_at s m (length young) (take (depth s m) rows) in
       let count = length-map-range_with_len (part_at s m (length young) (take (depth s m) rows)) 0 (length (take (depth s m) rows)) in
-      ap (length {A = List Piece}) is.are ∙ length-map parts (part_table is.lists) ∙ count ∙ reached
+      ap (length {A = List Piece}) is.are ∙ length-map parts (part_table is.lists) ∙ count ∙ enough s valid m first fits rows at
 
   -- what `totals` took is a table
   pub made_table : IsTable (tail_limit s) (sums_of is.lists)
@@ -61,7 +49,7 @@ module _ (s : Numbers) (valid : IsValid s) (m : ℕ) (first : 1 ≤ m) (fits : m
   lists_are : (file events : List ℕ) → frames file → AreRows s rows → AreEvents (record { settings = s; rows = rows }) m young events file →
       is.lists ≡ streams_of (young_bins s events (edge s 0 (m - 1))) (tallied_in s events) (take (depth s m) rows)
   lists_are file events here are of =
-      let stand = rows_stand s events (m - 1) rows file at are (omega (arith, of.len)) of.held (depth s m) deep in
+      let stand = rows_stand s events (m - 1) rows file at are (omega (arith, of.len)) of.held (depth s m) (deep s valid m first fits rows at) in
       is.told file here (tallied_in s events) stand ∙ ap (λ bins. streams_of bins (tallied_in s events) (take (depth s m) rows)) of.young_are
 
   pub made_new : (file events : List ℕ) → frames file → AreRows s rows → AreEvents (record { settings = s; rows = rows }) m young events file →
@@ -69,7 +57,7 @@ module _ (s : Numbers) (valid : IsValid s) (m : ℕ) (first : 1 ≤ m) (fits : m
   made_new file events here are of k below =
       let some_rows = take (depth s m) rows in
       let less : k < depth s m = omega (arith, made_count) in
-      made_at is.lists s m (length young) some_rows made is.are k (omega (arith, reached))
+      made_at is.lists s m (length young) some_rows made is.are k (omega (arith, enough s valid m first fits rows at))
       ∙ ap (λ lists. part_table lists (part_at s m (length young) some_rows k)) (lists_are file events here are of)
       ∙ ap (λ n. part_table (streams_of (young_bins s events (edge s 0 (m - 1))) (tallied_in s events) some_rows) (part_at s m n some_rows k)) (ap (length {A = Bin}) of.young_are)
       ∙ part_holds s valid m first fits rows at events of.len k less

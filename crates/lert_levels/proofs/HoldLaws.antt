@@ -1,14 +1,13 @@
 -- What the frames hold before a flush and after it.
 use Rattle.std.proofs.Common.{ℕ, ◌≡◌, ◌≢◌, ◌+◌, ◌-◌, ◌/◌, ◌<◌, ◌≤◌, zero, suc, cond, ltb, eqb, List, [], ◌∷◌, ◌++◌, length, take, drop}
-use Rattle.std.proofs.Common.{get_or, Option, Some, ap, ap₂, sym, ◌∙◌, arith, inl, inr, ◌⊎◌, subst, slice_range, length-take, Result}
-use Rattle.std.specs.Prelude.{Ok, Err, OnOk}
+use Rattle.std.proofs.Common.{get_or, Option, Some, ap, ap₂, sym, ◌∙◌, arith, inl, inr, ◌⊎◌, subst, slice_range, length-take}
 use Rattle.std.specs.List.{All}
 use Rattle.std.proofs.lemmas.Bool.{cases_lt, cases_eq, lt-ltb, le-ltb, eq-eqb}
 use Rattle.std.proofs.lemmas.List.{get_or-take}
 use Rattle.std.proofs.lemmas.List.Elements.{All-append, All-drop, All-cons, All-nil, Contains-get_or}
 use Rattle.std.proofs.lemmas.List.Sums.{sum_by-cons}
 use Rattle.lert_bay.specs.declared.bay.TheConstants.{FRAMES}
-use Rattle.lert_bay.specs.Files.{Files, Turns}
+use Rattle.lert_bay.specs.Files.{Files, IfTold, Turns}
 use Rattle.lert_frames.specs.Frame.{HoldsFrame, frame_text}
 use Rattle.lert_frames.specs.Place.{frame_len}
 use Rattle.lert_frames.proofs.FrameLaws.{text_within}
@@ -150,13 +149,11 @@ holds_moved s m events rows made old new valid len are holds leaves count landed
     ])
 
 -- the frames after the new bins were written, as a bay tells them
-pub written_holds : {T E : Type 0} (result : Result T E) (s : Numbers) (m : ℕ) (rows : List (List BinAt)) (made : List (List Piece)) (before after : Option Files) →
-    IsValid s → length rows ≡ s.levels → AreRows s rows → length made ≡ depth s m →
-    Turns (LeavesRest (InNamed s rows)) before after → OnOk result ((seen : Files) → after ≡ Some seen → AreLanded s m (take (depth s m) rows) (seen FRAMES) made (depth s m)) →
-    (seen : Files) → before ≡ Some seen → (events : List ℕ) → HoldsBins s events rows (seen FRAMES) → AreNew s m events (take (depth s m) rows) made →
-    OnOk result ((then : Files) → after ≡ Some then → HoldsBins s events (moved s m rows) (then 2))
-written_holds (Ok value) s m rows made before after valid len are count turned landed seen told events holds news = λ then then_told.
+pub written_holds : (s : Numbers) (m : ℕ) (rows : List (List BinAt)) (made : List (List Piece)) (before after : Option Files) → IsValid s → length rows ≡ s.levels →
+    AreRows s rows → length made ≡ depth s m → Turns (LeavesRest (InNamed s rows)) before after →
+    IfTold after (λ seen. AreLanded s m (take (depth s m) rows) (seen FRAMES) made (depth s m)) → (seen : Files) → before ≡ Some seen → (events : List ℕ) →
+    HoldsBins s events rows (seen FRAMES) → AreNew s m events (take (depth s m) rows) made → IfTold after (λ then. HoldsBins s events (moved s m rows) (then FRAMES))
+written_holds s m rows made before after valid len are count turned landed seen told events holds news then then_told =
     let step = turned.told seen told in
     let same : step.0 ≡ then = cc in
     holds_moved s m events rows made seen then valid len are holds (subst (λ (f : Files). LeavesRest (InNamed s rows) seen f) same step.2) count (landed then then_told) news
-written_holds (Err error) s m rows made before after valid len are count turned landed seen told events holds news = tt

@@ -17,13 +17,13 @@ use Rattle.lert_levels.proofs.rows.RowLaws.{first_rows}
 use Rattle.lert_spec.specs.Bins.{Bin}
 use Rattle.lert_spec.specs.Edges.{span, edge, depth, capacity}
 use Rattle.lert_spec.specs.Limits.{IsValid}
-use Rattle.lert_spec.proofs.EdgeLaws.{deepest_within}
 use Rattle.lert_spec.specs.declared.numbers.Numbers.{Numbers}
 use Rattle.lert_spec.specs.declared.piece.Piece.{Piece}
-use Rattle.lert_levels.specs.Flushed.{AreEvents}
+use Rattle.lert_levels.specs.Flushed.{AreEvents, InNamed}
+use Rattle.lert_levels.proofs.rows.LandLaws.{turns_fewer}
 use Rattle.lert_levels.specs.Merged.{IsFrames}
 use Rattle.lert_levels.specs.Ready.{AreReached, HasMade}
-use Rattle.lert_levels.proofs.ArrivalLaws.{part_widths, parts_have}
+use Rattle.lert_levels.proofs.ArrivalLaws.{deep, enough, part_widths, parts_have}
 use Rattle.lert_levels.proofs.FlushLaws.{made_count, made_new}
 use Rattle.lert_levels.proofs.HoldLaws.{named_apart, written_holds}
 use Rattle.lert_levels.proofs.PlacedLaws.{named_more}
@@ -39,14 +39,12 @@ turned P s t rows others settings same is = subst (P s) same (subst (λ (n : Num
 -- ---- a flush
 
 module _ (s : Numbers) (valid : IsValid s) (m : ℕ) (first : 1 ≤ m) (fits : m ≤ capacity s) (rows : List (List BinAt)) (at : IsAt s (m - 1) rows) (are : AreRows s rows) where
-  pub deep : depth s m ≤ s.levels
-  deep = deepest_within s (omega (arith, valid.limits.base_from)) (omega (arith, valid.limits.ratio_from)) s.levels m
-
   pub reached_first : AreFirst s (take (depth s m) rows)
-  reached_first = first_rows s rows are (depth s m) deep
+  reached_first = first_rows s rows are (depth s m) (deep s valid m first fits rows at)
 
-  pub reached_count : length (take (depth s m) rows) ≡ depth s m
-  reached_count = omega (arith, length-take (depth s m) rows, are.levels, deep)
+  -- a range in a frame that is named lies apart from those that it writes
+  pub apart : (from to : ℕ) → InNamed s rows from to → AreApart s m (take (depth s m) rows) from to
+  apart = named_apart s m rows are (depth s m) (deep s valid m first fits rows at)
 
   -- the rows that it reaches make up the new bins
   pub reached_are : (young : List Bin) → 1 ≤ length young → All (λ (bin : Bin). bin.to - bin.from ≤ span s 0) young → AreReached s m young (take (depth s m) rows)
@@ -56,7 +54,7 @@ module _ (s : Numbers) (valid : IsValid s) (m : ℕ) (first : 1 ≤ m) (fits : m
     are = reached_first;
     parts = parts_have s valid m first fits rows at;
     fits = λ k below. part_widths s valid m first fits rows at young some narrow k (omega (arith, below, length-take (depth s m) rows));
-    apart = λ from to inside. named_apart s m rows are (depth s m) deep from to (named_more s rows (depth s m) from to are.levels inside);
+    apart = λ from to inside. apart from to (named_more s rows (depth s m) from to are.levels inside);
   }
 
   -- where the new bins stand, the frames hold the bins of the rows as they are then
@@ -67,20 +65,9 @@ module _ (s : Numbers) (valid : IsValid s) (m : ℕ) (first : 1 ≤ m) (fits : m
   has_moved young took before after has turns seen told events of = λ then then_told. (
       let news = made_new s valid m first fits rows at young took (IsFrames before) has.made has.is (seen FRAMES) events (record { seen = seen; told = told; is = refl }) are of in
       let count = made_count s valid m first fits rows at young took (IsFrames before) has.made has.is in
-      written_holds {E = FlushFault} (Ok (tt {0})) s m rows has.made before after valid are.levels are count
-      (record {
-        told = λ old old_told. (let step = turns.told old old_told in (
-          step.0,
-          step.1,
-          record {
-            others = step.2.others;
-            longer = step.2.longer;
-            rest = λ from to inside within. step.2.rest from to (named_apart s m rows are (depth s m) deep from to inside) within;
-          },
-        ));
-        untold = turns.untold;
-      })
-      (λ last last_told k below. has.landed last last_told k (omega (arith, below, reached_count)))
+      written_holds s m rows has.made before after valid are.levels are count
+      (turns_fewer (AreApart s m (take (depth s m) rows)) (InNamed s rows) before after apart turns)
+      (λ last last_told k below. has.landed last last_told k (omega (arith, below, enough s valid m first fits rows at)))
       seen told events of.held news then then_told)
 
 -- level 0 has a bin before a flush

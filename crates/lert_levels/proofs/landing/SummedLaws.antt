@@ -67,7 +67,7 @@ counted least limit (p ∷ pieces) up = All-cons (MayStand limit) p pieces (up.1
 -- ---- the pieces of several lists
 
 -- how often a tail stands in all of them
-abbrev count_in : List (List Piece) → ℕ → ℕ
+abbrev pub count_in : List (List Piece) → ℕ → ℕ
 count_in lists tail = sum_by (λ pieces. count_of pieces tail) lists
 
 tables_behind : (limit : ℕ) (list : List Piece) (lists : List (List Piece)) → AreTables limit (list ∷ lists) → AreTables limit lists

@@ -9,14 +9,12 @@ use Rattle.std.proofs.lemmas.List.Sums.{sum_by-cons}
 use Rattle.lert_spec.specs.declared.numbers.Numbers.{Numbers}
 use Rattle.lert_spec.specs.Edges.{span, edge, capacity}
 use Rattle.lert_spec.specs.Limits.{IsValid}
-use Rattle.lert_spec.proofs.LimitLaws.{capacity_to}
 use Rattle.lert_levels.specs.declared.rows.bin_at.BinAt.{BinAt}
 use Rattle.lert_levels.specs.rows.Named.{AreFramesAt, IsDirectory, frames_text}
 use Rattle.lert_levels.specs.rows.Ranges.{Range, range_at, ranges}
 use Rattle.lert_levels.specs.rows.Rows.{range_of, row_of, IsRow, times_named, directory_text}
 use Rattle.lert_levels.proofs.rows.DirectoryLaws.{row_text}
-use Rattle.lert_levels.proofs.rows.RangeLaws.{IsCut, cuts_are, edge_within, ranges_few}
-use Rattle.lert_levels.proofs.rows.RowLaws.{All-ranges}
+use Rattle.lert_levels.proofs.rows.RowLaws.{row_at}
 
 -- ---- bins of some positions, in these frames
 
@@ -66,33 +64,15 @@ once_named (bin ∷ row) distinct frame =
 -- ---- a level's row
 
 module _ (s : Numbers) (valid : IsValid s) (n : ℕ) (within : n ≤ capacity s) where
-  base : 1 ≤ s.base
-  base = omega (arith, valid.limits.base_from)
-
-  ratio : 1 ≤ s.ratio
-  ratio = omega (arith, valid.limits.ratio_from)
-
-  is_row : (level : ℕ) → 1 ≤ level → level ≤ s.levels → (frames : List ℕ) → AreFramesAt s n level frames → IsRow s level (placed (ranges s n level) frames)
-  is_row level from last frames are =
+  is_row : (level : ℕ) → 1 ≤ level → (frames : List ℕ) → AreFramesAt s n level frames → IsRow s level (placed (ranges s n level) frames)
+  is_row level from frames are =
       let row = placed (ranges s n level) frames in
-      let high = edge s (level - 1) n in
-      let positions = placed_ranges (ranges s n level) frames are.counted in
       let numbers = placed_frames (ranges s n level) frames are.counted in
-      let many = ap length positions in
-      let count = length-map row range_of in
-      let cuts : All (IsCut (span s level) high) (map range_of row) = subst (All (IsCut (span s level) high)) (sym positions)
-      (cuts_are (span s level) (edge s level n) high 0 (suc (n / span s level))) in
-      let each = All-ranges (IsCut (span s level) high) row cuts in
-      record {
-        few = omega (arith, ranges_few s base ratio level n (omega (arith, valid.limits.bins_from)) from);
-        distinct = once_named row (subst (AllPairs (λ one other. one ≢ other)) (sym numbers) are.distinct);
-        frames = λ k d below.
-            (let known : All (λ frame. frame ≤ s.bins) (map (λ (bin : BinAt). bin.frame) row) = subst (All (λ frame. frame ≤ s.bins)) (sym numbers) are.known in
-            subst (λ frame. frame ≤ s.bins) (get_or-map (λ (bin : BinAt). bin.frame) row k d d.frame below) (known k d.frame (omega (arith, length-map row (λ (bin : BinAt). bin.frame)))));
-        some = λ k d below. (each k d below).some;
-        widths = λ k d below. (each k d below).width;
-        ends = λ k d below. omega (arith, (each k d below).end, edge_within s (level - 1) n, capacity_to s valid);
-      }
+      let known : All (λ frame. frame ≤ s.bins) (map (λ (bin : BinAt). bin.frame) row) = subst (All (λ frame. frame ≤ s.bins)) (sym numbers) are.known in
+      row_at s valid n level row within from (placed_ranges (ranges s n level) frames are.counted)
+      (once_named row (subst (AllPairs (λ one other. one ≢ other)) (sym numbers) are.distinct))
+      (λ k d below. subst (λ frame. frame ≤ s.bins) (get_or-map (λ (bin : BinAt). bin.frame) row k d d.frame below)
+      (known k d.frame (omega (arith, below, length-map row (λ (bin : BinAt). bin.frame)))))
 
   -- ---- the rows from a level on
 
@@ -144,7 +124,7 @@ module _ (s : Numbers) (valid : IsValid s) (n : ℕ) (within : n ≤ capacity s)
           };
           are = record {
             levels = count;
-            each = λ level from last. subst (IsRow s level) (sym (row_is level from last)) (is_row level from last (get_or levels (level - 1) []) (frames_are level from last));
+            each = λ level from last. subst (IsRow s level) (sym (row_is level from last)) (is_row level from (get_or levels (level - 1) []) (frames_are level from last));
           };
           text_is = text_there 1 levels (λ k below. (are k (omega arith)).counted ∙ ap (λ l. length (ranges s n l)) (let same : k + 1 ≡ 1 + k = omega arith in same));
         };

@@ -14,7 +14,7 @@ use Rattle.lert_spec.proofs.LimitLaws.{capacity_to}
 use Rattle.lert_spec.proofs.EdgeLaws.{span_pos}
 use Rattle.lert_levels.specs.declared.rows.bin_at.BinAt.{BinAt}
 use Rattle.lert_levels.specs.rows.Ranges.{Range, ranges}
-use Rattle.lert_levels.specs.rows.Rows.{range_of, row_of, IsAt, IsRow, AreFirst, AreRows, times_named, lowest_free, newest, begins, kept, arrived, moved_row, moved}
+use Rattle.lert_levels.specs.rows.Rows.{range_of, row_of, IsAt, IsRow, AreFirst, AreRows, times_named, lowest_free, nothing, newest, begins, kept, arrived, moved_row, moved}
 use Rattle.lert_levels.proofs.rows.RangeLaws.{IsCut, Enters, cuts_are, enters, ranges_still, ranges_few, edge_within}
 
 -- ---- a free frame
@@ -145,11 +145,10 @@ split_row s m level row are e =
           let with_last : map range_of row ≡ e.front ++ last ∷ [] = all ∙ ap (λ t. e.front ++ cond t (last ∷ []) []) (lt-ltb e.start high (e.inside some)) in
           let len : length row ≡ length e.front + 1 = omega (arith, length-map row range_of, ap (length {A = Range}) with_last, length-append e.front (last ∷ [])) in
           let before_last : length e.front ≡ length row - 1 = omega arith in
-          let d : BinAt = record { from = 0; to = 0; frame = 0 } in
           let last_is : range_of (newest row) ≡ last =
-          sym (get_or-map range_of row (length row - 1) d (range_of d) (omega arith))
-          ∙ ap (λ rs. get_or rs (length row - 1) (range_of d)) with_last
-          ∙ get_or_at e.front last [] (range_of d) (length row - 1) before_last in
+          sym (get_or-map range_of row (length row - 1) nothing (range_of nothing) (omega arith))
+          ∙ ap (λ rs. get_or rs (length row - 1) (range_of nothing)) with_last
+          ∙ get_or_at e.front last [] (range_of nothing) (length row - 1) before_last in
           record {
             some = λ _. omega arith;
             ends = λ _. ap (λ (r : Range). r.to) last_is;
@@ -165,24 +164,11 @@ split_row s m level row are e =
 pub All-ranges : (P : Range → Type 0) (row : List BinAt) → All P (map range_of row) → All (λ bin. P (range_of bin)) row
 All-ranges P row all k d below = subst P (get_or-map range_of row k d (range_of d) below) (all k (range_of d) (omega (arith, length-map row range_of)))
 
--- fewer bins name a frame no more often
-times_named-take : (n : ℕ) (row : List BinAt) (frame : ℕ) → times_named (take n row) frame ≤ times_named row frame
-times_named-take n row frame =
-    omega (
-      arith,
-      ap (λ (bins : List BinAt). times_named bins frame) (take-append-drop n row),
-      sum_by-append (λ (bin : BinAt). cond {A = ℕ} (eqb bin.frame frame) 1 0) (take n row)
-          (drop n row),
-    )
-
-times_named-drop : (n : ℕ) (row : List BinAt) (frame : ℕ) → times_named (drop n row) frame ≤ times_named row frame
-times_named-drop n row frame =
-    omega (
-      arith,
-      ap (λ (bins : List BinAt). times_named bins frame) (take-append-drop n row),
-      sum_by-append (λ (bin : BinAt). cond {A = ℕ} (eqb bin.frame frame) 1 0) (take n row)
-          (drop n row),
-    )
+-- some bins and the others name a frame as often as all
+times_named-parts : (n : ℕ) (row : List BinAt) (frame : ℕ) → times_named row frame ≡ times_named (take n row) frame + times_named (drop n row) frame
+times_named-parts n row frame =
+    sym (ap (λ (bins : List BinAt). times_named bins frame) (take-append-drop n row))
+    ∙ sum_by-append (λ (bin : BinAt). cond {A = ℕ} (eqb bin.frame frame) 1 0) (take n row) (drop n row)
 
 -- a bin in a free frame
 distinct_push : (row front : List BinAt) (bin : BinAt) → ((frame : ℕ) → times_named front frame ≤ times_named row frame) → ((frame : ℕ) → times_named row frame ≤ 1) →
@@ -206,7 +192,7 @@ pub kept-fewer : (s : Numbers) (m level : ℕ) (row : List BinAt) (frame : ℕ) 
 kept-fewer s m level row frame =
     elim (cases_Bool (begins s m level)) [
       | inl whole ↦ omega (arith, ap (λ t. times_named (cond t row (take (length row - 1) row)) frame) whole)
-      | inr part ↦ omega (arith, ap (λ t. times_named (cond t row (take (length row - 1) row)) frame) part, times_named-take (length row - 1) row frame)
+      | inr part ↦ omega (arith, ap (λ t. times_named (cond t row (take (length row - 1) row)) frame) part, times_named-parts (length row - 1) row frame)
     ]
 
 pub All-kept : (P : BinAt → Type 0) (s : Numbers) (m level : ℕ) (row : List BinAt) → All P row → All P (kept s m level row)
@@ -215,6 +201,29 @@ All-kept P s m level row all =
       | inl whole ↦ subst (λ t. All P (cond t row (take (length row - 1) row))) (sym whole) all
       | inr part ↦ subst (λ t. All P (cond t row (take (length row - 1) row))) (sym part) (All-take P (length row - 1) row all)
     ]
+
+-- a row that has the positions of a level's bins, its bins in frames of their own
+pub row_at : (s : Numbers) (valid : IsValid s) (n level : ℕ) (row : List BinAt) → n ≤ capacity s → 1 ≤ level → map range_of row ≡ ranges s n level →
+    ((frame : ℕ) → times_named row frame ≤ 1) → All (λ bin. bin.frame ≤ s.bins) row → IsRow s level row
+row_at s valid n level row fits from are distinct frames =
+    let width = span s level in
+    let high = edge s (level - 1) n in
+    let cut = cuts_are width (edge s level n) high 0 (suc (n / width)) in
+    let each = All-ranges (IsCut width high) row (subst (All (IsCut width high)) (sym are) cut) in
+    let limits = valid.limits in
+    record {
+      few = omega (
+        arith,
+        length-map row range_of,
+        ap (length {A = Range}) are,
+        ranges_few s (omega (arith, limits.base_from)) (omega (arith, limits.ratio_from)) level n (omega (arith, limits.bins_from)) from,
+      );
+      distinct = distinct;
+      frames = frames;
+      some = λ k d below. (each k d below).some;
+      widths = λ k d below. (each k d below).width;
+      ends = λ k d below. omega (arith, (each k d below).end, edge_within s (level - 1) n, capacity_to s valid, fits);
+    }
 
 -- the bin that is written at m
 pub record Arrives (s : Numbers) (m level : ℕ) (row : List BinAt) : Type 0 where
@@ -230,9 +239,6 @@ module _ (s : Numbers) (valid : IsValid s) (m : ℕ) (first : 1 ≤ m) (fits : m
 
   ratio : 1 ≤ s.ratio
   ratio = omega (arith, valid.limits.ratio_from)
-
-  some : 1 ≤ s.bins
-  some = omega (arith, valid.limits.bins_from)
 
   positive : 1 ≤ offset s s.levels + span s s.levels
   positive = omega (arith, span_pos s s.levels base ratio)
@@ -263,24 +269,6 @@ module _ (s : Numbers) (valid : IsValid s) (m : ℕ) (first : 1 ≤ m) (fits : m
         ap (map range_of) (row_of-moved s m rows level from (omega (arith, at.levels))) ∙ row_moves level (row_of rows level) from within (at.each level from within);
   }
 
-  -- a row that has the positions of a level after the flush, its bins in frames of their own
-  row_is : (level : ℕ) (row : List BinAt) → 1 ≤ level → map range_of row ≡ ranges s m level → ((frame : ℕ) → times_named row frame ≤ 1) →
-      All (λ bin. bin.frame ≤ s.bins) row → IsRow s level row
-  row_is level row from are distinct frames =
-      let width = span s level in
-      let high = edge s (level - 1) m in
-      let cut = cuts_are width (edge s level m) high 0 (suc (m / width)) in
-      let each = All-ranges (IsCut width high) row (subst (All (IsCut width high)) (sym are) cut) in
-      let top = capacity_to s valid in
-      record {
-        few = omega (arith, length-map row range_of, ap (length {A = Range}) are, ranges_few s base ratio level m some from);
-        distinct = distinct;
-        frames = frames;
-        some = λ k d below. (each k d below).some;
-        widths = λ k d below. (each k d below).width;
-        ends = λ k d below. (let cut_here = each k d below in omega (arith, cut_here.end, edge_within s (level - 1) m));
-      }
-
   IsRow-moved : (level : ℕ) (row : List BinAt) → 1 ≤ level → level ≤ s.levels → map range_of row ≡ ranges s (m - 1) level → IsRow s level row →
       IsRow s level (moved_row s m level row)
   IsRow-moved level row from within are is =
@@ -300,7 +288,7 @@ module _ (s : Numbers) (valid : IsValid s) (m : ℕ) (first : 1 ≤ m) (fits : m
             let frames = All-append (λ (bin : BinAt). bin.frame ≤ s.bins) (kept s m level row) (new ∷ []) (All-kept (λ (bin : BinAt). bin.frame ≤ s.bins) s m level row is.frames)
             (All-cons (λ (bin : BinAt). bin.frame ≤ s.bins) new [] low (All-nil (λ (bin : BinAt). bin.frame ≤ s.bins))) in
             subst (λ t. IsRow s level (cond t row (drop d written))) (sym unmoved)
-            (row_is level (drop d written) from positions (λ frame. omega (arith, times_named-drop d written frame, distinct frame))
+            (row_at s valid m level (drop d written) fits from positions (λ frame. omega (arith, times_named-parts d written frame, distinct frame))
             (All-drop (λ (bin : BinAt). bin.frame ≤ s.bins) d written frames)))
       ]
 

@@ -16,10 +16,7 @@ loop-preserved c =
       room = omega (arith, c.push.ensures.capacity, c.loop.invariant.room);
     }
 
-pub returns-clause-parts : goal.returns-clause-parts
-returns-clause-parts c =
+pub returns : goal.returns
+returns c =
     let all : c.loop.counter ≡ c.args.count = omega (arith, c.loop-test.false, c.loop.auto.counter-end) in
-    c.loop.invariant.parts ∙ ap (λ n. c.args.parts.now.items ++ replicate n None) all
-
-pub returns-clause-room : goal.returns-clause-room
-returns-clause-room c = c.loop.invariant.room
+    record { parts = c.loop.invariant.parts ∙ ap (λ n. c.args.parts.now.items ++ replicate n None) all; room = c.loop.invariant.room }

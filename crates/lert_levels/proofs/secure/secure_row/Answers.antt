@@ -9,7 +9,7 @@ use Rattle.lert_frames.specs.Place.{frame_place, frame_len}
 use Rattle.lert_frames.proofs.FaultLaws.{not_err}
 use Rattle.lert_frames.proofs.WriteLaws.{same_err}
 use Rattle.lert_spec.specs.declared.numbers.Numbers.{Numbers}
-use Rattle.lert_levels.specs.declared.rows.bin_at.BinAt.{BinAt}
+use Rattle.lert_levels.specs.rows.Rows.{nothing}
 use Rattle.lert_levels.specs.rows.Loading.{width_of}
 use Rattle.lert_levels.specs.Sources.{of_bin, placed_at, AllOf, IsSecure}
 use Rattle.lert_levels.proofs.PlacedLaws.{row_more}
@@ -19,9 +19,6 @@ use Rattle.lert_levels.proofs.secure.secure_row.Goals as goal
 
 lawful : (g : given.Over) → IsLawful (bays g)
 lawful g = record { as_read = g.met.B.Bay.as_read; since_now = g.met.B.Bay.since_now; only_now = g.met.B.Bay.only_now; since_earlier = g.met.B.Bay.since_earlier }
-
-abbrev nothing : BinAt
-nothing = record { from = 0; to = 0; frame = 0 }
 
 pub bounds-row-bin-index : goal.bounds-row-bin-index
 bounds-row-bin-index g c = c.loop-bin-test.true

@@ -16,8 +16,9 @@ use Rattle.lert_levels.specs.rows.Rows.{IsAt, moved, tallied_in}
 use Rattle.lert_levels.proofs.rows.LandLaws.{rest_on, rest_fewer}
 use Rattle.lert_levels.proofs.rows.RowLaws.{IsAt-moved}
 use Rattle.lert_levels.proofs.FlushLaws.{made_took, made_taken}
-use Rattle.lert_levels.proofs.HoldLaws.{named_apart, rows_stand}
-use Rattle.lert_levels.proofs.ReachLaws.{failed_by, no_break, no_place, reached_first, has_moved, deep}
+use Rattle.lert_levels.proofs.HoldLaws.{rows_stand}
+use Rattle.lert_levels.proofs.ReachLaws.{failed_by, no_break, no_place, reached_first, has_moved, apart}
+use Rattle.lert_levels.proofs.ArrivalLaws.{deep}
 use Rattle.lert_levels.proofs.levels.Levels.flush.Given as given
 use Rattle.lert_levels.proofs.levels.Levels.flush.Goals as goal
 
@@ -40,7 +41,7 @@ returns-in_err-merge g c =
     let at_m = c.requires.at in
     let e = c.in_err-merge.ensures in
     let reached = take (depth s m) rows in
-    let deepest = deep s e.valid m first last rows at_m e.rows in
+    let deepest = deep s e.valid m first last rows at_m in
     let are = reached_first s e.valid m first last rows at_m e.rows in
     rw (p.1, p.2) (record {
       ok = tt;
@@ -51,7 +52,7 @@ returns-in_err-merge g c =
           failed_by _ (λ at is. no_break s e.valid reached (seen FRAMES) (tallied_in s events) at are stand (e.malformed seen told at (ap Err is))));
       took = tt;
       durable = tt;
-      rest = rest_fewer (bays g) (AreApart s m reached) (InNamed s rows) c.args.bay.now c.merge.new.bay (named_apart s m rows e.rows (depth s m) deepest) e.rest;
+      rest = rest_fewer (bays g) (AreApart s m reached) (InNamed s rows) c.args.bay.now c.merge.new.bay (apart s e.valid m first last rows at_m e.rows) e.rest;
       whole = λ seen told. tt;
       sound = λ seen told hold stand.
           failed_by _ (λ at is. no_break s e.valid reached (seen FRAMES) hold at are stand (e.malformed seen told at (ap Err is)));
@@ -71,7 +72,6 @@ returns-in_err-sync_frames g c =
     let rows = c.args.self.now.rows in
     let one = c.in_ok-merge.ensures in
     let two = c.in_err-sync_frames.ensures in
-    let deepest = deep s one.valid m c.requires.first c.requires.last rows c.requires.at one.rows in
     record {
       ok = rw p.1 tt;
       at = rw p.1 tt;
@@ -81,7 +81,7 @@ returns-in_err-sync_frames g c =
       durable = rw p.1 tt;
       rest = rest_on (bays g) (lawful g) (InNamed s rows) c.args.bay.now c.merge.new.bay c.sync_frames.new.bay _ _ one.kept two.kept
           (rest_fewer (bays g) (AreApart s m (take (depth s m) rows)) (InNamed s rows) c.args.bay.now c.merge.new.bay
-          (named_apart s m rows one.rows (depth s m) deepest) one.rest)
+          (apart s one.valid m c.requires.first c.requires.last rows c.requires.at one.rows) one.rest)
           (rest_fewer (bays g) Anywhere (InNamed s rows) c.merge.new.bay c.sync_frames.new.bay (λ from to inside. tt) two.rest);
       whole = λ seen told. rw p.1 tt;
       sound = λ seen told hold stand. rw p.1 p.2;
@@ -107,7 +107,6 @@ returns g c =
     let took = g.O.Totals.took c.merge.new.totals in
     let before = g.B.Bay.files c.args.bay.now in
     let has = one.made in
-    let deepest = deep s one.valid m first last rows at_m one.rows in
     record {
       ok = c.move_on.ensures ∙ ap (λ (v : OnDisk). record { settings = v.settings; rows = moved v.settings m v.rows }) one.same;
       at = subst (λ (v : OnDisk). IsAt v.settings m v.rows) (sym c.move_on.ensures)
@@ -123,7 +122,7 @@ returns g c =
       durable = two.durable;
       rest = rest_on (bays g) (lawful g) (InNamed s rows) c.args.bay.now c.merge.new.bay c.sync_frames.new.bay _ _ one.kept two.kept
           (rest_fewer (bays g) (AreApart s m (take (depth s m) rows)) (InNamed s rows) c.args.bay.now c.merge.new.bay
-          (named_apart s m rows one.rows (depth s m) deepest) one.rest)
+          (apart s one.valid m first last rows at_m one.rows) one.rest)
           (rest_fewer (bays g) Anywhere (InNamed s rows) c.merge.new.bay c.sync_frames.new.bay (λ from to inside. tt) two.rest);
       whole = λ seen told. has.is.whole (seen FRAMES) (record { seen = seen; told = told; is = refl });
       sound = λ seen told hold stand. tt;

@@ -7,7 +7,7 @@ use Rattle.lert_bay.proofs.KeptLaws.{IsLawful, reads_none, reads_on, reads_as}
 use Rattle.lert_frames.proofs.FaultLaws.{not_err}
 use Rattle.lert_frames.proofs.WriteLaws.{same_err}
 use Rattle.lert_spec.specs.declared.numbers.Numbers.{Numbers}
-use Rattle.lert_levels.specs.declared.rows.bin_at.BinAt.{BinAt}
+use Rattle.lert_levels.specs.rows.Rows.{nothing}
 use Rattle.lert_levels.specs.rows.Checked.{pieces_in, RowStands, bin_left, first_of}
 use Rattle.lert_levels.specs.rows.Loading.{Stands}
 use Rattle.lert_levels.proofs.rows.CheckLaws.{row_more, row_breaks}
@@ -17,9 +17,6 @@ use Rattle.lert_levels.proofs.rows.check.check_row.Goals as goal
 
 lawful : (g : given.Over) → IsLawful (bays g)
 lawful g = record { as_read = g.met.B.Bay.as_read; since_now = g.met.B.Bay.since_now; only_now = g.met.B.Bay.only_now; since_earlier = g.met.B.Bay.since_earlier }
-
-abbrev nothing : BinAt
-nothing = record { from = 0; to = 0; frame = 0 }
 
 pub bounds-row-bin-index : goal.bounds-row-bin-index
 bounds-row-bin-index g c = c.loop-bin-test.true

@@ -1,11 +1,9 @@
 use Rattle.std.proofs.Common.{◌∙◌, ◌++◌, ◌∷◌, map, length, ap, arith}
 use Rattle.std.proofs.lemmas.List.{take_all}
 use Rattle.lert_levels.specs.declared.rows.bin_at.BinAt.{BinAt}
+use Rattle.lert_levels.specs.rows.Rows.{nothing}
 use Rattle.lert_levels.proofs.rows.DirectoryLaws.{frame_more, frame_room}
 use Rattle.lert_levels.proofs.rows.directory.lay_row.Goals as goal
-
-abbrev nothing : BinAt
-nothing = record { from = 0; to = 0; frame = 0 }
 
 pub loop-bin-init : goal.loop-bin-init
 loop-bin-init c = record {

@@ -14,17 +14,15 @@ bays g = bays_of g.B.Faulty g.B.Bay
 lawful : (g : given.Over) → IsLawful (bays g)
 lawful g = record { as_read = g.met.B.Bay.as_read; since_now = g.met.B.Bay.since_now; only_now = g.met.B.Bay.only_now; since_earlier = g.met.B.Bay.since_earlier }
 
-pub returns-clause-rest : goal.returns-clause-rest
-returns-clause-rest g c =
-    sync_rest (bays g) (lawful g) Anywhere c.args.bay.now c.sync.new.self c.sync.ensures.time c.sync.ensures.seen
-    (synced_was c.sync.result (g.B.Bay.files c.args.bay.now) (g.B.Bay.leaves c.args.bay.now) (g.B.Bay.leaves c.sync.new.self) c.sync.ensures.durable c.sync.ensures.failed)
-
-pub returns-clause-durable : goal.returns-clause-durable
-returns-clause-durable g c =
-    synced_durable c.sync.result (g.B.Bay.files c.args.bay.now) (g.B.Bay.files c.sync.new.self) (g.B.Bay.leaves c.args.bay.now) (g.B.Bay.leaves c.sync.new.self)
-    c.sync.ensures.seen c.sync.ensures.durable
-
-pub returns-clause-kept : goal.returns-clause-kept
-returns-clause-kept g c =
-    keeps_call (bays g) (lawful g) c.args.bay.now c.sync.new.self _ c.sync.ensures.time c.sync.ensures.cause.never_falls c.sync.ensures.cause.failed c.sync.ensures.mark
-    (ap (λ (handed : ℕ → ℕ). handed JOURNAL) c.sync.ensures.handed)
+pub returns : goal.returns
+returns g c =
+    let e = c.sync.ensures in
+    let files = g.B.Bay.files in
+    let leaves = g.B.Bay.leaves in
+    record {
+      seen = e.seen;
+      durable = synced_durable c.sync.result (files c.args.bay.now) (files c.sync.new.self) (leaves c.args.bay.now) (leaves c.sync.new.self) e.seen e.durable;
+      rest = sync_rest (bays g) (lawful g) Anywhere c.args.bay.now c.sync.new.self e.time e.seen
+          (synced_was c.sync.result (files c.args.bay.now) (leaves c.args.bay.now) (leaves c.sync.new.self) e.durable e.failed);
+      kept = keeps_call (bays g) (lawful g) c.args.bay.now c.sync.new.self _ e.time e.cause.never_falls e.cause.failed e.mark (ap (λ (handed : ℕ → ℕ). handed JOURNAL) e.handed);
+    }
