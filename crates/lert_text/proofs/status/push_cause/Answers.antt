@@ -7,29 +7,29 @@ returns-in-1-clause-text c =
     rw c.in-1.is (c.push_around.ensures.text
     ∙ ap (λ digits. take c.args.at c.args.into.now ++ (codes "usage rule " ++ digits)) (append-nil (decimal c.args.a)))
 
-pub returns-in-2-clause-text : goal.returns-in-2-clause-text
-returns-in-2-clause-text c = rw c.in-2.is c.push_text.ensures.text
+pub returns-in-2 : goal.returns-in-2
+returns-in-2 c = record { within = omega (arith, c.push_text.ensures.place); text = rw c.in-2.is c.push_text.ensures.text }
 
-pub returns-in-3-clause-text : goal.returns-in-3-clause-text
-returns-in-3-clause-text c = rw c.in-3.is c.push_around-in-3.ensures.text
+pub returns-in-3 : goal.returns-in-3
+returns-in-3 c = record { within = omega (arith, c.push_around-in-3.ensures.within); text = rw c.in-3.is c.push_around-in-3.ensures.text }
 
-pub returns-in-5-clause-text : goal.returns-in-5-clause-text
-returns-in-5-clause-text c = rw c.in-5.is c.push_around-in-5.ensures.text
+pub returns-in-5 : goal.returns-in-5
+returns-in-5 c = record { within = omega (arith, c.push_around-in-5.ensures.within); text = rw c.in-5.is c.push_around-in-5.ensures.text }
 
-pub returns-in-6-clause-text : goal.returns-in-6-clause-text
-returns-in-6-clause-text c = rw c.in-6.is c.push_around-in-6.ensures.text
+pub returns-in-6 : goal.returns-in-6
+returns-in-6 c = record { within = omega (arith, c.push_around-in-6.ensures.within); text = rw c.in-6.is c.push_around-in-6.ensures.text }
 
-pub returns-in-7-clause-text : goal.returns-in-7-clause-text
-returns-in-7-clause-text c = rw c.in-7.is c.push_around-in-7.ensures.text
+pub returns-in-7 : goal.returns-in-7
+returns-in-7 c = record { within = omega (arith, c.push_around-in-7.ensures.within); text = rw c.in-7.is c.push_around-in-7.ensures.text }
 
-pub returns-in-10-clause-text : goal.returns-in-10-clause-text
-returns-in-10-clause-text c = rw c.in-10.is c.push_around-in-10.ensures.text
+pub returns-in-10 : goal.returns-in-10
+returns-in-10 c = record { within = omega (arith, c.push_around-in-10.ensures.within); text = rw c.in-10.is c.push_around-in-10.ensures.text }
 
-pub returns-in-11-clause-text : goal.returns-in-11-clause-text
-returns-in-11-clause-text c = rw c.in-11.is c.push_text-in-11.ensures.text
+pub returns-in-11 : goal.returns-in-11
+returns-in-11 c = record { within = omega (arith, c.push_text-in-11.ensures.place); text = rw c.in-11.is c.push_text-in-11.ensures.text }
 
-pub returns-in-12-clause-text : goal.returns-in-12-clause-text
-returns-in-12-clause-text c = rw c.in-12.is c.push_text-in-12.ensures.text
+pub returns-in-12 : goal.returns-in-12
+returns-in-12 c = record { within = omega (arith, c.push_text-in-12.ensures.place); text = rw c.in-12.is c.push_text-in-12.ensures.text }
 
 pub returns-in-4-clause-text : goal.returns-in-4-clause-text
 returns-in-4-clause-text c =
@@ -55,30 +55,6 @@ returns-in-9-clause-text c =
 -- no line is longer than its room
 pub returns-in-1-clause-within : goal.returns-in-1-clause-within
 returns-in-1-clause-within c = omega (arith, c.push_around.ensures.within)
-
-pub returns-in-2-clause-within : goal.returns-in-2-clause-within
-returns-in-2-clause-within c = omega (arith, c.push_text.ensures.place)
-
-pub returns-in-3-clause-within : goal.returns-in-3-clause-within
-returns-in-3-clause-within c = omega (arith, c.push_around-in-3.ensures.within)
-
-pub returns-in-5-clause-within : goal.returns-in-5-clause-within
-returns-in-5-clause-within c = omega (arith, c.push_around-in-5.ensures.within)
-
-pub returns-in-6-clause-within : goal.returns-in-6-clause-within
-returns-in-6-clause-within c = omega (arith, c.push_around-in-6.ensures.within)
-
-pub returns-in-7-clause-within : goal.returns-in-7-clause-within
-returns-in-7-clause-within c = omega (arith, c.push_around-in-7.ensures.within)
-
-pub returns-in-10-clause-within : goal.returns-in-10-clause-within
-returns-in-10-clause-within c = omega (arith, c.push_around-in-10.ensures.within)
-
-pub returns-in-11-clause-within : goal.returns-in-11-clause-within
-returns-in-11-clause-within c = omega (arith, c.push_text-in-11.ensures.place)
-
-pub returns-in-12-clause-within : goal.returns-in-12-clause-within
-returns-in-12-clause-within c = omega (arith, c.push_text-in-12.ensures.place)
 
 pub returns-in-4-clause-within : goal.returns-in-4-clause-within
 returns-in-4-clause-within c = omega (arith, c.push_around-at.ensures.within, c.push_number.ensures.within)
