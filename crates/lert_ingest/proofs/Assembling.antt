@@ -1,11 +1,11 @@
 -- The answer of a crew, and what is untouched before it runs.
-use Rattle.std.proofs.Common.{◌≡◌, ℕ, ◌-◌, ◌≤◌, suc, List, [], ◌∷◌, length}
-use Rattle.std.proofs.Common.{Option, Some, None, Ok, Err, slice_get, refl, ap, sym, ◌∙◌, subst, inr, arith}
+use Rattle.std.proofs.Common.{◌≡◌, ℕ, suc, List, [], ◌∷◌, length}
+use Rattle.std.proofs.Common.{Option, Some, None, Ok, Err, slice_get, refl, ap, sym, ◌∙◌, subst, arith}
 use Rattle.std.specs.Prelude.{IfErr, OnOk}
 use Rattle.std.proofs.lemmas.List.{length-map}
 use Rattle.std.proofs.lemmas.Option.{same_Some, slice_get_within}
 use Rattle.lert_base.specs.declared.held.Held.{Ghosts as HeldOf}
-use Rattle.lert_base.specs.Packet.{Packet, own}
+use Rattle.lert_base.specs.Packet.{own}
 use Rattle.lert_bay.specs.Files.{Files}
 use Rattle.lert_cone.specs.Stands.{Standing}
 use Rattle.lert_base.specs.declared.cone_fault.ConeFault.{ConeFault}
@@ -13,19 +13,17 @@ use Rattle.lert_conelock.specs.Sight.{LockSight}
 use Rattle.lert_fleet.proofs.Places.{image_at, some_at}
 use Rattle.lert_fleet.specs.Cones.{ClosesEach, FleetPassSight, FleetSight, IsWhole}
 use Rattle.lert_spec.specs.declared.numbers.Numbers.{Numbers}
-use Rattle.lert_trace.specs.Reader.{Reading}
-use Rattle.lert_worker.specs.declared.end.WorkerEnd.{WorkerEnd}
 use Rattle.lert_ingest.specs.Bays.{bays_of}
 use Rattle.lert_ingest.specs.Crew.{IsPassFrom, IsQuiet}
-use Rattle.lert_ingest.specs.Crews.{AreLeftBy, AreReadBy}
-use Rattle.lert_ingest.specs.Faults.{earlier, earliest, end_fault, fault_at}
 use Rattle.lert_ingest.specs.Ingest.{HasIngested, answer_of, firsts_of}
-use Rattle.lert_ingest.specs.Stops.{AreIngested, StopShows}
+use Rattle.lert_ingest.specs.Stops.{AreIngested, StopShows, out_of_memory}
 use Rattle.lert_ingest.specs.declared.status.Status.{Status}
 use Rattle.lert_ingest.specs.declared.status.Status.TheVariants as status
 use Rattle.lert_ingest.proofs.Answering.{is_exact}
 use Rattle.lert_ingest.proofs.BayLaws.{are_same}
+use Rattle.lert_ingest.proofs.Crewed.{Crewed, first_fault}
 use Rattle.lert_ingest.proofs.Completing.{all_fit, are_weaving, keys_are, read_to_end, traces_later}
+use Rattle.lert_ingest.proofs.Exactly.{exact_memory}
 use Rattle.lert_ingest.proofs.Judging.{bays_later, stop_shows, traces}
 
 -- lists that agree place by place
@@ -68,53 +66,35 @@ module _ {S B : Type 0} (remaining : S → Option (List ℕ)) (s_faults s_mark :
               same_Some before now (sym was ∙ is) in record { marked = ap s_mark (sym e); never_falls = (let f = ap s_faults e in omega (arith, f)) };
         };
         read = tt;
-        stopped = (refl, refl);
-        exact = record {
-          bad = λ told faultless traces_faultless texts bytes_are few fits trace at bytes is bad lower. inr refl;
-          full = λ told faultless traces_faultless texts bytes_are well few over below is_over. inr refl;
-          complete = λ told faultless traces_faultless texts bytes_are well few fits. inr refl;
-        };
+        stopped = out_of_memory refl refl;
+        exact = exact_memory remaining s_faults files b_faults s opened opened workers (bays_of firsts) (bays_of firsts) _ _ (λ texts are. refl);
       }))
 
-  -- all that a crew did
-  module _ (some : 1 ≤ workers) (opened laters : List S) (shares : ℕ → List ℕ) (reads : ℕ → List (List ℕ)) (was readings : ℕ → List (Reading S))
-      (places stopped : ℕ → ℕ)
-      (ends : ℕ → WorkerEnd) (run : AreReadBy remaining s_faults s_mark workers opened laters shares reads was readings places stopped ends)
-      (firsts backs : List (Standing B)) (added : ℕ → ℕ → List Packet) (turned : ℕ → ℕ → List (Packet × ConeFault))
-      (left_by : AreLeftBy files leaves b_faults b_mark s workers firsts backs shares reads stopped ends added turned) where
-    pub ingested : (first : Option Status) → first ≡ earlier (earliest (λ by. end_fault (ends by)) workers) (earliest (fault_at backs) (length backs)) →
-        HasIngested remaining s_faults s_mark files leaves b_faults b_mark s workers opened laters firsts backs (answer_of first)
-    ingested first is = record {
-      later = bays_later remaining s_faults s_mark files leaves b_faults b_mark s workers some opened laters shares reads was readings places stopped ends run firsts backs added turned
-          left_by;
-      traces_later = traces_later remaining s_faults s_mark files leaves b_faults b_mark s workers some opened laters shares reads was readings places stopped ends run firsts backs added
-          turned left_by;
-      read = reads_all first is;
-      stopped = stops first is;
-      exact = is_exact remaining s_faults s_mark files leaves b_faults b_mark s workers some opened laters shares reads was readings places stopped ends run firsts backs added turned
-          left_by
-          (answer_of first ≡ Ok tt) (λ status. answer_of first ≡ Err status) (λ none. ap answer_of (is ∙ none)) (λ one found. ap answer_of (is ∙ found));
-    }
-      where
-        reads_all : (answer : Option Status) → answer ≡ earlier (earliest (λ by. end_fault (ends by)) workers) (earliest (fault_at backs) (length backs)) →
-            OnOk (answer_of answer) (AreIngested remaining files leaves b_faults s workers opened laters backs)
-        reads_all None none = record {
-          traces = traces remaining s_faults s_mark files leaves b_faults b_mark s workers some opened laters shares reads was readings places stopped ends run firsts backs added turned
-              left_by;
-          keys = keys_are remaining s_faults s_mark files leaves b_faults b_mark s workers some opened laters shares reads was readings places stopped ends run firsts backs added turned
-              left_by (sym none);
-          read = read_to_end remaining s_faults s_mark files leaves b_faults b_mark s workers some opened laters shares reads was readings places stopped ends run firsts backs added turned
-              left_by (sym none);
-          weaving = are_weaving remaining s_faults s_mark files leaves b_faults b_mark s workers some opened laters shares reads was readings places stopped ends run firsts backs added
-              turned left_by (sym none);
-          fits = all_fit remaining s_faults s_mark files leaves b_faults b_mark s workers some opened laters shares reads was readings places stopped ends run firsts backs added turned
-              left_by (sym none);
-        }
-        reads_all (Some one) found = tt
+-- all that a crew did
+module _ {S B : Type 0} (crew : Crewed S B) where
+  open crew.read use {remaining, s_faults, s_mark, workers, opened, laters}
+  open crew use {files, leaves, b_faults, b_mark, s, firsts, backs}
 
-        stops : (answer : Option Status) → answer ≡ earlier (earliest (λ by. end_fault (ends by)) workers) (earliest (fault_at backs) (length backs)) →
-            IfErr (answer_of answer) (StopShows remaining s_faults files b_faults s workers opened laters (bays_of firsts) (bays_of backs))
-        stops None none = tt
-        stops (Some one) found =
-            stop_shows remaining s_faults s_mark files leaves b_faults b_mark s workers some opened laters shares reads was readings places stopped ends run firsts backs added turned
-            left_by one (sym found)
+  pub ingested : (first : Option Status) → first ≡ first_fault crew → HasIngested remaining s_faults s_mark files leaves b_faults b_mark s workers opened laters firsts backs (answer_of first)
+  ingested first is = record {
+    later = bays_later crew;
+    traces_later = traces_later crew;
+    read = reads_all first is;
+    stopped = stops first is;
+    exact = is_exact crew (answer_of first ≡ Ok tt) (λ status. answer_of first ≡ Err status) (λ none. ap answer_of (is ∙ none)) (λ one found. ap answer_of (is ∙ found));
+  }
+    where
+      reads_all : (answer : Option Status) → answer ≡ first_fault crew → OnOk (answer_of answer) (AreIngested remaining files leaves b_faults s workers opened laters backs)
+      reads_all None none = record {
+        traces = traces crew;
+        keys = keys_are crew (sym none);
+        read = read_to_end crew (sym none);
+        weaving = are_weaving crew (sym none);
+        fits = all_fit crew (sym none);
+      }
+      reads_all (Some one) found = tt
+
+      stops : (answer : Option Status) → answer ≡ first_fault crew →
+          IfErr (answer_of answer) (StopShows remaining s_faults files b_faults s workers opened laters (bays_of firsts) (bays_of backs))
+      stops None none = tt
+      stops (Some one) found = stop_shows crew one (sym found)

@@ -99,8 +99,7 @@ module _ {B : Type 0} (files : B → Option Files) (faults mark : B → ℕ) whe
         elim (cases_eq cone at) [
           | inl same ↦
               let old_is : old ≡ before = same_Some old before (sym found ∙ (ap (slice_get bays) (sym same) ∙ was)) in
-              let new_is : new ≡ now = same_Some new now
-              (sym (slice_get-set_same bays at new (slice_get_within bays at old found)) ∙ (ap (slice_get (set bays at new)) (sym same) ∙ is)) in
+              let new_is : new ≡ now = same_Some new now (sym (slice_get-set_same bays at new (slice_get_within bays at old found)) ∙ (ap (slice_get (set bays at new)) (sym same) ∙ is)) in
               subst (IsLater files faults mark before) new_is (subst (λ o. IsLater files faults mark o new) old_is later)
           | inr other ↦
               let kept : before ≡ now = same_Some before now (sym was ∙ (sym (slice_get-set_other bays at cone new other) ∙ is)) in

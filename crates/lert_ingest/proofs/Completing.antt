@@ -1,48 +1,43 @@
 -- A crew of workers that read all, and the exact answers of one that didn't.
-use Rattle.std.proofs.Common.{◌≡◌, ◌≢◌, ◌⊎◌, ℕ, ◌%◌, ◌<◌, ◌≤◌, List, [], ◌∷◌, length}
-use Rattle.std.proofs.Common.{Option, Some, None, slice_get, refl, ap, sym, ◌∙◌, subst, inl, inr, arith}
+use Rattle.std.proofs.Common.{◌≡◌, ◌≢◌, ◌⊎◌, ℕ, ◌%◌, ◌<◌, List, [], ◌∷◌, length}
+use Rattle.std.proofs.Common.{Some, None, slice_get, refl, ap, sym, ◌∙◌, subst, inl, inr, arith}
 use Rattle.std.specs.Prelude.{Contains}
 use Rattle.std.proofs.lemmas.Option.{none-some, same_Some, slice_get_within}
 use Rattle.lert_base.specs.Packet.{Packet, events_of}
-use Rattle.lert_bay.specs.Files.{Files}
 use Rattle.lert_cone.specs.Stands.{Standing, is_finished}
 use Rattle.lert_base.specs.declared.cone_fault.ConeFault.{ConeFault}
-use Rattle.lert_base.specs.declared.cone_fault.ConeFault.TheVariants as fault
 use Rattle.lert_cone.specs.declared.state.ConeState.{ConeState}
 use Rattle.lert_cone.specs.declared.state.ConeState.TheVariants as state
 use Rattle.lert_conelock.proofs.Contained.{item_here}
-use Rattle.lert_spec.specs.declared.numbers.Numbers.{Numbers}
 use Rattle.lert_spec.specs.Trace.{left}
 use Rattle.lert_trace.specs.Reader.{Reading}
-use Rattle.lert_trace.specs.declared.fault.TraceFault.TheVariants as trace_fault
 use Rattle.lert_worker.specs.Ends.{IsAtEnd, Stopped}
 use Rattle.lert_worker.specs.declared.end.WorkerEnd.{WorkerEnd}
 use Rattle.lert_worker.specs.declared.end.WorkerEnd.TheVariants as end
 use Rattle.lert_ingest.specs.Back.{IsBack, IsFullAt}
-use Rattle.lert_ingest.specs.Crews.{AreLeftBy, AreReadBy, IsReadOf}
-use Rattle.lert_ingest.specs.Faults.{earlier, earliest, end_fault, fault_at, fault_of, full_fault, state_fault}
+use Rattle.lert_ingest.specs.Crews.{IsReadOf}
+use Rattle.lert_ingest.specs.Faults.{earliest, end_fault, fault_at, fault_of, full_fault, state_fault}
 use Rattle.lert_ingest.specs.Stops.{AreWeaving}
 use Rattle.lert_ingest.specs.Traces.{AllFit, AreKeysOf, AreReadToEnd, AreTracesLater}
 use Rattle.lert_ingest.specs.declared.status.Status.TheVariants as status
 use Rattle.lert_ingest.proofs.BayLaws.{slice_get-some}
+use Rattle.lert_ingest.proofs.Crewed.{Crewed, first_fault}
 use Rattle.lert_ingest.proofs.Crew.{was_turned}
 use Rattle.lert_ingest.proofs.FaultOrder.{all_none, of_two_none}
 use Rattle.lert_ingest.proofs.Holding.{is_weaving, weaving_fits}
 use Rattle.lert_ingest.proofs.Judging.{IsCone, cone_at, shared, traces}
 use Rattle.lert_ingest.proofs.Told.{all_whole, are_keys, named, there_is}
 
-module _ {S B : Type 0} (remaining : S → Option (List ℕ)) (s_faults s_mark : S → ℕ) (files : B → Option Files) (leaves : B → Files → Type 0) (b_faults b_mark : B → ℕ)
-    (s : Numbers) (workers : ℕ) (some : 1 ≤ workers) (opened laters : List S) (shares : ℕ → List ℕ) (reads : ℕ → List (List ℕ)) (was readings : ℕ → List (Reading S))
-    (places stopped : ℕ → ℕ)
-    (ends : ℕ → WorkerEnd) (run : AreReadBy remaining s_faults s_mark workers opened laters shares reads was readings places stopped ends)
-    (firsts backs : List (Standing B)) (added : ℕ → ℕ → List Packet) (turned : ℕ → ℕ → List (Packet × ConeFault))
-    (left_by : AreLeftBy files leaves b_faults b_mark s workers firsts backs shares reads stopped ends added turned) where
+module _ {S B : Type 0} (crew : Crewed S B) where
+  open crew.read use {remaining, s_faults, s_mark, workers, some, opened, laters, shares, reads, was, readings, places, stopped, ends, run}
+  open crew use {files, leaves, b_faults, b_mark, s, firsts, backs, added, turned, left_by}
+
   -- a trace as its reader left it
   read_of : (trace : ℕ) → trace < length opened → (now : Reading S) × (read : List ℕ) × (place : ℕ) × (slice_get (readings (trace % workers)) place ≡ Some now)
       × IsReadOf remaining s_faults s_mark opened laters trace now read
   read_of trace below =
-      let there = there_is remaining s_faults s_mark workers some opened laters shares reads was readings places stopped ends run trace below in
-      let at = run.each (trace % workers) there.0 trace (named remaining s_faults s_mark workers some opened laters shares reads was readings places stopped ends run trace) there.1 in
+      let there = there_is crew.read trace below in
+      let at = run.each (trace % workers) there.0 trace (named crew.read trace) there.1 in
       (at.0, at.1, there.0, at.2, at.4)
 
   pub traces_later : AreTracesLater s_faults s_mark opened laters
@@ -59,7 +54,7 @@ module _ {S B : Type 0} (remaining : S → Option (List ℕ)) (s_faults s_mark :
   }
 
   -- ---- none failed
-  module _ (found : earlier (earliest (λ by. end_fault (ends by)) workers) (earliest (fault_at backs) (length backs)) ≡ None) where
+  module _ (found : first_fault crew ≡ None) where
     no_end_fault : (by : ℕ) → by < workers → end_fault (ends by) ≡ None
     no_end_fault = all_none (λ by. end_fault (ends by)) workers (of_two_none (earliest (λ by. end_fault (ends by)) workers) (earliest (fault_at backs) (length backs)) found).0
 
@@ -90,11 +85,8 @@ module _ {S B : Type 0} (remaining : S → Option (List ℕ)) (s_faults s_mark :
         by_end (end.Trace trace f) is = absurd (none-some _ (sym (no_end_fault by below) ∙ ap end_fault is))
         by_end (end.Cone cone f) is = absurd (by_refusal (c.back.refusals by below e.0 f has))
           where
-            c : IsCone remaining s_faults s_mark files leaves b_faults b_mark s workers some opened laters shares reads was readings places stopped ends run firsts backs added turned
-                left_by cone
-            c = cone_at remaining s_faults s_mark files leaves b_faults b_mark s workers some opened laters shares reads was readings places stopped ends run firsts backs added turned
-                left_by cone
-                (left_by.named by cone f below is)
+            c : IsCone crew cone
+            c = cone_at crew cone (left_by.named by cone f below is)
 
             e : (e : Packet) × (turned cone by ≡ (e, f) ∷ [])
             e = was_turned s by cone (shares by) (reads by) (stopped by) (ends by) (added cone by) (turned cone by) (c.left by below) cone f is refl
@@ -110,16 +102,15 @@ module _ {S B : Type 0} (remaining : S → Option (List ℕ)) (s_faults s_mark :
     at_ends : (by place : ℕ) (now : Reading S) → by < workers → slice_get (readings by) place ≡ Some now → IsAtEnd remaining now
     at_ends by place now below is = (subst (Stopped remaining (shares by) (was by) (readings by) (places by) (stopped by)) (all_ran by below) (run.stop by below)) place now is
 
-    pub keys_are : AreKeysOf remaining opened (traces remaining s_faults s_mark files leaves b_faults b_mark s workers some opened laters shares reads was readings places stopped ends run
-        firsts backs added turned left_by)
-    keys_are = are_keys remaining s_faults s_mark workers some opened laters shares reads was readings places stopped ends run
+    pub keys_are : AreKeysOf remaining opened (traces crew)
+    keys_are = are_keys crew.read
 
     pub read_to_end : AreReadToEnd remaining opened laters
     read_to_end = λ trace before now was_is is bytes told.
         let at = read_of trace (slice_get_within opened trace before was_is) in
         let first = same_Some at.4.before before (sym at.4.was ∙ was_is) in
         let last = same_Some at.0.source now (sym at.4.is ∙ is) in
-        let at_end = at_ends (trace % workers) at.2 at.0 (named remaining s_faults s_mark workers some opened laters shares reads was readings places stopped ends run trace) at.3 in
+        let at_end = at_ends (trace % workers) at.2 at.0 (named crew.read trace) at.3 in
         let made : remaining at.0.made ≡ Some bytes = ap remaining (at.4.read_is.made_is ∙ first) ∙ told in
         let of = at_end.told bytes made in
         let all = of.all_given in
@@ -131,24 +122,14 @@ module _ {S B : Type 0} (remaining : S → Option (List ℕ)) (s_faults s_mark :
           read = ap remaining (sym last) ∙ at_end.read bytes made;
         }
 
-    pub are_weaving : AreWeaving files leaves b_faults s workers
-        (traces remaining s_faults s_mark files leaves b_faults b_mark s workers some opened laters shares reads was readings places stopped ends run firsts backs added turned left_by)
-        backs
+    pub are_weaving : AreWeaving files leaves b_faults s workers (traces crew) backs
     are_weaving = λ number closed is.
         let first = slice_get-some firsts number (let within = slice_get_within backs number closed is in let n = left_by.number in omega (arith, within, n)) in
-        is_weaving files leaves b_faults b_mark s workers some number
-        (traces remaining s_faults s_mark files leaves b_faults b_mark s workers some opened laters shares reads was readings places stopped ends run firsts backs added turned left_by)
-        shares reads stopped ends
-        (shared remaining s_faults s_mark files leaves b_faults b_mark s workers some opened laters shares reads was readings places stopped ends run firsts backs added turned left_by)
-        (added number) (turned number)
+        is_weaving files leaves b_faults b_mark s workers some number (traces crew) shares reads stopped ends (shared crew) (added number) (turned number)
         (λ by below. left_by.left number by (slice_get_within firsts number first.0 first.1) below) first.0 closed (left_by.each number first.0 closed first.1 is)
-        (all_whole remaining s_faults s_mark workers some opened laters shares reads was readings places stopped ends run at_ends) all_ran (all_run number first.0 closed first.1 is)
+        (all_whole crew.read at_ends) all_ran (all_run number first.0 closed first.1 is)
 
-    pub all_fit : AllFit s (traces remaining s_faults s_mark files leaves b_faults b_mark s workers some opened laters shares reads was readings places stopped ends run firsts backs added
-        turned left_by)
+    pub all_fit : AllFit s (traces crew)
     all_fit cone below =
         let closed = slice_get-some backs cone (let n = left_by.number in let m = left_by.cones_are in omega (arith, n, m, below)) in
-        weaving_fits files leaves b_faults s workers cone
-        (traces remaining s_faults s_mark files leaves b_faults b_mark s workers some opened laters shares reads was readings places stopped ends run firsts backs added turned left_by)
-        closed.0
-        (are_weaving cone closed.0 closed.1)
+        weaving_fits files leaves b_faults s workers cone (traces crew) closed.0 (are_weaving cone closed.0 closed.1)

@@ -24,8 +24,7 @@ here_same e history trace same =
     ap (λ (b : Bool). length (events_of (cond b (e ∷ of_trace history trace) (of_trace history trace)))) (eq-eqb e.trace trace same)
     ∙ length-append e.keys (events_of (of_trace history trace))
 
-here_other : (e : Packet) (history : List Packet) (trace : ℕ) → e.trace ≢ trace → length (events_of (of_trace (e ∷ history) trace)) ≡ length
-    (events_of (of_trace history trace))
+here_other : (e : Packet) (history : List Packet) (trace : ℕ) → e.trace ≢ trace → length (events_of (of_trace (e ∷ history) trace)) ≡ length (events_of (of_trace history trace))
 here_other e history trace other =
     ap (λ (b : Bool). length (events_of (cond b (e ∷ of_trace history trace) (of_trace history trace)))) (ne_eqb e.trace trace other)
 

@@ -1,5 +1,5 @@
 -- What all workers leave in a cone.
-use Rattle.std.proofs.Common.{◌≡◌, ◌≢◌, ℕ, ◌+◌, ◌<◌, ◌≤◌, suc, Bool, cond, eqb, List, [], ◌∷◌}
+use Rattle.std.proofs.Common.{◌≡◌, ◌≢◌, ℕ, ◌<◌, ◌≤◌, suc, Bool, cond, eqb, List, [], ◌∷◌}
 use Rattle.std.proofs.Common.{◌++◌, length, map, Some, slice_get, refl, ap, sym, ◌∙◌, subst, inl, inr, arith}
 use Rattle.std.proofs.Common.{append_assoc, append-nil, length-append}
 use Rattle.std.specs.Prelude.{All, Contains}
@@ -41,8 +41,7 @@ module _ (s : Numbers) (number cone : ℕ) (share : List ℕ) (reads : List (Lis
           sym (append_assoc (events_of (of_trace xs trace)) (events_of (of_trace ys trace)) begins.0)
               ∙ (ap (λ (zs : List ℕ). zs ++ begins.0) (sym parts) ∙ begins.1),
         );
-    cut = λ trace. cut_first s.packet (of_trace xs trace) (of_trace ys trace)
-        (subst (AreCut s.packet) (filter-append (λ (p : Packet). eqb p.trace trace) xs ys) (part.cut trace));
+    cut = λ trace. cut_first s.packet (of_trace xs trace) (of_trace ys trace) (subst (AreCut s.packet) (filter-append (λ (p : Packet). eqb p.trace trace) xs ys) (part.cut trace));
   }
 
   -- what a run left, behind nothing
@@ -51,8 +50,7 @@ module _ (s : Numbers) (number cone : ℕ) (share : List ℕ) (reads : List (Lis
   left_in stopped end old new none none_refused ran =
       subst (λ (calls : List Packet). LeftIn s number cone share reads stopped end calls new.refused) (sym (ran.calls_are ∙ ap (λ (xs : List Packet). xs ++ ran.added) none))
       (subst (λ (refused : List (Packet × ConeFault)). LeftIn s number cone share reads stopped end ran.added refused)
-      (sym (ran.refused_are ∙ ap (λ (xs : List (Packet × ConeFault)). xs ++ ran.turned) none_refused))
-      (record {
+      (sym (ran.refused_are ∙ ap (λ (xs : List (Packet × ConeFault)). xs ++ ran.turned) none_refused)) (record {
         turned_is = ran.turned_is;
         part = has_part (ran.added ++ map (λ pair. pair.0) ran.turned) ran.part;
         of_stopped = ran.of_stopped;
@@ -108,16 +106,14 @@ module _ (s : Numbers) (cone workers : ℕ) (some : 1 ≤ workers) (traces : Lis
     (stopped : ℕ → ℕ) (ends : ℕ → WorkerEnd) (added : ℕ → List Packet) (turned : ℕ → List (Packet × ConeFault))
     (shared : (number : ℕ) → number < workers → IsShare workers (length traces) number (shares number))
     (left : (number : ℕ) → number < workers → LeftIn s number cone (shares number) (reads number) (stopped number) (ends number) (added number) (turned number))
-    (history : List Packet) (numbered : All (λ e. e.by < workers) history)
-    (own_are : (number : ℕ) → number < workers → own history number ≡ added number) where
+    (history : List Packet) (numbered : All (λ e. e.by < workers) history) (own_are : (number : ℕ) → number < workers → own history number ≡ added number) where
   -- a packet that was refused is one of its number's
   pub turned_by : (number : ℕ) → number < workers → (e : Packet) (f : ConeFault) → Contains (turned number) (e, f) → e.by ≡ number
   turned_by number named e f has =
       let here = left number named in
       let only = only_turned s number cone (shares number) (reads number) (stopped number) (ends number) (added number) (turned number) here e f has in
       let part = turned_part s number cone (shares number) (reads number) (stopped number) (ends number) (added number) (turned number) here e f only.0 in
-      (All-contains (IsOwn s number (shares number)) (added number ++ e ∷ []) e part.each
-      (Contains-last (added number) e)).by_is
+      (All-contains (IsOwn s number (shares number)) (added number ++ e ∷ []) e part.each (Contains-last (added number) e)).by_is
     where
       Contains-last : (xs : List Packet) (x : Packet) → Contains (xs ++ x ∷ []) x
       Contains-last [] x = item_here x []
@@ -150,8 +146,7 @@ module _ (s : Numbers) (cone workers : ℕ) (some : 1 ≤ workers) (traces : Lis
               let owns : own (history ++ e ∷ []) number ≡ added number ++ e ∷ [] =
               ap (own (history ++ e ∷ [])) (sym by) ∙ (own-push_same history e
               ∙ (ap (λ n. own history n ++ e ∷ []) by ∙ ap (λ (xs : List Packet). xs ++ e ∷ []) (own_are number named))) in
-              subst (λ n. HasPart s n cone (shares n) (reads n) (own (history ++ e ∷ []) n)) (sym by ∙ same)
-              (subst (HasPart s number cone (shares number) (reads number)) (sym owns) part)
+              subst (λ n. HasPart s n cone (shares n) (reads n) (own (history ++ e ∷ []) n)) (sym by ∙ same) (subst (HasPart s number cone (shares number) (reads number)) (sym owns) part)
           | inr apart ↦ subst (HasPart s other cone (shares other) (reads other)) (sym (own-push_other history e other apart)) (part_of_own other below)
         ]
 

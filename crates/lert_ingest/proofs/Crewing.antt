@@ -1,5 +1,5 @@
 -- What a crew did, by the runs of its workers.
-use Rattle.std.proofs.Common.{◌≡◌, ℕ, ◌+◌, ◌-◌, ◌^◌, ◌<◌, Bool, cond, eqb, List, [], ◌∷◌}
+use Rattle.std.proofs.Common.{◌≡◌, ℕ, ◌+◌, ◌^◌, ◌<◌, Bool, cond, eqb, List, [], ◌∷◌}
 use Rattle.std.proofs.Common.{◌++◌, length, map, filter, Option, Some, None, slice_get, refl, ap, sym, ◌∙◌, subst, arith}
 use Rattle.std.proofs.Common.{length-append}
 use Rattle.std.specs.Prelude.{All}
@@ -158,10 +158,8 @@ module _ {S H : Type 0} (remaining : S → Option (List ℕ)) (faults mark : S �
         each by place trace at (sym (ap (λ (o : Option (Working S H)). slice_get (share_of o) place) at.old_is) ∙ there);
     stop = λ by below. let at = at_by by below in
         subst (λ (o : Option (Working S H)). Stopped remaining (share_of o) (readers_of o) (readers_of (slice_get mids by)) (place_of (choice_at by)) (stopped_of (choice_at by))
-        (end_of (slice_get mids by)))
-        (sym at.old_is)
-        (subst (λ (m : Option (Working S H)). Stopped remaining at.old.traces at.old.readers (readers_of m) (place_of (choice_at by)) (stopped_of (choice_at by)) (end_of m))
-        (sym at.mid_is)
+        (end_of (slice_get mids by))) (sym at.old_is)
+        (subst (λ (m : Option (Working S H)). Stopped remaining at.old.traces at.old.readers (readers_of m) (place_of (choice_at by)) (stopped_of (choice_at by)) (end_of m)) (sym at.mid_is)
         (subst (λ (c : Option Choice). Stopped remaining at.old.traces at.old.readers at.mid.readers (place_of c) (stopped_of c) at.mid.end) (sym at.choice_is) at.chosen.stopped_is));
   }
     where
@@ -209,8 +207,7 @@ module _ {S H : Type 0} (remaining : S → Option (List ℕ)) (faults mark : S �
             subst (λ (o : Option (Working S H)). LeftIn s by cone (share_of o) (reads_of (choice_at by)) (stopped_of (choice_at by)) (end_of (slice_get mids by)) after.0.calls
             after.0.refused) (sym at.old_is)
             (subst (λ (m : Option (Working S H)). LeftIn s by cone at.old.traces (reads_of (choice_at by)) (stopped_of (choice_at by)) (end_of m) after.0.calls after.0.refused)
-            (sym at.mid_is)
-            (subst (λ (c : Option Choice). LeftIn s by cone at.old.traces (reads_of c) (stopped_of c) at.mid.end after.0.calls after.0.refused) (sym at.choice_is) left));
+            (sym at.mid_is) (subst (λ (c : Option Choice). LeftIn s by cone at.old.traces (reads_of c) (stopped_of c) at.mid.end after.0.calls after.0.refused) (sym at.choice_is) left));
       }
 
   pub left_at : (cone by : ℕ) → cone < length fleet → by < workers →
@@ -219,8 +216,7 @@ module _ {S H : Type 0} (remaining : S → Option (List ℕ)) (faults mark : S �
   left_at cone by cone_below below =
       let at = at_cone by cone below cone_below in
       subst (λ (a : Option (Sight H ConeFault)). LeftIn s by cone (share_of (slice_get olds by)) (reads_of (choice_at by)) (stopped_of (choice_at by)) (end_of (slice_get mids by))
-      (calls_of a) (refused_of a))
-      (sym at.after_is) at.left
+      (calls_of a) (refused_of a)) (sym at.after_is) at.left
 
   pub named_at : (by cone : ℕ) (fault : ConeFault) → by < workers → end_of (slice_get mids by) ≡ Cone cone fault → cone < length fleet
   named_at by cone fault below is = let at = at_by by below in at.run.named cone fault (sym (ap end_of at.mid_is) ∙ is)
@@ -261,12 +257,10 @@ module _ {S H : Type 0} (remaining : S → Option (List ℕ)) (faults mark : S �
 
 module _ {S B R : Type 0} (remaining : S → Option (List ℕ)) (s_faults s_mark : S → ℕ) (files : B → Option Files) (leaves : B → Files → Type 0) (b_faults b_mark : B → ℕ)
     (held : HeldOf (Standing B) (Terms B) R ConeFault) (is_held : IsConeHeld files leaves b_faults b_mark held) (fleet : FleetSight (Standing B)) (s : Numbers) (workers count : ℕ)
-    (opened laters : List S)
-    (olds mids news : List (Working S (Standing B))) (size : length olds ≡ workers) (count_is : count ≡ length opened) (are : AreReady fleet s count opened olds)
+    (opened laters : List S) (olds mids news : List (Working S (Standing B))) (size : length olds ≡ workers) (count_is : count ≡ length opened) (are : AreReady fleet s count opened olds)
     (ran : EachTwo (HasRun remaining s_faults s_mark fleet) olds mids) (taken : WereTaken count mids news laters)
     (new : AreNew files leaves b_faults s (firsts_of fleet)) (numbers : (cone : ℕ) (lock : LockSight (Standing B)) → slice_get fleet cone ≡ Some lock → lock.numbers ≡ workers)
-    (cones_are : length fleet ≡ 2 ^ s.cone_bits)
-    (pass : FleetPassSight (Standing B) ConeFault) (backs : List (Standing B)) (closes : ClosesEach held fleet pass backs)
+    (cones_are : length fleet ≡ 2 ^ s.cone_bits) (pass : FleetPassSight (Standing B) ConeFault) (backs : List (Standing B)) (closes : ClosesEach held fleet pass backs)
     (shows : Shows (λ cone by. calls_of (sight_of (slice_get mids by) cone)) (λ cone by. refused_of (sight_of (slice_get mids by) cone)) 0 workers pass)
     (seen : AreSeen files b_faults b_mark backs) where
   pub left_by : AreLeftBy files leaves b_faults b_mark s workers (firsts_of fleet) backs (λ by. share_of (slice_get olds by))
@@ -284,8 +278,7 @@ module _ {S B R : Type 0} (remaining : S → Option (List ℕ)) (s_faults s_mark
         ap (λ (t : Terms B). t.made) (sym (is_held.terms_are closed) ∙ (close.terms_are ∙ (ap held.terms lock.2 ∙ is_held.terms_are first))) ∙ (new cone first first_is).made_is in
         let look = seen cone closed closed_is in
         is_back files leaves b_faults b_mark held is_held s workers cone (λ by. calls_of (sight_of (slice_get mids by) cone)) (λ by. refused_of (sight_of (slice_get mids by) cone)) first
-        closed
-        (new cone first first_is) lock.0 lock.2 (numbers cone lock.0 lock.1) sight.0
+        closed (new cone first first_is) lock.0 lock.2 (numbers cone lock.0 lock.1) sight.0
         (λ by below. shows.calls cone sight.0 sight.1 by (omega arith) below) (λ by below. shows.refused cone sight.0 sight.1 by (omega arith) below) close
         (subst (λ (m : B). IsLater files b_faults b_mark m closed.bay) made (record { marked = look.later.1; never_falls = look.later.0; tells = look.later.2 })) look.closed;
     left = λ cone by cone_below below. left_at remaining s_faults s_mark fleet s workers count opened laters olds mids news size count_is are ran taken cone by

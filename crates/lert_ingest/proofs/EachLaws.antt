@@ -38,8 +38,7 @@ module _ {B : Type 0} (R : ℕ → B → B → Type 0) where
   pub each_seam : ((cone : ℕ) (bay : B) → R cone bay bay) → (xs : List B) (old new : B) (ys : List B) → R (length xs) old new →
       EachBay R (xs ++ old ∷ ys) (xs ++ new ∷ ys)
   each_seam still xs old new ys here =
-      subst (EachBay R (xs ++ old ∷ ys)) (set-seam xs old new ys)
-      (each_set still (xs ++ old ∷ ys) (length xs) old new (slice_get-seam xs old ys) here)
+      subst (EachBay R (xs ++ old ∷ ys)) (set-seam xs old new ys) (each_set still (xs ++ old ∷ ys) (length xs) old new (slice_get-seam xs old ys) here)
 
 pub each_weaker : {B : Type 0} (R Q : ℕ → B → B → Type 0) → ((cone : ℕ) (a b : B) → R cone a b → Q cone a b) → (bays later : List B) → EachBay R bays later →
     EachBay Q bays later

@@ -33,8 +33,7 @@ pub record IsConeHeld {B R : Type 0} (files : B → Option Files) (leaves : B �
       (fault ≡ CapacityFull (length (events_of history)) (length packet.keys)) × (capacity terms.settings < length (events_of history) + length packet.keys)
 
 module _ {B R : Type 0} (files : B → Option Files) (leaves : B → Files → Type 0) (faults mark : B → ℕ) (held : HeldOf (Standing B) (Terms B) R ConeFault)
-    (is_held : IsConeHeld files leaves faults mark held) (s : Numbers) (workers number : ℕ) (added : ℕ → List Packet) (turned : ℕ → List (Packet × ConeFault))
-    (first closed : Standing B)
+    (is_held : IsConeHeld files leaves faults mark held) (s : Numbers) (workers number : ℕ) (added : ℕ → List Packet) (turned : ℕ → List (Packet × ConeFault)) (first closed : Standing B)
     (new : IsNew files leaves faults s number first)
     (lock : LockSight (Standing B)) (first_is : lock.first ≡ first) (numbers_are : lock.numbers ≡ workers) (pass : Sight (Standing B) ConeFault)
     (calls : (by : ℕ) → by < workers → own pass.calls by ≡ added by) (refused : (by : ℕ) → by < workers → own_refused pass.refused by ≡ turned by)
@@ -61,8 +60,7 @@ module _ {B R : Type 0} (files : B → Option Files) (leaves : B → Files → T
       (Contains-filter (λ r. eqb r.0.by e.by) pass.refused (e, f) has (eq-eqb e.by e.by refl))
 
   shown : (by : ℕ) → by < workers → (e : Packet) (f : ConeFault) → Contains (turned by) (e, f) → Contains pass.refused (e, f)
-  shown by below e f has = (Contains-filter_back (λ r. eqb r.0.by by) pass.refused (e, f)
-      (subst (λ (xs : List (Packet × ConeFault)). Contains xs (e, f)) (sym (refused by below)) has)).0
+  shown by below e f has = (Contains-filter_back (λ r. eqb r.0.by by) pass.refused (e, f) (subst (λ (xs : List (Packet × ConeFault)). Contains xs (e, f)) (sym (refused by below)) has)).0
 
   over_of : (over : Packet) → closed.over ≡ Some over → (fault : ConeFault) × (over.by < workers) × Contains (turned over.by) (over, fault)
   over_of over is = by_case closes.over_is
@@ -74,8 +72,7 @@ module _ {B R : Type 0} (files : B → Option Files) (leaves : B → Files → T
           ⊎ ((e : Packet) × (f : ConeFault) × (held.over closed ≡ Some e) × (e.by < lock.numbers) × Contains pass.refused (e, f))) →
           (fault : ConeFault) × (over.by < workers) × Contains (turned over.by) (over, fault)
       by_case (inl none) = absurd (none-some over (sym none ∙ held_is))
-      by_case (inr (inl same)) = absurd (none-some over
-          (sym (ap held.over first_is ∙ (is_held.over_is first ∙ new.stands.none_over (ap is_broken new.state_is))) ∙ (sym same ∙ held_is)))
+      by_case (inr (inl same)) = absurd (none-some over (sym (ap held.over first_is ∙ (is_held.over_is first ∙ new.stands.none_over (ap is_broken new.state_is))) ∙ (sym same ∙ held_is)))
       by_case (inr (inr left)) =
           let same : left.0 ≡ over = same_Some left.0 over (sym left.2 ∙ held_is) in
           let below : left.0.by < workers = subst (λ n. left.0.by < n) numbers_are left.3 in (

@@ -1,16 +1,15 @@
 -- Which fault it is that is answered, where all tell and no fault was counted.
-use Rattle.std.proofs.Common.{◌≡◌, ◌⊎◌, ℕ, ◌^◌, ◌<◌, ◌≤◌, zero, suc, List, [], ◌∷◌, length, map, Option, Some}
+use Rattle.std.proofs.Common.{◌≡◌, ℕ, ◌^◌, ◌<◌, ◌≤◌, zero, suc, List, [], ◌∷◌, length, map, Option, Some}
 use Rattle.std.proofs.Common.{slice_get, refl, ap, sym, ◌∙◌, subst, inl, inr, arith}
-use Rattle.std.specs.Prelude.{All}
 use Rattle.std.proofs.lemmas.Option.{get_or_from_slice_get, none-some, same_Some, slice_get_within}
 use Rattle.lert_bay.specs.Files.{Files}
 use Rattle.lert_io.specs.Fault.{HasRisen, IsFaultless}
 use Rattle.lert_spec.specs.declared.numbers.Numbers.{Numbers}
 use Rattle.lert_spec.specs.Edges.{capacity}
 use Rattle.lert_spec.specs.Trace.{left, whole}
-use Rattle.lert_ingest.specs.Bays.{AreFaultless, AreTold, HasFailed, IsUntold}
-use Rattle.lert_ingest.specs.Stops.{StopShows}
-use Rattle.lert_ingest.specs.Traces.{AreBytesOf, AreKeysOf, AreTracesFaultless, HasTraceFailed, most_keys, part_length}
+use Rattle.lert_ingest.specs.Bays.{HasFailed, IsUntold}
+use Rattle.lert_ingest.specs.Stops.{AreTelling, IsExact, StopShows, trace_fault, bad_trace, too_long, bay_fault, malformed, capacity_full, out_of_memory}
+use Rattle.lert_ingest.specs.Traces.{AreBytesOf, AreKeysOf, HasTraceFailed, most_keys, part_length}
 use Rattle.lert_ingest.specs.declared.status.Status.{Status}
 use Rattle.lert_ingest.specs.declared.status.Status.TheVariants as status
 use Rattle.lert_ingest.proofs.BayLaws.{slice_get-some}
@@ -49,52 +48,70 @@ module _ {S : Type 0} (remaining : S → Option (List ℕ)) where
 pub fault_risen : (before now : ℕ) → HasRisen before now → IsFaultless before now → ⊥
 fault_risen before now rose faultless = let up = rose faultless.below_last in let same = faultless.same in omega (arith, up, same)
 
+-- what is left that may be answered
+pub data MayBe (s : Numbers) (texts : List (List ℕ)) : Status → Type 0 where
+  may_bad : (trace at : ℕ) (bytes : List ℕ) → slice_get texts trace ≡ Some bytes → left bytes ≡ Some at → MayBe s texts (status.BadTrace trace at)
+  may_full : (cone n len : ℕ) → cone < 2 ^ s.cone_bits → capacity s < part_length s cone (map whole texts) → MayBe s texts (status.CapacityFull cone n len)
+  may_memory : MayBe s texts status.OutOfMemory
+
 module _ {S B : Type 0} (remaining : S → Option (List ℕ)) (faults : S → ℕ) (files : B → Option Files) (bay_faults : B → ℕ) (s : Numbers) (workers : ℕ) (opened now : List S)
-    (bays later : List B)
-    (told : AreTold files bays) (faultless : AreFaultless bay_faults bays later) (traces_faultless : AreTracesFaultless faults opened now) (texts : List (List ℕ))
-    (bytes_are : AreBytesOf remaining opened texts) (few : All (λ bytes. length (whole bytes) ≤ most_keys) texts) where
-  pub no_trace_failed : (trace : ℕ) → HasTraceFailed faults opened now trace → ⊥
-  no_trace_failed trace failed = fault_risen (faults failed.before) (faults failed.now) failed.rose (traces_faultless trace failed.before failed.now failed.was failed.is)
+    (bays later : List B) (texts : List (List ℕ)) (are : AreTelling remaining faults files bay_faults s workers opened now bays later texts) where
+  no_trace_failed : (trace : ℕ) → HasTraceFailed faults opened now trace → ⊥
+  no_trace_failed trace failed = fault_risen (faults failed.before) (faults failed.now) failed.rose (are.traces_faultless trace failed.before failed.now failed.was failed.is)
 
-  pub no_bay_failed : (cone : ℕ) → HasFailed bay_faults bays later cone → ⊥
-  no_bay_failed cone failed = fault_risen (bay_faults failed.before) (bay_faults failed.now) failed.rose (faultless cone failed.before failed.now failed.was failed.is)
+  no_bay_failed : (cone : ℕ) → HasFailed bay_faults bays later cone → ⊥
+  no_bay_failed cone failed = fault_risen (bay_faults failed.before) (bay_faults failed.now) failed.rose (are.faultless cone failed.before failed.now failed.was failed.is)
 
-  pub none_untold : (cone : ℕ) → IsUntold files bays cone → ⊥
+  none_untold : (cone : ℕ) → IsUntold files bays cone → ⊥
   none_untold cone untold =
       let bay = slice_get-some bays cone untold.named in
-      let seen = told cone bay.0 bay.1 in
+      let seen = are.told cone bay.0 bay.1 in
       untold.untold bay.0 bay.1 seen.0 seen.1
 
   pub few_at : (trace : ℕ) (bytes : List ℕ) → slice_get texts trace ≡ Some bytes → length (whole bytes) ≤ most_keys
   few_at trace bytes is = subst (λ (b : List ℕ). length (whole b) ≤ most_keys) (get_or_from_slice_get texts trace bytes bytes is)
-      (few trace bytes (slice_get_within texts trace bytes is))
+      (are.few trace bytes (slice_get_within texts trace bytes is))
 
-  -- what is left that may be answered
-  abbrev pub MayBe : Status → Type 0
-  MayBe one =
-      ((trace at : ℕ) × (bytes : List ℕ) × (one ≡ status.BadTrace trace at) × (slice_get texts trace ≡ Some bytes) × (left bytes ≡ Some at))
-      ⊎ (((cone n len : ℕ) × (one ≡ status.CapacityFull cone n len) × (cone < 2 ^ s.cone_bits) × (capacity s < part_length s cone (map whole texts)))
-      ⊎ (one ≡ status.OutOfMemory))
+  pub may_be : (one : Status) → StopShows remaining faults files bay_faults s workers opened now bays later one → MayBe s texts one
+  may_be one (trace_fault trace failed part) = absurd (no_trace_failed trace failed)
+  may_be one (bad_trace trace at bad part) =
+      let found = bytes_of remaining opened texts are.bytes_are trace bad.before bad.was in
+      may_bad trace at found.0 found.1 (bad.told found.0 found.2)
+  may_be one (too_long trace long part) =
+      let found = bytes_of remaining opened texts are.bytes_are trace long.before long.was in
+      absurd (let many = long.told found.0 found.2 in let most = few_at trace found.0 found.1 in omega (arith, many, most))
+  may_be one (bay_fault cone failed part) = absurd (no_bay_failed cone failed)
+  may_be one (malformed cone file at untold part) = absurd (none_untold cone untold)
+  may_be one (capacity_full cone n len full has trace part) =
+      let same = keys_same remaining opened texts has.traces are.bytes_are has.keys in
+      let enough = has.enough in
+      let over = full.over in
+      may_full cone n len full.named (subst (λ (ts : List (List ℕ)). capacity s < part_length s cone ts) same (omega (arith, enough, over)))
+  may_be one (out_of_memory same_traces same_bays) = may_memory
 
-  pub may_be : (one : Status) → StopShows remaining faults files bay_faults s workers opened now bays later one → MayBe one
-  may_be status.Done shows = absurd shows
-  may_be (status.Usage rule) shows = absurd shows
-  may_be status.PlaceFault shows = absurd shows
-  may_be (status.TraceFault trace) shows = absurd (no_trace_failed trace shows.0)
-  may_be (status.BadTrace trace at) shows =
-      let found = bytes_of remaining opened texts bytes_are trace shows.0.before shows.0.was in
-      inl (trace, at, found.0, refl, found.1, shows.0.told found.0 found.2)
-  may_be (status.TooLong trace) shows =
-      let found = bytes_of remaining opened texts bytes_are trace shows.0.before shows.0.was in
-      absurd (let many = shows.0.told found.0 found.2 in let most = few_at trace found.0 found.1 in omega (arith, many, most))
-  may_be (status.NotFresh cone) shows = absurd shows
-  may_be (status.BayFault cone) shows = absurd (no_bay_failed cone shows.0)
-  may_be (status.CapacityFull cone n len) shows =
-      let same = keys_same remaining opened texts shows.1.traces bytes_are shows.1.keys in
-      let enough = shows.1.enough in
-      let over = shows.0.over in
-      inr (inl (cone, n, len, refl, shows.0.named, subst (λ (ts : List (List ℕ)). capacity s < part_length s cone ts) same (omega (arith, enough, over))))
-  may_be (status.Malformed cone file at) shows = absurd (none_untold cone shows.0)
-  may_be (status.OtherSettings cone) shows = absurd shows
-  may_be status.OutFault shows = absurd shows
-  may_be status.OutOfMemory shows = inr (inr refl)
+-- ---- the exact answer
+
+module _ {S B : Type 0} (remaining : S → Option (List ℕ)) (faults : S → ℕ) (files : B → Option Files) (bay_faults : B → ℕ) (s : Numbers) (opened now : List S) where
+  -- where all tell and no fault was counted, want of memory comes
+  pub exact_memory : (workers : ℕ) (bays later : List B) (ok : Type 0) (fails : Status → Type 0) →
+      ((texts : List (List ℕ)) → AreTelling remaining faults files bay_faults s workers opened now bays later texts → fails status.OutOfMemory) →
+      IsExact remaining faults files bay_faults s workers opened now bays later ok fails
+  exact_memory workers bays later ok fails memory = record {
+    bad = λ texts are fits trace at bytes is leaves lower. inr (memory texts are);
+    full = λ texts are well over below is_over. inr (memory texts are);
+    complete = λ texts are well fits. inr (memory texts are);
+  }
+
+  -- what comes of a crew over some bays comes of another one over others, where it tells this
+  pub exact_turned : (workers others : ℕ) (bays later olds news : List B) (ok ok' : Type 0) (fails fails' : Status → Type 0) →
+      ((texts : List (List ℕ)) → AreTelling remaining faults files bay_faults s others opened now olds news texts →
+      AreTelling remaining faults files bay_faults s workers opened now bays later texts × (ok → ok') × ((one : Status) → fails one → fails' one)) →
+      IsExact remaining faults files bay_faults s workers opened now bays later ok fails → IsExact remaining faults files bay_faults s others opened now olds news ok' fails'
+  exact_turned workers others bays later olds news ok ok' fails fails' turn exact = record {
+    bad = λ texts are fits trace at bytes is leaves lower. let to = turn texts are in
+        elim (exact.bad texts to.0 fits trace at bytes is leaves lower) [ inl one ↦ inl (to.2 _ one) | inr memory ↦ inr (to.2 _ memory) ];
+    full = λ texts are well over below is_over. let to = turn texts are in
+        elim (exact.full texts to.0 well over below is_over) [ inl one ↦ inl (one.0, one.1, one.2, to.2 _ one.3) | inr memory ↦ inr (to.2 _ memory) ];
+    complete = λ texts are well fits. let to = turn texts are in
+        elim (exact.complete texts to.0 well fits) [ inl done ↦ inl (to.1 done) | inr memory ↦ inr (to.2 _ memory) ];
+  }

@@ -76,8 +76,7 @@ of_two None y one is = (
 of_two (Some a) None one is = (
   inl is,
   (λ other some. subst (λ (b : Status). IsNotAfter one b) (same_Some one other (sym is ∙ some)) (not_after-refl one)),
-  λ other none. absurd
-      (none-some other none),
+  λ other none. absurd (none-some other none),
 )
 of_two (Some a) (Some b) one is =
     let which = earlier_is a b (goes_before b a) refl one is in (
@@ -114,8 +113,7 @@ module _ (faults : ℕ → Option Status) where
     pub is : faults place ≡ Some one
     pub first : (other : ℕ) → other < count → IsFirstOf one (faults other)
 
-  module _ (count : ℕ) (one : Status) (two : ((earliest faults count ≡ Some one) ⊎ (faults count ≡ Some one)) × IsFirstOf one (earliest faults count) × IsFirstOf one
-      (faults count))
+  module _ (count : ℕ) (one : Status) (two : ((earliest faults count ≡ Some one) ⊎ (faults count ≡ Some one)) × IsFirstOf one (earliest faults count) × IsFirstOf one (faults count))
       (smaller : (first : Status) → earliest faults count ≡ Some first → IsFirst count first) where
     behind : (place : ℕ) → place < count → (first : Option Status) → earliest faults count ≡ first → IsFirstOf one (faults place)
     behind place below None none = λ other some. absurd (none-some other (sym (all_none count none place below) ∙ some))
@@ -154,8 +152,7 @@ pub earliest_more : (faults : ℕ → Option Status) (count : ℕ) (first fault 
     → fault ≡ faults count →
     result ≡ earliest faults (count + 1)
 earliest_more faults count first fault result is first_is fault_is =
-    subst (λ n. result ≡ earliest faults n) (let e : suc count ≡ count + 1 = omega arith in e)
-    (is ∙ (ap (λ x. earlier x fault) first_is ∙ ap (earlier (earliest faults count)) fault_is))
+    subst (λ n. result ≡ earliest faults n) (let e : suc count ≡ count + 1 = omega arith in e) (is ∙ (ap (λ x. earlier x fault) first_is ∙ ap (earlier (earliest faults count)) fault_is))
 
 -- the fault of a cone that was read
 pub fault_there : {B : Type 0} (cones : List (Standing B)) (cone : ℕ) (standing : Standing B) (st : ConeState) (fault : Option Status) → cone < length cones →

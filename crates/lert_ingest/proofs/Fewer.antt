@@ -9,9 +9,9 @@ use Rattle.lert_spec.specs.declared.numbers.Numbers.{Numbers}
 use Rattle.lert_ingest.specs.Bays.{ArePartWoven, HoldsOpen, HoldsPart, bays_of}
 use Rattle.lert_ingest.specs.Ingest.{HasIngested}
 use Rattle.lert_ingest.specs.Shares.{AreReadBySame}
-use Rattle.lert_ingest.specs.Stops.{AreIngested, AreOpenPartly, StopShows}
+use Rattle.lert_ingest.specs.Stops.{AreIngested, AreOpenPartly, StopShows, trace_fault, bad_trace, too_long, bay_fault, malformed, capacity_full, out_of_memory}
 use Rattle.lert_ingest.specs.declared.status.Status.{Status}
-use Rattle.lert_ingest.specs.declared.status.Status.TheVariants as status
+use Rattle.lert_ingest.proofs.Exactly.{exact_turned}
 
 module _ (s : Numbers) (fewer workers : ℕ) where
   -- ---- the journal of a cone
@@ -85,21 +85,14 @@ module _ (s : Numbers) (fewer workers : ℕ) where
 
       stops_by : (answer : Status) → StopShows remaining faults files bay_faults s fewer opened now bays later answer →
           StopShows remaining faults files bay_faults s workers opened now bays later answer
-      stops_by status.Done shows = shows
-      stops_by (status.Usage rule) shows = shows
-      stops_by status.PlaceFault shows = shows
-      stops_by (status.TraceFault trace) shows = (shows.0, open_by _ shows.1)
-      stops_by (status.BadTrace trace at) shows = (shows.0, open_by _ shows.1)
-      stops_by (status.TooLong trace) shows = (shows.0, open_by _ shows.1)
-      stops_by (status.NotFresh cone) shows = shows
-      stops_by (status.BayFault cone) shows = (shows.0, open_by _ shows.1)
-      stops_by (status.CapacityFull cone n len) shows =
-          let enough = shows.1 in
-          (shows.0, record { traces = enough.traces; keys = enough.keys; enough = enough.enough }, (shows.2.0, open_by _ shows.2.1))
-      stops_by (status.Malformed cone file at) shows = (shows.0, open_by _ shows.1)
-      stops_by (status.OtherSettings cone) shows = shows
-      stops_by status.OutFault shows = shows
-      stops_by status.OutOfMemory shows = shows
+      stops_by answer (trace_fault trace failed part) = trace_fault trace failed (open_by _ part)
+      stops_by answer (bad_trace trace at bad part) = bad_trace trace at bad (open_by _ part)
+      stops_by answer (too_long trace long part) = too_long trace long (open_by _ part)
+      stops_by answer (bay_fault cone failed part) = bay_fault cone failed (open_by _ part)
+      stops_by answer (malformed cone file at untold part) = malformed cone file at untold (open_by _ part)
+      stops_by answer (capacity_full cone n len full has trace part) =
+          capacity_full cone n len full (record { traces = has.traces; keys = has.keys; enough = has.enough }) trace (open_by _ part)
+      stops_by answer (out_of_memory same_traces same_bays) = out_of_memory same_traces same_bays
 
     -- what a crew of fewer leaves, said of more
     pub ingested_fewer : (firsts backs : List (Standing B)) (result : Result (Unit {0}) Status) →
@@ -110,7 +103,11 @@ module _ (s : Numbers) (fewer workers : ℕ) where
       traces_later = has.traces_later;
       read = reads result has.read;
       stopped = stopped result has.stopped;
-      exact = record { bad = has.exact.bad; full = has.exact.full; complete = has.exact.complete };
+      exact = exact_turned remaining faults files bay_faults s opened now fewer workers (bays_of firsts) (bays_of backs) (bays_of firsts) (bays_of backs) _ _ _ _ (λ texts are. (
+        record { told = are.told; faultless = are.faultless; traces_faultless = are.traces_faultless; bytes_are = are.bytes_are; few = are.few },
+        λ ok. ok,
+        λ one failed. failed,
+      )) has.exact;
     }
       where
         reads : (answer : Result (Unit {0}) Status) → OnOk answer (AreIngested remaining files leaves bay_faults s fewer opened now backs) →

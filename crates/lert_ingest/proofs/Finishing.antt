@@ -1,5 +1,5 @@
 -- How the call that reads traces into cones ends.
-use Rattle.std.proofs.Common.{◌≡◌, ℕ, ◌+◌, ◌-◌, ◌%◌, ◌^◌, ◌<◌, ◌≤◌, zero, suc, List, [], ◌∷◌, ◌++◌, length}
+use Rattle.std.proofs.Common.{◌≡◌, ℕ, ◌%◌, ◌^◌, ◌<◌, ◌≤◌, zero, suc, List, [], ◌∷◌, ◌++◌, length}
 use Rattle.std.proofs.Common.{drop, take, get_or, Option, Some, Result, slice_get, refl, ap, sym, ◌∙◌, subst, arith}
 use Rattle.std.specs.Prelude.{All}
 use Rattle.std.proofs.lemmas.List.{length-take, take-append-drop}
@@ -25,7 +25,7 @@ use Rattle.lert_ingest.specs.Ingest.{AreReady, HasCrewRun, HasIngested, answer_o
 use Rattle.lert_ingest.specs.Sharing.{AreManned, WereTaken}
 use Rattle.lert_ingest.specs.declared.status.Status.{Status}
 use Rattle.lert_ingest.proofs.Assembling.{ingested, same_lists}
-use Rattle.lert_ingest.proofs.Crewing.{calls_of, choice_at, each_shows, left_by, place_of, read_by, readers_of, reads_of, refused_of, share_of, sight_of, stopped_of}
+use Rattle.lert_ingest.proofs.Crewing.{Choice, calls_of, choice_at, each_shows, left_by, place_of, read_by, readers_of, reads_of, refused_of, share_of, sight_of, stopped_of}
 use Rattle.lert_ingest.proofs.Ended.{IsConeHeld}
 
 -- the first items of a list
@@ -56,8 +56,7 @@ back_again given opened olds mids news sources rest all some less manned taken r
     firsts = same_lists sources (take given opened) (let n = taken.taken in let m = length-take given opened in omega (arith, n, m, less)) each
 
 -- what puts the passes of a list together says it of the same list by another name
-module _ {S H : Type 0} (fleet : FleetSight H) (workers : ℕ) (items news : List (Working S H)) (same : items ≡ news) (size : length news ≡ workers)
-    (pass : FleetPassSight H ConeFault) where
+module _ {S H : Type 0} (fleet : FleetSight H) (workers : ℕ) (items news : List (Working S H)) (same : items ≡ news) (size : length news ≡ workers) (pass : FleetPassSight H ConeFault) where
   pub pass_all : IsPassFrom fleet 0 (length items) pass → IsPassFrom fleet 0 workers pass
   pass_all is = subst (λ n. IsPassFrom fleet 0 n pass) (ap (λ (xs : List (Working S H)). length xs) same ∙ size) is
 
@@ -71,8 +70,7 @@ module _ {S H : Type 0} (fleet : FleetSight H) (workers : ℕ) (items news : Lis
 
 module _ {S B R : Type 0} (remaining : S → Option (List ℕ)) (s_faults s_mark : S → ℕ) (files : B → Option Files) (leaves : B → Files → Type 0) (b_faults b_mark : B → ℕ)
     (held : HeldOf (Standing B) (Terms B) R ConeFault) (is_held : IsConeHeld files leaves b_faults b_mark held) (fleet : FleetSight (Standing B)) (s : Numbers) (workers count : ℕ)
-    (opened : List S)
-    (olds : List (Working S (Standing B))) (size : length olds ≡ workers) (count_is : count ≡ length opened) (are : AreReady fleet s count opened olds)
+    (opened : List S) (olds : List (Working S (Standing B))) (size : length olds ≡ workers) (count_is : count ≡ length opened) (are : AreReady fleet s count opened olds)
     (new : AreNew files leaves b_faults s (firsts_of fleet)) (numbers : (cone : ℕ) (lock : LockSight (Standing B)) → slice_get fleet cone ≡ Some lock → lock.numbers ≡ workers)
     (cones_are : length fleet ≡ 2 ^ s.cone_bits) where
   -- each worker may run
@@ -95,8 +93,7 @@ module _ {S B R : Type 0} (remaining : S → Option (List ℕ)) (s_faults s_mark
       fit cone lock lock_is packet journaled =
           let first = new cone lock.first (mapped fleet cone lock lock_is) in
           let terms : held.terms lock.first ≡ terms_of b_faults b_mark lock.first = is_held.terms_are lock.first in
-          subst (λ (t : Terms B). IsJournaled t.settings t.cone packet) (sym terms)
-          (subst (λ (l : Listing). IsJournaled l.settings l.cone packet) (sym first.listing_is) journaled)
+          subst (λ (t : Terms B). IsJournaled t.settings t.cone packet) (sym terms) (subst (λ (l : Listing). IsJournaled l.settings l.cone packet) (sym first.listing_is) journaled)
         where
           mapped : (locks : FleetSight (Standing B)) (k : ℕ) (l : LockSight (Standing B)) → slice_get locks k ≡ Some l → slice_get (firsts_of locks) k ≡ Some l.first
           mapped [] k l is = absurd (none-some l is)
@@ -111,25 +108,44 @@ module _ {S B R : Type 0} (remaining : S → Option (List ℕ)) (s_faults s_mark
       first ≡ earlier ends_first (earliest (fault_at backs) (length backs)) → (result : Result (Unit {0}) Status) → result ≡ answer_of first →
       HasIngested remaining s_faults s_mark files leaves b_faults b_mark s workers opened laters (firsts_of fleet) backs result
   answered some news items laters ends_first first crew_ran same pass backs closes joins seen first_is result result_is =
-      subst (HasIngested remaining s_faults s_mark files leaves b_faults b_mark s workers opened laters (firsts_of fleet) backs) (sym result_is)
-      (ingested remaining s_faults s_mark files leaves b_faults b_mark s workers some opened laters (λ by. share_of (slice_get olds by))
-      (λ by. reads_of (choice_at remaining s_faults s_mark fleet s workers count opened laters olds crew_ran.mids news size count_is are crew_ran.ran crew_ran.taken by))
-      (λ by. readers_of (slice_get olds by))
-      (λ by. readers_of (slice_get crew_ran.mids by))
-      (λ by. place_of (choice_at remaining s_faults s_mark fleet s workers count opened laters olds crew_ran.mids news size count_is are crew_ran.ran crew_ran.taken by))
-      (λ by. stopped_of (choice_at remaining s_faults s_mark fleet s workers count opened laters olds crew_ran.mids news size count_is are crew_ran.ran crew_ran.taken by))
-      (λ by. end_of (slice_get crew_ran.mids by))
-      (read_by remaining s_faults s_mark fleet s workers count opened laters olds crew_ran.mids news size count_is are crew_ran.ran crew_ran.taken)
-      (firsts_of fleet) backs (λ cone by. calls_of (sight_of (slice_get crew_ran.mids by) cone)) (λ cone by. refused_of (sight_of (slice_get crew_ran.mids by) cone))
-      (left_by remaining s_faults s_mark files leaves b_faults b_mark held is_held fleet s workers count opened laters olds crew_ran.mids news size count_is are crew_ran.ran crew_ran.taken
-      new numbers cones_are pass backs closes
-      (shows_all fleet workers items news same news_size pass (λ cone by. calls_of (sight_of (slice_get crew_ran.mids by) cone))
-      (λ cone by. refused_of (sight_of (slice_get crew_ran.mids by) cone))
-      (joins (λ cone by. calls_of (sight_of (slice_get crew_ran.mids by) cone)) (λ cone by. refused_of (sight_of (slice_get crew_ran.mids by) cone)))
-      (each_shows remaining s_faults s_mark fleet s workers count opened laters olds crew_ran.mids news size count_is are crew_ran.ran crew_ran.taken)) seen)
-      first (first_is ∙ ap (λ x. earlier x (earliest (fault_at backs) (length backs)))
-      (crew_ran.first_is ∙ ap (earliest (λ by. end_fault (end_of (slice_get crew_ran.mids by)))) mids_size)))
+      subst (HasIngested remaining s_faults s_mark files leaves b_faults b_mark s workers opened laters (firsts_of fleet) backs) (sym result_is) (ingested (record {
+        read = record {
+          remaining = remaining;
+          s_faults = s_faults;
+          s_mark = s_mark;
+          workers = workers;
+          some = some;
+          opened = opened;
+          laters = laters;
+          shares = λ by. share_of (slice_get olds by);
+          reads = λ by. reads_of (chosen by);
+          was = λ by. readers_of (slice_get olds by);
+          readings = λ by. readers_of (slice_get crew_ran.mids by);
+          places = λ by. place_of (chosen by);
+          stopped = λ by. stopped_of (chosen by);
+          ends = λ by. end_of (slice_get crew_ran.mids by);
+          run = read_by remaining s_faults s_mark fleet s workers count opened laters olds crew_ran.mids news size count_is are crew_ran.ran crew_ran.taken;
+        };
+        files = files;
+        leaves = leaves;
+        b_faults = b_faults;
+        b_mark = b_mark;
+        s = s;
+        firsts = firsts_of fleet;
+        backs = backs;
+        added = λ cone by. calls_of (sight_of (slice_get crew_ran.mids by) cone);
+        turned = λ cone by. refused_of (sight_of (slice_get crew_ran.mids by) cone);
+        left_by = left_by remaining s_faults s_mark files leaves b_faults b_mark held is_held fleet s workers count opened laters olds crew_ran.mids news size count_is are crew_ran.ran
+            crew_ran.taken new numbers cones_are pass backs closes (shows_all fleet workers items news same news_size pass (λ cone by. calls_of (sight_of (slice_get crew_ran.mids by) cone))
+            (λ cone by. refused_of (sight_of (slice_get crew_ran.mids by) cone))
+            (joins (λ cone by. calls_of (sight_of (slice_get crew_ran.mids by) cone)) (λ cone by. refused_of (sight_of (slice_get crew_ran.mids by) cone)))
+            (each_shows remaining s_faults s_mark fleet s workers count opened laters olds crew_ran.mids news size count_is are crew_ran.ran crew_ran.taken)) seen;
+      })
+      first (first_is ∙ ap (λ x. earlier x (earliest (fault_at backs) (length backs))) (crew_ran.first_is ∙ ap (earliest (λ by. end_fault (end_of (slice_get crew_ran.mids by)))) mids_size)))
     where
+      chosen : ℕ → Option Choice
+      chosen = choice_at remaining s_faults s_mark fleet s workers count opened laters olds crew_ran.mids news size count_is are crew_ran.ran crew_ran.taken
+
       mids_size : length crew_ran.mids ≡ workers
       mids_size = crew_ran.ran.as_many ∙ size
 

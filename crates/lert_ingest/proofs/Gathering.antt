@@ -1,5 +1,5 @@
 -- What all workers brought to a cone, told from what each of them brought.
-use Rattle.std.proofs.Common.{◌≡◌, ℕ, ◌+◌, ◌%◌, ◌<◌, ◌≤◌, Bool, true, false, cond, eqb, List, [], ◌∷◌, ◌++◌}
+use Rattle.std.proofs.Common.{◌≡◌, ℕ, ◌%◌, ◌<◌, ◌≤◌, Bool, true, false, cond, eqb, List, [], ◌∷◌, ◌++◌}
 use Rattle.std.proofs.Common.{length, Some, slice_get, refl, ap, sym, ◌∙◌, subst, inl, inr, arith}
 use Rattle.std.proofs.Common.{append_assoc, length-append}
 use Rattle.std.specs.Prelude.{All}
@@ -74,20 +74,17 @@ own_brought s workers count number share shares e own_e =
     record { some = own_e.some; few = own_e.few; of_them = of.0; by_is = own_e.by_is ∙ sym of.1 }
 
 module _ (s : Numbers) (cone workers : ℕ) (traces : List (List ℕ)) (shares : ℕ → List ℕ) (reads : ℕ → List (List ℕ))
-    (shared : (number : ℕ) → number < workers → IsShare workers (length traces) number (shares number)) (history : List Packet)
-    (numbered : All (λ e. e.by < workers) history) where
+    (shared : (number : ℕ) → number < workers → IsShare workers (length traces) number (shares number)) (history : List Packet) (numbered : All (λ e. e.by < workers) history) where
   module _ (each : (number : ℕ) → number < workers → All (IsOwn s number (shares number)) (own history number)) where
     are_brought : All (IsBrought s workers (length traces)) history
-    are_brought = all_own (IsBrought s workers (length traces)) workers history numbered
-        (λ number named. All-weaken number named (own history number) (each number named))
+    are_brought = all_own (IsBrought s workers (length traces)) workers history numbered (λ number named. All-weaken number named (own history number) (each number named))
       where
         All-weaken : (number : ℕ) → number < workers → (xs : List Packet) → All (IsOwn s number (shares number)) xs → All (IsBrought s workers (length traces)) xs
         All-weaken number named xs all = λ k d below. own_brought s workers (length traces) number (shares number) (shared number named) _ (all k d below)
 
     -- the packets of a trace are those of its worker
     trace_own : (trace : ℕ) → of_trace history trace ≡ of_trace (own history (trace % workers)) trace
-    trace_own trace = of_trace-own history trace (trace % workers)
-        (λ k d below same. (are_brought k d below).by_is ∙ ap (λ t. t % workers) same)
+    trace_own trace = of_trace-own history trace (trace % workers) (λ k d below same. (are_brought k d below).by_is ∙ ap (λ t. t % workers) same)
 
   pub part_gathered : ((number place trace : ℕ) (whole : List ℕ) → number < workers → slice_get (shares number) place ≡ Some trace → slice_get traces trace ≡ Some whole →
       (read : List ℕ) × (slice_get (reads number) place ≡ Some read) × BeginsWith whole read) → (1 ≤ workers) →
@@ -102,8 +99,7 @@ module _ (s : Numbers) (cone workers : ℕ) (traces : List (List ℕ)) (shares :
       named : (trace : ℕ) → trace % workers < workers
       named trace = omega (arith, some)
 
-      joined : (trace : ℕ) (keys : List ℕ) → slice_get traces trace ≡ Some keys → trace % workers < workers → BeginsWith (part_of s cone keys)
-          (events_of (of_trace history trace))
+      joined : (trace : ℕ) (keys : List ℕ) → slice_get traces trace ≡ Some keys → trace % workers < workers → BeginsWith (part_of s cone keys) (events_of (of_trace history trace))
       joined trace keys is below =
           let there = (shared (trace % workers) below).all trace (slice_get_within traces trace keys is) refl in
           let read = begun (trace % workers) there.0 trace keys below there.1 is in

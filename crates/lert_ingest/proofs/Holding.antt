@@ -29,8 +29,7 @@ use Rattle.lert_ingest.proofs.Gathering.{of_trace-own}
 
 module _ {B : Type 0} (files : B → Option Files) (leaves : B → Files → Type 0) (faults mark : B → ℕ) (s : Numbers) (workers : ℕ) (some : 1 ≤ workers) (number : ℕ)
     (traces : List (List ℕ)) (shares : ℕ → List ℕ) (reads : ℕ → List (List ℕ)) (stopped : ℕ → ℕ) (ends : ℕ → WorkerEnd)
-    (shared : (by : ℕ) → by < workers → IsShare workers (length traces) by (shares by))
-    (added : ℕ → List Packet) (turned : ℕ → List (Packet × ConeFault))
+    (shared : (by : ℕ) → by < workers → IsShare workers (length traces) by (shares by)) (added : ℕ → List Packet) (turned : ℕ → List (Packet × ConeFault))
     (left : (by : ℕ) → by < workers → LeftIn s by number (shares by) (reads by) (stopped by) (ends by) (added by) (turned by))
     (first closed : Standing B) (back : IsBack files leaves faults mark s workers number added turned first closed) where
   not_closed : closed.state ≡ Running → closed.listing.closed ≡ false
@@ -74,8 +73,7 @@ module _ {B : Type 0} (files : B → Option Files) (leaves : B → Files → Typ
         record {
           history = back.history;
           woven = woven_part;
-          sound = subst (λ n. IsSoundAs s n false back.history seen) back.number_is
-              (subst (λ (t : Numbers). IsSoundAs t closed.listing.cone false back.history seen) back.settings_is
+          sound = subst (λ n. IsSoundAs s n false back.history seen) back.number_is (subst (λ (t : Numbers). IsSoundAs t closed.listing.cone false back.history seen) back.settings_is
               (subst (λ b. IsSoundAs closed.listing.settings closed.listing.cone b back.history seen) (not_closed running) whole.files.kept.as_read));
           no_rest = no_rest;
         }
@@ -140,8 +138,7 @@ module _ {B : Type 0} (files : B → Option Files) (leaves : B → Files → Typ
   }
 
 -- a cone that weaves all keys takes them
-pub weaving_fits : {B : Type 0} (files : B → Option Files) (leaves : B → Files → Type 0) (faults : B → ℕ) (s : Numbers) (workers number : ℕ) (traces : List (List ℕ))
-    (cone : Standing B) →
+pub weaving_fits : {B : Type 0} (files : B → Option Files) (leaves : B → Files → Type 0) (faults : B → ℕ) (s : Numbers) (workers number : ℕ) (traces : List (List ℕ)) (cone : Standing B) →
     IsWeaving files leaves faults s workers traces number cone → part_length s number traces ≤ capacity s
 weaving_fits files leaves faults s workers number traces cone weaving =
     let count = woven_count s number workers traces weaving.history weaving.woven in

@@ -1,6 +1,6 @@
 -- What the fault shows that is answered, where a crew of workers stopped.
-use Rattle.std.proofs.Common.{◌≡◌, ◌≢◌, ◌⊎◌, ℕ, ◌+◌, ◌%◌, ◌<◌, ◌≤◌, List, [], ◌∷◌, ◌++◌, length}
-use Rattle.std.proofs.Common.{Option, Some, slice_get, refl, ap, sym, ◌∙◌, subst, inl, inr, arith}
+use Rattle.std.proofs.Common.{◌≡◌, ◌≢◌, ◌⊎◌, ℕ, ◌%◌, ◌<◌, ◌≤◌, List, [], ◌∷◌, ◌++◌, length}
+use Rattle.std.proofs.Common.{Some, slice_get, refl, ap, sym, ◌∙◌, subst, inl, inr, arith}
 use Rattle.std.proofs.lemmas.List.{length-map}
 use Rattle.std.specs.Prelude.{All, Contains}
 use Rattle.std.proofs.lemmas.List.Elements.{All-contains, Contains-push}
@@ -15,9 +15,8 @@ use Rattle.lert_cone.specs.declared.state.ConeState.{ConeState}
 use Rattle.lert_cone.specs.declared.state.ConeState.TheVariants as state
 use Rattle.lert_conelock.proofs.Contained.{item_here}
 use Rattle.lert_io.specs.Fault.{HasRisen, IsFaultless}
-use Rattle.lert_spec.specs.declared.numbers.Numbers.{Numbers}
 use Rattle.lert_spec.specs.Trace.{left}
-use Rattle.lert_trace.specs.Reader.{Means, Reading}
+use Rattle.lert_trace.specs.Reader.{Means}
 use Rattle.lert_trace.specs.declared.fault.TraceFault.{TraceFault}
 use Rattle.lert_trace.specs.declared.fault.TraceFault.TheVariants as trace_fault
 use Rattle.lert_worker.specs.Brings.{HasNoRest, IsOwn}
@@ -27,8 +26,7 @@ use Rattle.lert_worker.specs.declared.end.WorkerEnd.{WorkerEnd}
 use Rattle.lert_worker.specs.declared.end.WorkerEnd.TheVariants as end
 use Rattle.lert_ingest.specs.Back.{IsBack, IsFullAt}
 use Rattle.lert_ingest.specs.Bays.{AreLater, ArePartWoven, HoldsKeys, HoldsPart, IsLater, bays_of}
-use Rattle.lert_ingest.specs.Crews.{AreLeftBy, AreReadBy}
-use Rattle.lert_ingest.specs.Faults.{earlier, earliest, end_fault, fault_at, fault_of, full_fault, rank, state_fault}
+use Rattle.lert_ingest.specs.Faults.{earliest, end_fault, fault_at, fault_of, full_fault, rank, state_fault}
 use Rattle.lert_ingest.specs.Shares.{IsShare, LeftIn}
 use Rattle.lert_ingest.specs.Status.{stop_status}
 use Rattle.lert_ingest.specs.Stops.{AreOpenPartly, StopShows}
@@ -37,28 +35,27 @@ use Rattle.lert_ingest.specs.declared.status.Status.{Status}
 use Rattle.lert_ingest.specs.declared.status.Status.TheVariants as status
 use Rattle.lert_ingest.proofs.BayLaws.{bay_at, slice_get-some, untold_since}
 use Rattle.lert_ingest.proofs.Crew.{turned_part, was_turned}
+use Rattle.lert_ingest.proofs.Crewed.{Crewed, first_fault}
 use Rattle.lert_ingest.proofs.FaultOrder.{IsFirstOf, each_of, of_all, of_two}
 use Rattle.lert_ingest.proofs.Holding.{enough, holds_keys, holds_open, holds_part, no_rest_of}
 use Rattle.lert_ingest.proofs.Told.{all_begun, all_keys, are_keys}
 
-module _ {S B : Type 0} (remaining : S → Option (List ℕ)) (s_faults s_mark : S → ℕ) (files : B → Option Files) (leaves : B → Files → Type 0) (b_faults b_mark : B → ℕ)
-    (s : Numbers) (workers : ℕ) (some : 1 ≤ workers) (opened laters : List S) (shares : ℕ → List ℕ) (reads : ℕ → List (List ℕ)) (was readings : ℕ → List (Reading S))
-    (places stopped : ℕ → ℕ)
-    (ends : ℕ → WorkerEnd) (run : AreReadBy remaining s_faults s_mark workers opened laters shares reads was readings places stopped ends)
-    (firsts backs : List (Standing B)) (added : ℕ → ℕ → List Packet) (turned : ℕ → ℕ → List (Packet × ConeFault))
-    (left_by : AreLeftBy files leaves b_faults b_mark s workers firsts backs shares reads stopped ends added turned) where
+module _ {S B : Type 0} (crew : Crewed S B) where
+  open crew.read use {remaining, s_faults, s_mark, workers, some, opened, laters, shares, reads, was, readings, places, stopped, ends, run}
+  open crew use {files, leaves, b_faults, b_mark, s, firsts, backs, added, turned, left_by}
+
   abbrev pub traces : List (List ℕ)
-  traces = (all_keys remaining s_faults s_mark workers some opened laters shares reads was readings places stopped ends run).items
+  traces = (all_keys crew.read).items
 
   traces_number : length traces ≡ length opened
-  traces_number = (all_keys remaining s_faults s_mark workers some opened laters shares reads was readings places stopped ends run).number
+  traces_number = (all_keys crew.read).number
 
   pub shared : (by : ℕ) → by < workers → IsShare workers (length traces) by (shares by)
   shared by below = subst (λ n. IsShare workers n by (shares by)) (sym traces_number) (run.shared by below)
 
   pub begun : (by place trace : ℕ) (keys : List ℕ) → by < workers → slice_get (shares by) place ≡ Some trace → slice_get traces trace ≡ Some keys →
       (read : List ℕ) × (slice_get (reads by) place ≡ Some read) × BeginsWith keys read
-  begun = all_begun remaining s_faults s_mark workers some opened laters shares reads was readings places stopped ends run
+  begun = all_begun crew.read
 
   -- a cone that came back, by its place
   pub record IsCone (cone : ℕ) : Type 0 where
@@ -142,8 +139,14 @@ module _ {S B : Type 0} (remaining : S → Option (List ℕ)) (s_faults s_mark :
             (subst (λ (m : S). Means remaining s_faults m at.0.source at.0.limit at.0.given f) of.read_is.made_is why);
       }
 
+  abbrev OpenPartly : (ℕ → ℕ → Type 0) → Type 0
+  OpenPartly = AreOpenPartly remaining s_faults files b_faults s workers opened laters (bays_of firsts) (bays_of backs)
+
+  abbrev Shows : Status → Type 0
+  Shows = StopShows remaining s_faults files b_faults s workers opened laters (bays_of firsts) (bays_of backs)
+
   -- ---- the fault that is answered
-  module _ (one : Status) (found : earlier (earliest (λ by. end_fault (ends by)) workers) (earliest (fault_at backs) (length backs)) ≡ Some one) where
+  module _ (one : Status) (found : first_fault crew ≡ Some one) where
     pub of_ends : (by : ℕ) → by < workers → IsFirstOf one (end_fault (ends by))
     of_ends = each_of (λ by. end_fault (ends by)) workers one (of_two (earliest (λ by. end_fault (ends by)) workers) (earliest (fault_at backs) (length backs)) one found).1
 
@@ -180,10 +183,10 @@ module _ {S B : Type 0} (remaining : S → Option (List ℕ)) (s_faults s_mark :
 
     open_partly : (open_trace : ℕ → ℕ → Type 0)
         → ((cone trace : ℕ) → IsCone cone → open_trace cone trace → HasNoRest s trace (added cone (trace % workers))) →
-        AreOpenPartly remaining s_faults files b_faults s workers opened laters (bays_of firsts) (bays_of backs) open_trace
+        OpenPartly open_trace
     open_partly open_trace no_rest = record {
       traces = traces;
-      keys = are_keys remaining s_faults s_mark workers some opened laters shares reads was readings places stopped ends run;
+      keys = are_keys crew.read;
       woven = parts_woven;
       still = λ cone before now was_is is faultless seen told.
           let found = cone_of_bay cone now is in
@@ -196,38 +199,39 @@ module _ {S B : Type 0} (remaining : S → Option (List ℕ)) (s_faults s_mark :
           holds_open files leaves b_faults b_mark s workers some cone traces shares reads stopped ends shared (added cone) (turned cone) c.left c.first c.closed c.back begun running
           open_trace
           (λ trace opens. no_rest_of files leaves b_faults b_mark s workers some cone traces shares reads stopped ends shared (added cone) (turned cone) c.left c.first c.closed c.back
-          begun trace
-          (no_rest cone trace c opens)) seen seen_here;
+          begun trace (no_rest cone trace c opens)) seen seen_here;
     }
 
     module _ (by : ℕ) (below : by < workers) where
       -- no rest of the trace at which it stopped was handed out
-      none_at : (e : WorkerEnd) → ends by ≡ e → (e ≢ end.Ran) → (cone trace : ℕ) (c : IsCone cone) → StillOpen e cone → trace ≡ stopped by → HasNoRest s trace
-          (added cone (trace % workers))
+      none_at : (e : WorkerEnd) → ends by ≡ e → (e ≢ end.Ran) → (cone trace : ℕ) (c : IsCone cone) → StillOpen e cone → trace ≡ stopped by → HasNoRest s trace (added cone (trace % workers))
       none_at e is ran cone trace c opens same =
           let here = (c.left by below).no_rest (subst (λ (w : WorkerEnd). StillOpen w cone) (sym is) opens) in
           let by_is : (stopped by) % workers ≡ by = worker_of by (places by) (stopped by) below (stop_place by below e is ran) in
           subst (λ t. HasNoRest s t (added cone (t % workers))) (sym same) (subst (λ n. HasNoRest s (stopped by) (added cone n)) (sym by_is) here)
 
       by_fault : (trace : ℕ) (f : TraceFault) → ends by ≡ end.Trace trace f →
-          StopShows remaining s_faults files b_faults s workers opened laters (bays_of firsts) (bays_of backs) (stop_status trace f)
+          Shows (stop_status trace f)
       by_fault trace f is = shows f (trace_stop by below trace f is)
         where
           same : trace ≡ stopped by
           same = (subst (Stopped remaining (shares by) (was by) (readings by) (places by) (stopped by)) is (run.stop by below)).0
 
-          opens : AreOpenPartly remaining s_faults files b_faults s workers opened laters (bays_of firsts) (bays_of backs) (λ _ other. other ≡ trace)
+          opens : OpenPartly (λ _ other. other ≡ trace)
           opens = open_partly (λ _ other. other ≡ trace) (λ cone other c at. none_at (end.Trace trace f) is (λ e. absurd (let clash = e in cc)) cone other c tt (at ∙ same))
 
-          shows : (f : TraceFault) → IsStop trace f → StopShows remaining s_faults files b_faults s workers opened laters (bays_of firsts) (bays_of backs) (stop_status trace f)
-          shows trace_fault.ReadFailed stop = (record { before = stop.before; now = stop.now; was = stop.opened_is; is = stop.later_is; rose = stop.means }, opens)
-          shows (trace_fault.BadHeader at) stop = (record { before = stop.before; was = stop.opened_is; told = λ bytes told. (stop.means.1 bytes told).place }, opens)
-          shows (trace_fault.CutKey at) stop = (record { before = stop.before; was = stop.opened_is; told = λ bytes told. (stop.means.1 bytes told).place }, opens)
-          shows trace_fault.TooLong stop = (record { before = stop.before; was = stop.opened_is; told = stop.means.1 }, opens)
+          bad : {f : TraceFault} (at : ℕ) (stop : IsStop trace f) → ((bytes : List ℕ) → remaining stop.before ≡ Some bytes → left bytes ≡ Some at) → Shows (status.BadTrace trace at)
+          bad at stop told = StopShows.bad_trace trace at (record { before = stop.before; was = stop.opened_is; told = told }) opens
+
+          shows : (f : TraceFault) → IsStop trace f → Shows (stop_status trace f)
+          shows trace_fault.ReadFailed stop = StopShows.trace_fault trace (record { before = stop.before; now = stop.now; was = stop.opened_is; is = stop.later_is; rose = stop.means }) opens
+          shows (trace_fault.BadHeader at) stop = bad at stop (λ bytes told. (stop.means.1 bytes told).place)
+          shows (trace_fault.CutKey at) stop = bad at stop (λ bytes told. (stop.means.1 bytes told).place)
+          shows trace_fault.TooLong stop = StopShows.too_long trace (record { before = stop.before; was = stop.opened_is; told = stop.means.1 }) opens
 
       -- a cone that refused a packet over its capacity
       by_full : (cone n len : ℕ) → ends by ≡ end.Cone cone (fault.CapacityFull n len) → 6 ≤ rank one →
-          StopShows remaining s_faults files b_faults s workers opened laters (bays_of firsts) (bays_of backs) (status.CapacityFull cone n len)
+          Shows (status.CapacityFull cone n len)
       by_full cone n len is above = shows (c.back.refusals by below e.0 f has)
         where
           f : ConeFault
@@ -242,12 +246,11 @@ module _ {S B : Type 0} (remaining : S → Option (List ℕ)) (s_faults s_mark :
           has : Contains (turned cone by) (e.0, f)
           has = subst (λ (xs : List (Packet × ConeFault)). Contains xs (e.0, f)) (sym e.1) (item_here (e.0, f) [])
 
-          opens : AreOpenPartly remaining s_faults files b_faults s workers opened laters (bays_of firsts) (bays_of backs) (λ other t. (cone ≤ other) × (t ≡ stopped by))
-          opens = open_partly (λ other t. (cone ≤ other) × (t ≡ stopped by))
-              (λ other trace c at. none_at (end.Cone cone f) is (λ e. absurd (let clash = e in cc)) other trace c at.0 at.1)
+          opens : OpenPartly (λ other t. (cone ≤ other) × (t ≡ stopped by))
+          opens = open_partly (λ other t. (cone ≤ other) × (t ≡ stopped by)) (λ other trace c at. none_at (end.Cone cone f) is (λ e. absurd (let clash = e in cc)) other trace c at.0 at.1)
 
           shows : (c.closed.state ≢ state.Running) ⊎ IsFullAt s c.back.history e.0 f →
-              StopShows remaining s_faults files b_faults s workers opened laters (bays_of firsts) (bays_of backs) (status.CapacityFull cone n len)
+              Shows (status.CapacityFull cone n len)
           shows (inl stopped) = absurd (stopped (running_all above cone c))
           shows (inr full) =
               let same : (n ≡ length (events_of full.past)) × (len ≡ length e.0.keys) = full_same n len (length (events_of full.past)) (length e.0.keys) full.fault_is in
@@ -256,27 +259,19 @@ module _ {S B : Type 0} (remaining : S → Option (List ℕ)) (s_faults s_mark :
               let many = enough files leaves b_faults b_mark s workers some cone traces shares reads stopped ends shared (added cone) (turned cone) c.left c.first c.closed c.back begun by
               below e.0 f has full in
               let keys = holds_keys files leaves b_faults b_mark s workers some cone traces shares reads stopped ends shared (added cone) (turned cone) c.left c.first c.closed c.back begun
-              e.0 f full
-              (running_all above cone c) in
+              e.0 f full (running_all above cone c) in
               let first_one = own_e.some in
               let few = own_e.few in
-              let over = full.over in (
-                record {
-                  named = subst (λ k. cone < k) left_by.cones_are (left_by.named by cone f below is);
-                  some = omega (arith, first_one, same.1);
-                  few = omega (arith, few, same.1);
-                  over = omega (arith, over, same.0, same.1);
-                  journal = λ bay there seen told.
-                      let bay_is = same_Some c.closed.bay bay (sym (bay_at backs cone c.closed c.closed_is) ∙ there) in
-                      subst (λ k. HoldsKeys s k cone seen) (sym same.0) (keys seen (ap files bay_is ∙ told));
-                },
-                record {
-                  traces = traces;
-                  keys = are_keys remaining s_faults s_mark workers some opened laters shares reads was readings places stopped ends run;
-                  enough = omega (arith, many, same.0, same.1);
-                },
-                (stopped by, opens),
-              )
+              let over = full.over in
+              StopShows.capacity_full cone n len (record {
+                named = subst (λ k. cone < k) left_by.cones_are (left_by.named by cone f below is);
+                some = omega (arith, first_one, same.1);
+                few = omega (arith, few, same.1);
+                over = omega (arith, over, same.0, same.1);
+                journal = λ bay there seen told.
+                    let bay_is = same_Some c.closed.bay bay (sym (bay_at backs cone c.closed c.closed_is) ∙ there) in
+                    subst (λ k. HoldsKeys s k cone seen) (sym same.0) (keys seen (ap files bay_is ∙ told));
+              }) (record { traces = traces; keys = are_keys crew.read; enough = omega (arith, many, same.0, same.1) }) (stopped by) opens
             where
               full_same : (n len m more : ℕ) → fault.CapacityFull n len ≡ fault.CapacityFull m more → (n ≡ m) × (len ≡ more)
               full_same n len m more e = (let same : n ≡ m = cc in same, let same : len ≡ more = cc in same)
@@ -284,59 +279,52 @@ module _ {S B : Type 0} (remaining : S → Option (List ℕ)) (s_faults s_mark :
               last_own : (share : List ℕ) (xs : List Packet) (x : Packet) → All (IsOwn s by share) (xs ++ x ∷ []) → IsOwn s by share x
               last_own share xs x all = All-contains (IsOwn s by share) (xs ++ x ∷ []) x all (Contains-push xs x)
 
-      by_end : (e : WorkerEnd) → ends by ≡ e → end_fault e ≡ Some one → StopShows remaining s_faults files b_faults s workers opened laters (bays_of firsts) (bays_of backs) one
+      by_end : (e : WorkerEnd) → ends by ≡ e → end_fault e ≡ Some one → Shows one
       by_end end.Ran is none = absurd (none-some one none)
       by_end (end.Trace trace f) is same =
-          subst (StopShows remaining s_faults files b_faults s workers opened laters (bays_of firsts) (bays_of backs)) (same_Some (stop_status trace f) one same) (by_fault trace f is)
+          subst Shows (same_Some (stop_status trace f) one same) (by_fault trace f is)
       by_end (end.Cone cone f) is same = cone_end f is same
         where
-          cone_end : (f : ConeFault) → ends by ≡ end.Cone cone f → full_fault cone f ≡ Some one → StopShows remaining s_faults files b_faults s workers opened laters
-              (bays_of firsts) (bays_of backs) one
+          cone_end : (f : ConeFault) → ends by ≡ end.Cone cone f → full_fault cone f ≡ Some one → Shows one
           cone_end fault.Closed is none = absurd (none-some one none)
           cone_end fault.Broken is none = absurd (none-some one none)
           cone_end (fault.CapacityFull n len) is some =
               let which = same_Some (status.CapacityFull cone n len) one some in
-              subst (StopShows remaining s_faults files b_faults s workers opened laters (bays_of firsts) (bays_of backs)) which
-              (by_full cone n len is (subst (λ (x : Status). 6 ≤ rank x) which (omega arith)))
+              subst Shows which (by_full cone n len is (subst (λ (x : Status). 6 ≤ rank x) which (omega arith)))
           cone_end fault.BayFailed is none = absurd (none-some one none)
           cone_end (fault.Unsound file at) is none = absurd (none-some one none)
 
     -- a cone broke: which traces were still open isn't said
-    open_broken : AreOpenPartly remaining s_faults files b_faults s workers opened laters (bays_of firsts) (bays_of backs) (λ _ _. ⊥)
+    open_broken : OpenPartly (λ _ _. ⊥)
     open_broken = open_partly (λ _ _. ⊥) (λ cone trace c none. absurd none)
 
     by_state : (cone : ℕ) (c : IsCone cone) (st : ConeState) → c.closed.state ≡ st → state_fault cone st ≡ Some one →
-        StopShows remaining s_faults files b_faults s workers opened laters (bays_of firsts) (bays_of backs) one
+        Shows one
     by_state cone c state.Running is none = absurd (none-some one none)
     by_state cone c state.Finished is none = absurd (none-some one none)
     by_state cone c state.BrokenByBay is some =
-        subst (StopShows remaining s_faults files b_faults s workers opened laters (bays_of firsts) (bays_of backs)) (same_Some (status.BayFault cone) one some) (
-          record {
-            before = c.first.bay;
-            now = c.closed.bay;
-            was = bay_at firsts cone c.first c.first_is;
-            is = bay_at backs cone c.closed c.closed_is;
-            rose = subst (λ (m : B). HasRisen (b_faults m) (b_faults c.closed.bay)) c.back.made_is (c.back.stands.by_bay is);
-          },
-          open_broken,
-        )
+        subst Shows (same_Some (status.BayFault cone) one some) (StopShows.bay_fault cone (record {
+          before = c.first.bay;
+          now = c.closed.bay;
+          was = bay_at firsts cone c.first c.first_is;
+          is = bay_at backs cone c.closed c.closed_is;
+          rose = subst (λ (m : B). HasRisen (b_faults m) (b_faults c.closed.bay)) c.back.made_is (c.back.stands.by_bay is);
+        }) open_broken)
     by_state cone c (state.BrokenByRead file at) is some =
-        subst (StopShows remaining s_faults files b_faults s workers opened laters (bays_of firsts) (bays_of backs)) (same_Some (status.Malformed cone file at) one some) (
-          untold_since files b_faults b_mark (bays_of firsts) (bays_of backs) cone bays_later (record {
-            named = slice_get_within (bays_of backs) cone c.closed.bay (bay_at backs cone c.closed c.closed_is);
-            untold = λ bay there seen told.
-                let bay_is = same_Some c.closed.bay bay (sym (bay_at backs cone c.closed c.closed_is) ∙ there) in
-                none-some seen (sym (c.back.stands.by_read file at is c.back.sound) ∙ (ap files bay_is ∙ told));
-          }),
-          open_broken,
-        )
+        subst Shows (same_Some (status.Malformed cone file at) one some) (StopShows.malformed cone file at
+        (untold_since files b_faults b_mark (bays_of firsts) (bays_of backs) cone bays_later (record {
+          named = slice_get_within (bays_of backs) cone c.closed.bay (bay_at backs cone c.closed c.closed_is);
+          untold = λ bay there seen told.
+              let bay_is = same_Some c.closed.bay bay (sym (bay_at backs cone c.closed c.closed_is) ∙ there) in
+              none-some seen (sym (c.back.stands.by_read file at is c.back.sound) ∙ (ap files bay_is ∙ told));
+        })) open_broken)
 
     -- all that the answer shows
-    pub stop_shows : StopShows remaining s_faults files b_faults s workers opened laters (bays_of firsts) (bays_of backs) one
+    pub stop_shows : Shows one
     stop_shows = by_origin (of_two (earliest (λ by. end_fault (ends by)) workers) (earliest (fault_at backs) (length backs)) one found).0
       where
         by_origin : (earliest (λ by. end_fault (ends by)) workers ≡ Some one) ⊎ (earliest (fault_at backs) (length backs) ≡ Some one) →
-            StopShows remaining s_faults files b_faults s workers opened laters (bays_of firsts) (bays_of backs) one
+            Shows one
         by_origin (inl of_end) = let first = of_all (λ by. end_fault (ends by)) workers one of_end in by_end first.place first.below (ends first.place) refl first.is
         by_origin (inr of_state) =
             let first = of_all (fault_at backs) (length backs) one of_state in

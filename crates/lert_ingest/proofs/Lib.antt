@@ -7,6 +7,7 @@ pub mod Ended
 pub mod Holding
 pub mod FaultOrder
 pub mod PartLaws
+pub mod Crewed
 pub mod Told
 pub mod Judging
 pub mod Exactly

@@ -166,8 +166,7 @@ module _ {H : Type 0} where
             pub still_shows : (brought : Brought) (turned : Turned) (lo : ℕ) → Shows brought turned lo pass.hi pass × AllShow brought turned top all →
                 Shows brought turned lo new.hi new × AllShow brought turned top rest
             still_shows brought turned lo shows = (
-              subst (λ n. Shows brought turned lo n new) (sym new_hi)
-                  (shows_join fleet brought turned lo pass.hi (pass.hi + 1) pass other new joins is_behind.belongs is_behind.lo_is shows.0
+              subst (λ n. Shows brought turned lo n new) (sym new_hi) (shows_join fleet brought turned lo pass.hi (pass.hi + 1) pass other new joins is_behind.belongs is_behind.lo_is shows.0
                   (subst (Shows brought turned pass.hi (pass.hi + 1)) (sym other_is) (shows.1 (length rest) pass.hi worker last_is (let n = longer in omega (arith, n, total))))),
               λ place number found is at. shows.1 place number found (still_is place found is) at,
             )

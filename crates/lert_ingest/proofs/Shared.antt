@@ -189,8 +189,7 @@ module _ {S H : Type 0} where
         subst (λ (o : Working S H). (r : Reading S) × (o.traces ≡ trace ∷ new.traces) × (o.readers ≡ r ∷ new.readers) × (source ≡ r.source)
         × (new ≡ record o { traces = new.traces; readers = new.readers })) old_is
         (subst (λ (n : Working S H). (r : Reading S) × (one.traces ≡ trace ∷ n.traces) × (one.readers ≡ r ∷ n.readers) × (source ≡ r.source)
-        × (n ≡ record one { traces = n.traces; readers = n.readers })) new_is
-        (reader, first_is, back.readers_are, from, back.others_are));
+        × (n ≡ record one { traces = n.traces; readers = n.readers })) new_is (reader, first_is, back.readers_are, from, back.others_are));
     others = λ by apart. slice_get-set_other crew (trace % length crew) by other apart;
   }
     where
@@ -230,8 +229,7 @@ module _ {S H : Type 0} where
     sources_are = λ by place trace old reader was there reader_is less. absurd (omega (arith, less));
   }
 
-  module _ (count : ℕ) (olds mids : List (Working S H)) (sources : List S) (shared : AreShared count olds) (trace : ℕ) (below : trace < count)
-      (part : ArePartTaken trace olds mids sources)
+  module _ (count : ℕ) (olds mids : List (Working S H)) (sources : List S) (shared : AreShared count olds) (trace : ℕ) (below : trace < count) (part : ArePartTaken trace olds mids sources)
       (some : 1 ≤ length olds) where
     by_of : ℕ
     by_of = trace % length olds

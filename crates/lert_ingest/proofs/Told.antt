@@ -1,5 +1,5 @@
 -- The keys of all traces, by what was read of each.
-use Rattle.std.proofs.Common.{◌≡◌, ℕ, ◌+◌, ◌%◌, ◌<◌, ◌≤◌, zero, suc, List, [], ◌∷◌, ◌++◌, length, take, drop, Option, Some}
+use Rattle.std.proofs.Common.{◌≡◌, ℕ, ◌%◌, ◌<◌, zero, suc, List, [], ◌∷◌, ◌++◌, length, take, drop, Option, Some}
 use Rattle.std.proofs.Common.{None, slice_get, refl, ap, sym, ◌∙◌, subst, inl, inr, arith}
 use Rattle.std.proofs.Common.{append-nil, length-append}
 use Rattle.std.proofs.lemmas.Bool.{cases_lt}
@@ -10,8 +10,8 @@ use Rattle.lert_io.specs.Reading.{IfTold}
 use Rattle.lert_spec.specs.Trace.{whole}
 use Rattle.lert_trace.specs.Reader.{Reading}
 use Rattle.lert_worker.specs.Ends.{IsAtEnd, WasRead}
-use Rattle.lert_worker.specs.declared.end.WorkerEnd.{WorkerEnd}
-use Rattle.lert_ingest.specs.Crews.{AreReadBy, IsReadOf, fresh_reader}
+use Rattle.lert_ingest.proofs.Crewed.{ReadCrew}
+use Rattle.lert_ingest.specs.Crews.{IsReadOf, fresh_reader}
 use Rattle.lert_ingest.specs.Traces.{AreKeysOf}
 use Rattle.lert_ingest.proofs.BayLaws.{slice_get-first, slice_get-seam}
 
@@ -59,10 +59,9 @@ module _ {S : Type 0} (remaining : S → Option (List ℕ)) (faults mark : S →
       let all = trace.all_given in
       was.told bytes told ∙ take_all (length read) (whole bytes) (omega (arith, given, all))
 
-module _ {S : Type 0} (remaining : S → Option (List ℕ)) (faults mark : S → ℕ) (workers : ℕ) (some : 1 ≤ workers) (opened laters : List S) (shares : ℕ → List ℕ)
-    (reads : ℕ → List (List ℕ))
-    (was readings : ℕ → List (Reading S)) (places stopped : ℕ → ℕ) (ends : ℕ → WorkerEnd)
-    (run : AreReadBy remaining faults mark workers opened laters shares reads was readings places stopped ends) where
+module _ {S : Type 0} (crew : ReadCrew S) where
+  open crew use {remaining, s_faults, s_mark, workers, some, opened, laters, shares, reads, was, readings, places, stopped, ends, run}
+
   -- the keys of a trace, read to their end or not
   pub record IsKeysAt (trace : ℕ) (keys : List ℕ) : Type 0 where
     pub told : (before : S) → slice_get opened trace ≡ Some before → IfTold (remaining before) (λ bytes. keys ≡ whole bytes)
@@ -95,10 +94,10 @@ module _ {S : Type 0} (remaining : S → Option (List ℕ)) (faults mark : S →
   keys_at trace below = by_case (remaining of.before) refl
     where
       at : (now : Reading S) × (read : List ℕ) × (slice_get (readings (trace % workers)) (there_is trace below).0 ≡ Some now)
-          × (slice_get (reads (trace % workers)) (there_is trace below).0 ≡ Some read) × IsReadOf remaining faults mark opened laters trace now read
+          × (slice_get (reads (trace % workers)) (there_is trace below).0 ≡ Some read) × IsReadOf remaining s_faults s_mark opened laters trace now read
       at = run.each (trace % workers) (there_is trace below).0 trace (named trace) (there_is trace below).1
 
-      of : IsReadOf remaining faults mark opened laters trace at.0 at.1
+      of : IsReadOf remaining s_faults s_mark opened laters trace at.0 at.1
       of = at.4
 
       by_case : (told : Option (List ℕ)) → remaining of.before ≡ told → (keys : List ℕ) × IsKeysAt trace keys
@@ -116,7 +115,7 @@ module _ {S : Type 0} (remaining : S → Option (List ℕ)) (faults mark : S →
           told = λ before there others told'.
               ap whole (same_Some bytes others (sym told ∙ (ap remaining (same_Some of.before before (sym of.was ∙ there)) ∙ told')));
           begun = only_there trace below (λ by place. (read : List ℕ) × (slice_get (reads by) place ≡ Some read) × BeginsWith (whole bytes) read)
-              (at.1, at.3, read_begins remaining faults mark of.before at.0 at.1 bytes of.read_is told);
+              (at.1, at.3, read_begins remaining s_faults s_mark of.before at.0 at.1 bytes of.read_is told);
           untold = λ before there untold. absurd (none-some bytes (sym untold ∙ (ap remaining (same_Some before of.before (sym there ∙ of.was)) ∙ told)));
         },
       )
@@ -138,15 +137,15 @@ module _ {S : Type 0} (remaining : S → Option (List ℕ)) (faults mark : S →
       place ≡ Some keys
   all_whole at_ends by place trace keys below there is = by_case (remaining of.before) refl
     where
-      at : (now : Reading S) × (read : List ℕ) × (slice_get (readings by) place ≡ Some now) × (slice_get (reads by) place ≡ Some read) × IsReadOf remaining faults mark opened
+      at : (now : Reading S) × (read : List ℕ) × (slice_get (readings by) place ≡ Some now) × (slice_get (reads by) place ≡ Some read) × IsReadOf remaining s_faults s_mark opened
           laters trace now read
       at = run.each by place trace below there
 
-      of : IsReadOf remaining faults mark opened laters trace at.0 at.1
+      of : IsReadOf remaining s_faults s_mark opened laters trace at.0 at.1
       of = at.4
 
       by_case : (told : Option (List ℕ)) → remaining of.before ≡ told → slice_get (reads by) place ≡ Some keys
       by_case None none = (all_keys.each trace keys is).untold of.before of.was none by place below there
       by_case (Some bytes) told =
-          at.3 ∙ ap Some (read_whole remaining faults mark of.before at.0 at.1 bytes of.read_is told (at_ends by place at.0 below at.2) ∙ sym
+          at.3 ∙ ap Some (read_whole remaining s_faults s_mark of.before at.0 at.1 bytes of.read_is told (at_ends by place at.0 below at.2) ∙ sym
           ((all_keys.each trace keys is).told of.before of.was bytes told))

@@ -16,25 +16,17 @@ use Rattle.lert_worker.specs.declared.end.WorkerEnd.TheVariants as end
 
 -- the place of a status in the order in which faults are answered
 abbrev pub rank : Status → ℕ
-rank status.Done = 7
-rank (status.Usage rule) = 7
-rank status.PlaceFault = 7
+rank status.OutOfMemory = 0
 rank (status.TraceFault trace) = 1
 rank (status.BadTrace trace at) = 2
 rank (status.TooLong trace) = 3
-rank (status.NotFresh cone) = 7
 rank (status.BayFault cone) = 4
-rank (status.CapacityFull cone n len) = 6
 rank (status.Malformed cone file at) = 5
-rank (status.OtherSettings cone) = 7
-rank status.OutFault = 7
-rank status.OutOfMemory = 0
+rank (status.CapacityFull cone n len) = 6
+rank other = 7
 
 -- the trace or the cone of a status
 abbrev pub number_in : Status → ℕ
-number_in status.Done = 0
-number_in (status.Usage rule) = 0
-number_in status.PlaceFault = 0
 number_in (status.TraceFault trace) = trace
 number_in (status.BadTrace trace at) = trace
 number_in (status.TooLong trace) = trace
@@ -43,8 +35,7 @@ number_in (status.BayFault cone) = cone
 number_in (status.CapacityFull cone n len) = cone
 number_in (status.Malformed cone file at) = cone
 number_in (status.OtherSettings cone) = cone
-number_in status.OutFault = 0
-number_in status.OutOfMemory = 0
+number_in other = 0
 
 -- of two statuses the first one is answered first
 abbrev pub goes_before : Status → Status → Bool

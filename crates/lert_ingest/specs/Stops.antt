@@ -11,9 +11,7 @@ use Rattle.lert_spec.specs.Trace.{left, whole}
 use Rattle.lert_ingest.specs.Bays.{AreFaultless, AreOpenWoven, ArePartWoven, AreTold, HasFailed, HoldsKeys, IfHeld, IsUntold}
 use Rattle.lert_ingest.specs.Traces.{AllFit, AreBytesOf, AreKeysOf, AreReadToEnd, AreTracesFaultless, HasThem, HasTraceFailed, IsOpened, IsOver, most_keys}
 use Rattle.lert_ingest.specs.declared.status.Status.{Status}
-use Rattle.lert_ingest.specs.declared.status.Status.TheVariants.{Done, Usage, PlaceFault, TraceFault, BadTrace, TooLong, NotFresh, BayFault, CapacityFull, Malformed, OtherSettings}
-use Rattle.lert_ingest.specs.declared.status.Status.TheVariants.{OutFault}
-use Rattle.lert_ingest.specs.declared.status.Status.TheVariants.{OutOfMemory}
+use Rattle.lert_ingest.specs.declared.status.Status.TheVariants.{TraceFault, BadTrace, TooLong, BayFault, CapacityFull, Malformed, OutOfMemory}
 
 -- a cone of a number may still take packets, and stands for a weave of its part of the keys of all traces, over files that were
 -- sound as it was made
@@ -68,43 +66,36 @@ module _ {S B : Type 0} (remaining : S → Option (List ℕ)) (faults : S → �
     pub keys : AreKeysOf remaining opened traces
     pub enough : HasThem s traces cone n len
 
-  -- nothing was read, and no file was changed
-  abbrev pub IsUntouched : Type 0
-  IsUntouched = (now ≡ opened) × (later ≡ bays)
+  -- why traces weren't all read into cones, by the traces and the bays as they were and as they are: a row for each status that can come
+  pub data StopShows : Status → Type 0 where
+    trace_fault : (trace : ℕ) → HasTraceFailed faults opened now trace → AreOpenPartly (λ _ other. other ≡ trace) → StopShows (TraceFault trace)
+    bad_trace : (trace at : ℕ) → IsOpened remaining opened trace (λ bytes. left bytes ≡ Some at) → AreOpenPartly (λ _ other. other ≡ trace) → StopShows (BadTrace trace at)
+    too_long : (trace : ℕ) → IsOpened remaining opened trace (λ bytes. most_keys < length (whole bytes)) → AreOpenPartly (λ _ other. other ≡ trace) → StopShows (TooLong trace)
+    -- where a cone broke it isn't said which traces were still open
+    bay_fault : (cone : ℕ) → HasFailed bay_faults bays later cone → AreOpenPartly (λ _ _. ⊥) → StopShows (BayFault cone)
+    malformed : (cone file at : ℕ) → IsUntold files bays cone → AreOpenPartly (λ _ _. ⊥) → StopShows (Malformed cone file at)
+    -- the trace whose packet was refused has no rest in the cone, nor in those above it
+    capacity_full : (cone n len : ℕ) → IsFull files s later cone n len → AreEnough cone n len →
+        (trace : ℕ) → AreOpenPartly (λ other t. (cone ≤ other) × (t ≡ trace)) → StopShows (CapacityFull cone n len)
+    -- memory is wanted before the first key is read alone: nothing was read, and no file was changed
+    out_of_memory : now ≡ opened → later ≡ bays → StopShows OutOfMemory
 
-  -- why traces weren't all read into cones, by the traces and the bays as they were and as they are
-  abbrev pub StopShows : Status → Type 0
-  StopShows Done = ⊥
-  StopShows (Usage rule) = ⊥
-  StopShows PlaceFault = ⊥
-  StopShows (TraceFault trace) = HasTraceFailed faults opened now trace × AreOpenPartly (λ _ other. other ≡ trace)
-  StopShows (BadTrace trace at) = IsOpened remaining opened trace (λ bytes. left bytes ≡ Some at) × AreOpenPartly (λ _ other. other ≡ trace)
-  StopShows (TooLong trace) = IsOpened remaining opened trace (λ bytes. most_keys < length (whole bytes)) × AreOpenPartly (λ _ other. other ≡ trace)
-  StopShows (NotFresh cone) = ⊥
-  -- where a cone broke it isn't said which traces were still open
-  StopShows (BayFault cone) = HasFailed bay_faults bays later cone × AreOpenPartly (λ _ _. ⊥)
-  -- the trace whose packet was refused has no rest in the cone, nor in those above it
-  StopShows (CapacityFull cone n len) = IsFull files s later cone n len × AreEnough cone n len
-      × ((trace : ℕ) × AreOpenPartly (λ other t. (cone ≤ other) × (t ≡ trace)))
-  StopShows (Malformed cone file at) = IsUntold files bays cone × AreOpenPartly (λ _ _. ⊥)
-  StopShows (OtherSettings cone) = ⊥
-  StopShows OutFault = ⊥
-  -- memory is wanted before the first key is read alone
-  StopShows OutOfMemory = IsUntouched
+  -- all traces and bays tell, these are the bytes of the traces, none has more keys than are read, and no fault was counted
+  pub record AreTelling (texts : List (List ℕ)) : Type 0 where
+    pub told : AreTold files bays
+    pub faultless : AreFaultless bay_faults bays later
+    pub traces_faultless : AreTracesFaultless faults opened now
+    pub bytes_are : AreBytesOf remaining opened texts
+    pub few : All (λ bytes. length (whole bytes) ≤ most_keys) texts
 
-  -- Which outcome comes where all traces and bays tell and no fault was counted: over traces within the limit that the cones take,
-  -- the first that leaves the format stops the workers, with the place at which it does, and else all is read; and over well-formed
-  -- ones of which some cone has more keys than it takes, a full cone does. Want of memory may come in the place of each
+  -- Which outcome comes then: where the cones take all whole keys, the first trace that leaves the format stops the workers, with the
+  -- place at which it does, and else all is read; and over well-formed traces of which some cone has more keys than it takes, a full
+  -- cone does. Want of memory may come in the place of each
   pub record IsExact (ok : Type 0) (fails : Status → Type 0) : Type 0 where
-    pub bad : AreTold files bays → AreFaultless bay_faults bays later → AreTracesFaultless faults opened now →
-        (texts : List (List ℕ)) → AreBytesOf remaining opened texts → All (λ bytes. length (whole bytes) ≤ most_keys) texts → AllFit s (map whole texts) →
+    pub bad : (texts : List (List ℕ)) → AreTelling texts → AllFit s (map whole texts) →
         (trace at : ℕ) (bytes : List ℕ) → slice_get texts trace ≡ Some bytes → left bytes ≡ Some at →
         ((other : ℕ) (lower : List ℕ) → other < trace → slice_get texts other ≡ Some lower → left lower ≡ None) →
         fails (BadTrace trace at) ⊎ fails OutOfMemory
-    pub full : AreTold files bays → AreFaultless bay_faults bays later → AreTracesFaultless faults opened now →
-        (texts : List (List ℕ)) → AreBytesOf remaining opened texts → All (λ bytes. left bytes ≡ None) texts → All (λ bytes. length (whole bytes) ≤ most_keys) texts →
-        (over : ℕ) → over < 2 ^ s.cone_bits → IsOver s (map whole texts) over →
+    pub full : (texts : List (List ℕ)) → AreTelling texts → All (λ bytes. left bytes ≡ None) texts → (over : ℕ) → over < 2 ^ s.cone_bits → IsOver s (map whole texts) over →
         ((cone n len : ℕ) × fails (CapacityFull cone n len)) ⊎ fails OutOfMemory
-    pub complete : AreTold files bays → AreFaultless bay_faults bays later → AreTracesFaultless faults opened now →
-        (texts : List (List ℕ)) → AreBytesOf remaining opened texts → All (λ bytes. left bytes ≡ None) texts → All (λ bytes. length (whole bytes) ≤ most_keys) texts →
-        AllFit s (map whole texts) → ok ⊎ fails OutOfMemory
+    pub complete : (texts : List (List ℕ)) → AreTelling texts → All (λ bytes. left bytes ≡ None) texts → AllFit s (map whole texts) → ok ⊎ fails OutOfMemory

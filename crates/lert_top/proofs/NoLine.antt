@@ -12,7 +12,7 @@ use Rattle.lert_top.proofs.recovery.JournalLaws.{journals_same}
 use Rattle.lert_top.proofs.recovery.RecoverEnding.{has_recovered}
 use Rattle.lert_top.proofs.recovery.SoundLaws.{sound_same}
 use Rattle.lert_top.specs.recovery.Moments.{AreReturnedSpared}
-use Rattle.lert_top.specs.recovery.Recovered.{HasRecovered}
+use Rattle.lert_top.specs.recovery.Recovered.{HasRecovered, unopened, unopened_memory}
 use Rattle.lert_top.specs.runs.Ran.{HasPutBack}
 use Rattle.lert_spec.specs.declared.numbers.Numbers.{Numbers}
 
@@ -39,7 +39,7 @@ module _ {B : Type 0} (handed : List B) (none : handed ≡ []) where
         HasRecovered taken sink_faults files faults s out out handed [] OutOfMemory
     recovered_none taken sink_faults s out =
         subst (λ (bays : List B). HasRecovered taken sink_faults files faults s out out bays [] OutOfMemory) (sym none)
-        (has_recovered taken sink_faults files faults s out out [] [] OutOfMemory (refl, refl)
+        (has_recovered taken sink_faults files faults s out out [] [] OutOfMemory (unopened (unopened_memory refl) refl)
         (λ other. absurd (other refl)) (journals_same files []) (sound_same files s []))
 
     pub put_back_none : {S : Type 0} (trace_faults trace_mark : S → ℕ) (traces : List S) → traces ≡ [] →

@@ -1,4 +1,3 @@
 pub mod DoneLaws
 pub mod Ending
 pub mod RunLaws
-pub mod UnmadeLaws

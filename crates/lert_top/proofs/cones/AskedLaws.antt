@@ -101,6 +101,5 @@ traces_returned faults mark traces later handed returned same are marked back = 
 pub asked_along : (dir dir' : List ℕ) (cones : ℕ) (before before' asked asked' : List Opening) (status : Status) → dir ≡ dir' → before ≡ before' → asked ≡ asked' →
     IsAskedForBays dir cones before asked status → IsAskedForBays dir' cones before' asked' status
 asked_along dir dir' cones before before' asked asked' status one two three_is are =
-    subst (λ d. IsAskedForBays d cones before' asked' status) one
-    (subst (λ b. IsAskedForBays dir cones b asked' status) two
+    subst (λ d. IsAskedForBays d cones before' asked' status) one (subst (λ b. IsAskedForBays dir cones b asked' status) two
     (subst (λ a. IsAskedForBays dir cones before a status) three_is are))

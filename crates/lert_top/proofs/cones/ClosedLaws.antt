@@ -65,8 +65,7 @@ module _ {B : Type 0} (files : B → Option Files) (leaves : B → Files → Typ
       let now = slice_get-some new cone (omega (arith, slice_get_within (bays_of new) cone bay there, length-map new (λ (c : Standing B). c.bay))) in
       let before = slice_get-some old cone (omega (arith, slice_get_within new cone now.0 now.1, are.number_is)) in
       let finished = are.below cone before.0 now.0 (slice_get_within old cone before.0 before.1) before.1 now.1 in
-      subst (λ x. IsClosedInEach files leaves s cone x) (sym (bay_is new cone now.0 bay now.1 there))
-      (finished_one cone before.0 now.0 (weaving cone before.0 before.1) finished)
+      subst (λ x. IsClosedInEach files leaves s cone x) (sym (bay_is new cone now.0 bay now.1 there)) (finished_one cone before.0 now.0 (weaving cone before.0 before.1) finished)
 
 -- ---- bays that are put back
 

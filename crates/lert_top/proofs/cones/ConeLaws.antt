@@ -13,11 +13,9 @@ use Rattle.lert_io.specs.Fault.{HasRisen}
 use Rattle.lert_spec.specs.declared.numbers.Numbers.{Numbers}
 use Rattle.lert_ingest.specs.Bays.{AreFresh, AreKept, AreLater, AreUnused, AreUnusedBut, IsLater, IsUnused, bays_of}
 use Rattle.lert_ingest.specs.Cones.{IsNew}
-use Rattle.lert_top.specs.cones.Unmade.{IsUnmade}
+use Rattle.lert_top.specs.cones.Unmade.{IsUnmade, unmade_stale, unmade_failed, unmade_memory}
 use Rattle.lert_ingest.specs.Status.{create_status}
 use Rattle.lert_ingest.specs.declared.status.Status.{Status}
-use Rattle.lert_ingest.specs.declared.status.Status.TheVariants.{Done, Usage, PlaceFault, TraceFault, BadTrace, TooLong, NotFresh, BayFault, CapacityFull, Malformed, OtherSettings, OutFault}
-use Rattle.lert_ingest.specs.declared.status.Status.TheVariants.{OutOfMemory}
 use Rattle.lert_ingest.proofs.BayLaws.{are_more, bays_of-push, failed_since, later_seam, slice_get-first, slice_get-seam, slice_get-some}
 use Rattle.lert_ingest.proofs.EachLaws.{but_more, each_seam, kept_more, kept_refused, kept_unused, new_unused, unused_all, unused_more}
 
@@ -98,72 +96,43 @@ module _ {B : Type 0} (files : B → Option Files) (faults mark : B → ℕ) whe
       pub unmade_by : (back : B) (fault : CreateFault) → AreFresh files bays → Turns FramesStay (files bay) (files back) →
           IfTold (files bay) (λ seen. fault ≡ create_fault.NotFresh → AreEmpty seen → ⊥) → (fault ≡ create_fault.Failed → HasRisen (faults bay) (faults back)) →
           IsUnmade files faults s bays (bays_of cones ++ back ∷ rest) (create_status (length cones) fault)
-      unmade_by back create_fault.Failed fresh turns stale failed = (
-        record {
-          before = bay;
-          now = back;
-          was = bay_there;
-          is = back_there back;
-          rose = failed refl;
-        },
-        inr (record {
-          fresh = fresh;
-          frames = λ before now was is.
-              subst (λ x. Turns FramesStay (files x) (files now)) (same_Some bay before (sym bay_there ∙ was))
-              (subst (λ y. Turns FramesStay (files bay) (files y)) (same_Some back now (sym (back_there back) ∙ is)) turns);
-          others = back_unused (λ other. other ≡ length cones) back (λ not. absurd (not refl));
-        }),
-      )
+      unmade_by back create_fault.Failed fresh turns stale failed =
+          unmade_failed (length cones) (record { before = bay; now = back; was = bay_there; is = back_there back; rose = failed refl }) (inr (record {
+            fresh = fresh;
+            frames = λ before now was is.
+                subst (λ x. Turns FramesStay (files x) (files now)) (same_Some bay before (sym bay_there ∙ was))
+                (subst (λ y. Turns FramesStay (files bay) (files y)) (same_Some back now (sym (back_there back) ∙ is)) turns);
+            others = back_unused (λ other. other ≡ length cones) back (λ not. absurd (not refl));
+          }))
       unmade_by back create_fault.NotFresh fresh turns stale failed =
-          let untold : IfTold (files bay) (λ _. ⊥) = λ seen told. stale seen told refl (fresh (length cones) bay bay_there seen told) in (
-            record {
-              named = slice_get_within bays (length cones) bay bay_there;
-              not_empty = λ other there seen told empty. untold seen (ap files (same_Some bay other (sym bay_there ∙ there)) ∙ told);
-              lower = λ other below. fresh other;
-            },
-            (λ other there seen told. absurd (untold seen (ap files (same_Some bay other (sym bay_there ∙ there)) ∙ told))),
-            unused_all files s (λ _. ⊥) bays (bays_of cones ++ back ∷ rest) (λ k none. none) (back_unused (λ _. ⊥) back (λ not. inl (kept_refused files bay back turns untold))),
-          )
+          let untold : IfTold (files bay) (λ _. ⊥) = λ seen told. stale seen told refl (fresh (length cones) bay bay_there seen told) in
+          unmade_stale (length cones) (record {
+            named = slice_get_within bays (length cones) bay bay_there;
+            not_empty = λ other there seen told empty. untold seen (ap files (same_Some bay other (sym bay_there ∙ there)) ∙ told);
+            lower = λ other below. fresh other;
+          }) (λ other there seen told. absurd (untold seen (ap files (same_Some bay other (sym bay_there ∙ there)) ∙ told)))
+          (unused_all files s (λ _. ⊥) bays (bays_of cones ++ back ∷ rest) (λ k none. none) (back_unused (λ _. ⊥) back (λ not. inl (kept_refused files bay back turns untold))))
 
   -- why cones weren't made over bays says it of these bays earlier, which had the same files, and no byte in them as far as they tell
   pub unmade_since : (s : Numbers) (first then now : List B) → AreLater files faults mark first then → AreLater files faults mark then now → AreKept files first then →
       AreFresh files first → AreFresh files then → (status : Status) → IsUnmade files faults s then now status → IsUnmade files faults s first now status
-  unmade_since s first then now one two kept fresh fresh_then Done unmade = absurd unmade
-  unmade_since s first then now one two kept fresh fresh_then (Usage rule) unmade = absurd unmade
-  unmade_since s first then now one two kept fresh fresh_then PlaceFault unmade = absurd unmade
-  unmade_since s first then now one two kept fresh fresh_then (TraceFault trace) unmade = absurd unmade
-  unmade_since s first then now one two kept fresh fresh_then (BadTrace trace at) unmade = absurd unmade
-  unmade_since s first then now one two kept fresh fresh_then (TooLong trace) unmade = absurd unmade
-  unmade_since s first then now one two kept fresh fresh_then (NotFresh cone) unmade =
-      let stale = unmade.0 in
+  unmade_since s first then now one two kept fresh fresh_then status (unmade_stale cone stale same unused) =
       let clash : (bay : B) (seen : Files) → slice_get first cone ≡ Some bay → files bay ≡ Some seen → ⊥ = λ bay seen there told.
       let mid = slice_get-get_or then cone bay stale.named in
       let told_mid = kept cone bay (get_or then cone bay) there mid ∙ told in
-      stale.not_empty (get_or then cone bay) mid seen told_mid (fresh_then cone (get_or then cone bay) mid seen told_mid) in (
-        record {
-          named = omega (arith, stale.named, one.number);
-          not_empty = λ bay there seen told empty. clash bay seen there told;
-          lower = λ other below. fresh other;
-        },
-        (λ bay there seen told. absurd (clash bay seen there told)),
-        unused_more files s first then now two.number (kept_unused files s first then kept) unmade.2,
-      )
-  unmade_since s first then now one two kept fresh fresh_then (BayFault cone) unmade = (
-    failed_since files faults mark first then now cone one two unmade.0,
-    elim unmade.1 [
-      | inl unasked ↦ inl (record { below = λ other below. fresh other; kept = kept_more files first then now two.number kept unasked.kept })
-      | inr unheaded ↦ inr (record {
-        fresh = fresh;
-        frames = λ before after was is.
-            let mid = slice_get-some then cone (omega (arith, slice_get_within now cone after is, two.number)) in
-            subst (λ f. Turns FramesStay f (files after)) (kept cone before mid.0 was mid.1) (unheaded.frames mid.0 after mid.1 is);
-        others = but_more files s (λ other. other ≡ cone) first then now two.number (kept_unused files s first then kept) unheaded.others;
-      })
-    ],
-  )
-  unmade_since s first then now one two kept fresh fresh_then (CapacityFull cone n len) unmade = absurd unmade
-  unmade_since s first then now one two kept fresh fresh_then (Malformed cone file at) unmade = absurd unmade
-  unmade_since s first then now one two kept fresh fresh_then (OtherSettings cone) unmade = absurd unmade
-  unmade_since s first then now one two kept fresh fresh_then OutFault unmade = absurd unmade
-  unmade_since s first then now one two kept fresh fresh_then OutOfMemory unmade =
-      unused_more files s first then now two.number (kept_unused files s first then kept) unmade
+      stale.not_empty (get_or then cone bay) mid seen told_mid (fresh_then cone (get_or then cone bay) mid seen told_mid) in
+      unmade_stale cone (record { named = omega (arith, stale.named, one.number); not_empty = λ bay there seen told empty. clash bay seen there told; lower = λ other below. fresh other })
+      (λ bay there seen told. absurd (clash bay seen there told)) (unused_more files s first then now two.number (kept_unused files s first then kept) unused)
+  unmade_since s first then now one two kept fresh fresh_then status (unmade_failed cone risen early) = unmade_failed cone (failed_since files faults mark first then now cone one two risen)
+      (elim early [
+        | inl unasked ↦ inl (record { below = λ other below. fresh other; kept = kept_more files first then now two.number kept unasked.kept })
+        | inr unheaded ↦ inr (record {
+          fresh = fresh;
+          frames = λ before after was is.
+              let mid = slice_get-some then cone (omega (arith, slice_get_within now cone after is, two.number)) in
+              subst (λ f. Turns FramesStay f (files after)) (kept cone before mid.0 was mid.1) (unheaded.frames mid.0 after mid.1 is);
+          others = but_more files s (λ other. other ≡ cone) first then now two.number (kept_unused files s first then kept) unheaded.others;
+        })
+      ])
+  unmade_since s first then now one two kept fresh fresh_then status (unmade_memory unused) =
+      unmade_memory (unused_more files s first then now two.number (kept_unused files s first then kept) unused)

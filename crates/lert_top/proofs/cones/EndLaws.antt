@@ -19,7 +19,7 @@ use Rattle.lert_ingest.specs.Stops.{AreWeaving}
 use Rattle.lert_ingest.specs.Traces.{AllFit}
 use Rattle.lert_ingest.specs.declared.status.Status.{Status}
 use Rattle.lert_ingest.proofs.BayLaws.{bay_at, bay_is, slice_get-some}
-use Rattle.lert_top.specs.cones.Finish.{AreClosed, AreEndedTo, AreFinished, AreFinishedTo, EndShows, HasBroken, HasStopped, IsEnded, IsFinished}
+use Rattle.lert_top.specs.cones.Finish.{AreClosed, AreEndedTo, AreFinished, AreFinishedTo, EndShows, end_failed, end_malformed, HasBroken, HasStopped, IsEnded, IsFinished}
 use Rattle.lert_top.specs.cones.Print.{ArePrintable, printed_as}
 use Rattle.lert_top.specs.cones.Printed.{IsPrinted}
 use Rattle.lert_top.proofs.cones.FinishLaws.{ended_as, ended_same, ended_woven, events_fit, finished_printed, finished_reports, still_valid}
@@ -127,27 +127,20 @@ module _ {B : Type 0} (files : B → Option Files) (leaves : B → Files → Typ
         by_fault fault.Closed broke = absurd (let clash = broke.broke in cc)
         by_fault fault.Broken broke = absurd (let clash = broke.broke in cc)
         by_fault (fault.CapacityFull n len) broke = absurd (let clash = broke.broke in cc)
-        by_fault fault.BayFailed broke = (
-          record {
-            before = stopped.before.bay;
-            now = stopped.now.bay;
-            was = bay_at old stopped.cone stopped.before stopped.was;
-            is = bay_at new stopped.cone stopped.now stopped.is;
-            rose = broke.by_bay refl;
-          },
-          refl,
-          ends,
-        )
+        by_fault fault.BayFailed broke = end_failed stopped.cone (record {
+          before = stopped.before.bay;
+          now = stopped.now.bay;
+          was = bay_at old stopped.cone stopped.before stopped.was;
+          is = bay_at new stopped.cone stopped.now stopped.is;
+          rose = broke.by_bay refl;
+        }) refl ends
         by_fault (fault.Unsound file at) broke =
             let was = weaving stopped.cone stopped.before stopped.was in
-            let none = broke.by_read file at refl was.history was.stands was.sound in (
-              record {
-                named = slice_get_within (bays_of old) stopped.cone stopped.before.bay (bay_at old stopped.cone stopped.before stopped.was);
-                untold = λ bay there seen told. let clash = sym none ∙ (ap files (sym (bay_is old stopped.cone stopped.before bay stopped.was there)) ∙ told) in cc;
-              },
-              refl,
-              ends,
-            )
+            let none = broke.by_read file at refl was.history was.stands was.sound in
+            end_malformed stopped.cone file at (record {
+              named = slice_get_within (bays_of old) stopped.cone stopped.before.bay (bay_at old stopped.cone stopped.before stopped.was);
+              untold = λ bay there seen told. let clash = sym none ∙ (ap files (sym (bay_is old stopped.cone stopped.before bay stopped.was there)) ∙ told) in cc;
+            }) refl ends
 
     module _ (number : length old ≡ 2 ^ s.cone_bits) (are : AreFinished files leaves faults mark old new) where
       -- the cone at a place, as it was and as it is

@@ -30,8 +30,7 @@ module _ {B : Type 0} (files : B → Option Files) (leaves : B → Files → Typ
   sound_still old new same sound = λ first told.
       let was = sound first (ap files (sym same.made) ∙ told) in (
         was.0,
-        subst (λ n. IsSound new.listing.settings n was.0 first) (sym same.cone)
-            (subst (λ (t : Numbers). IsSound t old.listing.cone was.0 first) (sym same.settings) was.1),
+        subst (λ n. IsSound new.listing.settings n was.0 first) (sym same.cone) (subst (λ (t : Numbers). IsSound t old.listing.cone was.0 first) (sym same.settings) was.1),
       )
 
   pub ended_same : (cone : Standing B) → IsEnded files leaves faults mark cone cone

@@ -9,7 +9,7 @@ use Rattle.lert_io.specs.Fault.{HasRisen}
 use Rattle.lert_spec.specs.declared.numbers.Numbers.{Numbers}
 use Rattle.lert_ingest.specs.declared.status.Status.TheVariants.{BayFault, NotFresh}
 use Rattle.lert_ingest.specs.Bays.{AreFresh, AreFreshBelow, AreKept, AreLater, HasFailed, IfHeld, IsLater, IsStale}
-use Rattle.lert_top.specs.cones.Unmade.{IsUnmade}
+use Rattle.lert_top.specs.cones.Unmade.{IsUnmade, unmade_stale, unmade_failed}
 use Rattle.lert_ingest.proofs.BayLaws.{are_more, later_set, slice_get-set_other, slice_get-set_same}
 use Rattle.lert_ingest.proofs.EachLaws.{kept_more, kept_set, kept_unused}
 
@@ -75,11 +75,11 @@ module _ {B : Type 0} (files : B → Option Files) (faults mark : B → ℕ) (ba
       IsUnmade files faults s bays (set now cone new) (NotFresh cone)
   stale_unmade kept lower not_empty s =
       let all = looked_kept kept in
-      (looked_stale lower not_empty, (λ bay there seen told. all), kept_unused files s bays (set now cone new) all)
+      unmade_stale cone (looked_stale lower not_empty) (λ bay there seen told. all) (kept_unused files s bays (set now cone new) all)
 
   pub failed_unmade : AreKept files bays now → AreFreshBelow files bays cone → HasRisen (faults old) (faults new) → (s : Numbers) →
       IsUnmade files faults s bays (set now cone new) (BayFault cone)
-  failed_unmade kept lower rose s = (looked_failed rose, inl (record { below = lower; kept = looked_kept kept }))
+  failed_unmade kept lower rose s = unmade_failed cone (looked_failed rose) (inl (record { below = lower; kept = looked_kept kept }))
 
 -- all bays that a look met are all bays
 pub looked_all : {B : Type 0} (files : B → Option Files) (bays : List B) (cone : ℕ) → length bays ≤ cone →

@@ -90,23 +90,21 @@ module _ (threshold : ℕ) (events : List ℕ) (key : ℕ) where
   heavy_enough has =
       let some = Contains-times key (heavy threshold events) has.0 has.1 has.2 in
       elim (cases_lt (times key events) threshold) [
-        | inl few ↦ absurd
-            (omega (
-              arith,
-              some,
-              of_heavy ∙ ap (λ (b : Bool). cond b (times key (distinct events)) 0) (lt-leb threshold (count key events 0 (length events)) (omega (
-                arith,
-                few,
-                count-whole key events,
-              ))),
-            ))
+        | inl few ↦ absurd (omega (
+          arith,
+          some,
+          of_heavy ∙ ap (λ (b : Bool). cond b (times key (distinct events)) 0) (lt-leb threshold (count key events 0 (length events)) (omega (
+            arith,
+            few,
+            count-whole key events,
+          ))),
+        ))
         | inr many ↦ many
       ]
 
   pub enough_heavy : 1 ≤ threshold → threshold ≤ times key events → Contains (heavy threshold events) key
   enough_heavy least many =
-      times-Contains key (heavy threshold events)
-      (omega (
+      times-Contains key (heavy threshold events) (omega (
         arith,
         of_heavy ∙ ap (λ (b : Bool). cond b (times key (distinct events)) 0) (le-leb threshold (count key events 0 (length events)) (omega (arith, many, count-whole key events))),
         times-distinct key events (omega (arith, least, many)),

@@ -99,8 +99,7 @@ module _ (seed events : ℕ) where
   pub sum_of_parts : (s : Numbers) (cone : ℕ) (f : List ℕ → ℕ) → f [] ≡ 0 → ((xs ys : List ℕ) → f (xs ++ ys) ≡ f xs + f ys) →
       sum_by (λ keys. f (part_of s cone keys)) (all_dealt seed events) ≡ f (part_of s cone (generated seed events))
   sum_of_parts s cone f none joins =
-      sum_parts (λ keys. f (part_of s cone keys)) none
-      (λ xs ys. ap f (filter-append (λ key. eqb (cone_of s key) cone) xs ys) ∙ joins (part_of s cone xs) (part_of s cone ys))
+      sum_parts (λ keys. f (part_of s cone keys)) none (λ xs ys. ap f (filter-append (λ key. eqb (cone_of s key) cone) xs ys) ∙ joins (part_of s cone xs) (part_of s cone ys))
 
   pub part_length_is : (s : Numbers) (cone : ℕ) → part_length s cone (all_dealt seed events) ≡ length (part_of s cone (generated seed events))
   part_length_is s cone = sum_of_parts s cone length refl length-append

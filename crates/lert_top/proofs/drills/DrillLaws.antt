@@ -7,7 +7,7 @@ use Rattle.lert_base.specs.Packet.{events_of}
 use Rattle.lert_bay.specs.Files.{Files}
 use Rattle.lert_cone.specs.Stands.{Standing}
 use Rattle.lert_top.specs.drills.Dealt.{AreDealt, all_dealt}
-use Rattle.lert_top.specs.drills.Drilled.{DrillShows, Fits, drill_status}
+use Rattle.lert_top.specs.drills.Drilled.{DrillShows, Fits, drill_full, drill_memory, drill_status}
 use Rattle.lert_top.specs.drills.Print.{drilled_as, keys_of}
 use Rattle.lert_top.proofs.drills.DealtLaws.{dealt_keys, part_length_is, sum_of_parts}
 use Rattle.lert_top.proofs.drills.DrillTexts.{IsSameText, same_each, same_lines}
@@ -15,11 +15,9 @@ use Rattle.lert_top.proofs.drills.HeavyTimes.{timely_times}
 use Rattle.lert_top.proofs.drills.SameKeys.{same_keys}
 use Rattle.lert_gen.specs.Generated.{generated}
 use Rattle.lert_ingest.specs.Bays.{AreTold, bays_of}
-use Rattle.lert_ingest.specs.Stops.{AreWeaving, StopShows}
+use Rattle.lert_ingest.specs.Stops.{AreWeaving, StopShows, trace_fault, bad_trace, too_long, bay_fault, malformed, capacity_full, out_of_memory}
 use Rattle.lert_ingest.specs.Traces.{AllFit, part_length}
 use Rattle.lert_ingest.specs.declared.status.Status.{Status}
-use Rattle.lert_ingest.specs.declared.status.Status.TheVariants.{Done, Usage, PlaceFault, TraceFault, BadTrace, TooLong, NotFresh, BayFault, CapacityFull, Malformed, OtherSettings, OutFault}
-use Rattle.lert_ingest.specs.declared.status.Status.TheVariants.{OutOfMemory}
 use Rattle.lert_ingest.proofs.BayLaws.{bay_at, slice_get-some, told_later}
 use Rattle.lert_top.specs.cones.Finish.{AreFinished}
 use Rattle.lert_top.specs.cones.Print.{printed_as}
@@ -93,28 +91,18 @@ module _ {S K B : Type 0} (remaining : S → Option (List ℕ)) (faults : S → 
     (bay_faults : B → ℕ) (s : Numbers) (workers seed events : ℕ) (opened now : List S) (sink : K) (bays later : List B) (are : AreDealt remaining seed events opened) where
   pub stopped_shows : (status : Status) → StopShows remaining faults files bay_faults s workers opened now bays later status →
       DrillShows taken sink_faults s seed events sink sink (drill_status status)
-  stopped_shows Done shows = absurd shows
-  stopped_shows (Usage rule) shows = absurd shows
-  stopped_shows PlaceFault shows = absurd shows
-  stopped_shows (TraceFault trace) shows = refl
-  stopped_shows (BadTrace trace at) shows = refl
-  stopped_shows (TooLong trace) shows = refl
-  stopped_shows (NotFresh cone) shows = absurd shows
-  stopped_shows (BayFault cone) shows = refl
-  stopped_shows (CapacityFull cone n len) shows =
-      let full = shows.0 in
-      let enough = shows.1 in
-      let keys = dealt_keys seed events remaining opened enough.traces are enough.keys in (
-        record {
-          named = full.named;
-          some = full.some;
-          few = full.few;
-          over = full.over;
-          enough = omega (arith, enough.enough, ap (part_length s cone) keys, part_length_is seed events s cone);
-        },
-        refl,
-      )
-  stopped_shows (Malformed cone file at) shows = refl
-  stopped_shows (OtherSettings cone) shows = absurd shows
-  stopped_shows OutFault shows = absurd shows
-  stopped_shows OutOfMemory shows = refl
+  stopped_shows status (capacity_full cone n len full has trace part) =
+      let keys = dealt_keys seed events remaining opened has.traces are has.keys in
+      drill_full cone n len (record {
+        named = full.named;
+        some = full.some;
+        few = full.few;
+        over = full.over;
+        enough = omega (arith, has.enough, ap (part_length s cone) keys, part_length_is seed events s cone);
+      }) refl
+  stopped_shows status (trace_fault trace risen part) = drill_memory refl
+  stopped_shows status (bad_trace trace at bad part) = drill_memory refl
+  stopped_shows status (too_long trace long part) = drill_memory refl
+  stopped_shows status (bay_fault cone risen part) = drill_memory refl
+  stopped_shows status (malformed cone file at untold part) = drill_memory refl
+  stopped_shows status (out_of_memory same_traces same_bays) = drill_memory refl

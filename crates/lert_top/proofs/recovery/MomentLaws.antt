@@ -43,8 +43,7 @@ each_back R first xs old new ys there here each = λ cone before now was is.
           let new_is : new ≡ now = same_Some new now (sym (slice_get-seam xs new ys) ∙ (ap (slice_get (xs ++ new ∷ ys)) (sym same) ∙ is)) in
           subst (λ k. R k before now) (sym same) (subst (R (length xs) before) new_is (subst (λ o. R (length xs) o new) old_is here))
       | inr other ↦
-          each cone before now was
-          (sym (slice_get-set_other (xs ++ old ∷ ys) (length xs) cone new other) ∙ (ap (λ l. slice_get l cone) (set-seam xs old new ys) ∙ is))
+          each cone before now was (sym (slice_get-set_other (xs ++ old ∷ ys) (length xs) cone new other) ∙ (ap (λ l. slice_get l cone) (set-seam xs old new ys) ∙ is))
     ]
 
 module _ {B : Type 0} (bays : Bays B) (lawful : IsLawful bays) (s : Numbers) where
@@ -65,8 +64,7 @@ module _ {B : Type 0} (bays : Bays B) (s : Numbers) (first : List B) (cones : Li
   pub throughout_back : (back : B) → IsSpared bays s (length cones) bay back → AreSpared bays s first (bays_of cones ++ back ∷ rest)
   throughout_back back one =
       let number = sym (length-map cones (λ (c : Standing B). c.bay)) in
-      each_back (IsSpared bays s) first (bays_of cones) bay back rest (subst (λ k. slice_get first k ≡ Some bay) number there)
-      (subst (λ k. IsSpared bays s k bay back) number one) so_far
+      each_back (IsSpared bays s) first (bays_of cones) bay back rest (subst (λ k. slice_get first k ≡ Some bay) number there) (subst (λ k. IsSpared bays s k bay back) number one) so_far
 
   -- a cone is opened over it
   pub throughout_made : (cone : Standing B) → IsSpared bays s (length cones) bay cone.bay → AreSpared bays s first (bays_of (cones ++ cone ∷ []) ++ rest)

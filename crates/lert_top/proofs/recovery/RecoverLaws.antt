@@ -25,7 +25,7 @@ use Rattle.lert_spec.specs.declared.numbers.Numbers.{Numbers}
 use Rattle.lert_ingest.specs.Bays.{AreLater, AreUntouched, IfHeld, bays_of}
 use Rattle.lert_top.specs.cones.Print.{state_of}
 use Rattle.lert_top.specs.cones.Print.{ArePrintable, printed_as}
-use Rattle.lert_top.specs.recovery.Recovered.{AreCounted, AreOpenOver, AreRecovered, IsOpenOver, IsRecovered, IsUnopened, LowerAreFormed, OfBay, printed_for, reopen_status}
+use Rattle.lert_top.specs.recovery.Recovered.{AreCounted, AreOpenOver, AreRecovered, IsOpenOver, IsRecovered, IsUnopened, unopened_failed, unopened_spoiled, unopened_other, LowerAreFormed, OfBay, printed_for, reopen_status}
 use Rattle.lert_ingest.proofs.BayLaws.{bay_at, bay_is, slice_get-seam, slice_get-some}
 use Rattle.lert_top.proofs.cones.EndLaws.{printed_at}
 
@@ -137,39 +137,31 @@ module _ {B : Type 0} (files : B → Option Files) (leaves : B → Files → Typ
           subst (λ b. R b now) (same_Some bay before (sym there ∙ was)) (subst (R bay) (same_Some back now (sym back_there ∙ is)) holds)
 
       unopened_as : (f : ReopenFault) → refusal ≡ f → IsUnopened files faults s bays later (reopen_status (length cones) f)
-      unopened_as fault.Failed is = (record { before = bay; now = back; was = there; is = back_there; rose = failed is }, lower, untouched)
-      unopened_as (fault.Malformed file at) is = (
-        record {
-          named = slice_get_within bays (length cones) bay there;
-          told = of_bay _ (λ seen told. why.malformed seen told file at is);
-          first = of_bay _ (λ seen told other place leaves_there. elim (why.refuses seen told other place leaves_there) [
-            | inl failed_is ↦ absurd (let clash = sym is ∙ failed_is in cc)
-            | inr same ↦ let equal : fault.Malformed file at ≡ fault.Malformed other place = sym is ∙ same in (cc, cc)
-          ]);
-          unsound = of_bay _ (λ seen told history sound. let clash = sym is ∙ why.opens seen told history sound in cc);
-          own = of_bay _ (λ seen told kept other. elim (why.differs seen told kept other) [
-            | inl failed_is ↦ let clash = sym is ∙ failed_is in cc
-            | inr same ↦ let clash = sym is ∙ same in cc
-          ]);
-          kept = of_back _ (λ seen told leaves_there. why.unread seen told file at leaves_there);
-        },
-        lower,
-        untouched,
-      )
-      unopened_as (fault.OtherSettings kept) is = (
-        record {
-          named = slice_get_within bays (length cones) bay there;
-          told = of_bay _ (λ seen told. (kept, why.other_is seen told kept is));
-          unsound = of_bay _ (λ seen told history sound. let clash = sym is ∙ why.opens seen told history sound in cc);
-          formed = of_bay _ (λ seen told file at leaves_there. elim (why.refuses seen told file at leaves_there) [
-            | inl failed_is ↦ let clash = sym is ∙ failed_is in cc
-            | inr same ↦ let clash = sym is ∙ same in cc
-          ]);
-          kept = of_back _ (why.untouched kept is);
-        },
-        lower,
-        untouched,
-      )
+      unopened_as fault.Failed is = unopened_failed (length cones) (record { before = bay; now = back; was = there; is = back_there; rose = failed is }) lower untouched
+      unopened_as (fault.Malformed file at) is = unopened_spoiled (length cones) file at (record {
+        named = slice_get_within bays (length cones) bay there;
+        told = of_bay _ (λ seen told. why.malformed seen told file at is);
+        first = of_bay _ (λ seen told other place leaves_there. elim (why.refuses seen told other place leaves_there) [
+          | inl failed_is ↦ absurd (let clash = sym is ∙ failed_is in cc)
+          | inr same ↦ let equal : fault.Malformed file at ≡ fault.Malformed other place = sym is ∙ same in (cc, cc)
+        ]);
+        unsound = of_bay _ (λ seen told history sound. let clash = sym is ∙ why.opens seen told history sound in cc);
+        own = of_bay _ (λ seen told kept other. elim (why.differs seen told kept other) [
+          | inl failed_is ↦ let clash = sym is ∙ failed_is in cc
+          | inr same ↦ let clash = sym is ∙ same in cc
+        ]);
+        kept = of_back _ (λ seen told leaves_there. why.unread seen told file at leaves_there);
+      }) lower untouched
+      unopened_as (fault.OtherSettings kept) is = unopened_other (length cones) (record {
+        named = slice_get_within bays (length cones) bay there;
+        told = of_bay _ (λ seen told. (kept, why.other_is seen told kept is));
+        unsound = of_bay _ (λ seen told history sound. let clash = sym is ∙ why.opens seen told history sound in cc);
+        formed = of_bay _ (λ seen told file at leaves_there. elim (why.refuses seen told file at leaves_there) [
+          | inl failed_is ↦ let clash = sym is ∙ failed_is in cc
+          | inr same ↦ let clash = sym is ∙ same in cc
+        ]);
+        kept = of_back _ (why.untouched kept is);
+      }) lower untouched
 
       -- why no cone is opened over the bay at hand
       pub unopened_by : IsUnopened files faults s bays later (reopen_status (length cones) refusal)

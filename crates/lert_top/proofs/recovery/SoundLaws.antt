@@ -30,8 +30,7 @@ module _ {B : Type 0} (files : B → Option Files) where
       let all = opened.sound seen told history sound in
       let unbroken = ap is_broken opened.state_is ∙ open_is made.listing.closed in
       let whole = all.0.whole unbroken all.1 now now_told in
-      subst (λ (t : Numbers). IsSound t cone history now) opened.settings_are
-      (subst (λ n. IsSound made.listing.settings n history now) opened.number_is whole.files.kept.as_read.sound))
+      subst (λ (t : Numbers). IsSound t cone history now) opened.settings_are (subst (λ n. IsSound made.listing.settings n history now) opened.number_is whole.files.kept.as_read.sound))
 
   module _ (s : Numbers) where
     still : (cone : ℕ) (bay : B) → IsSoundStill files s cone bay bay

@@ -15,8 +15,7 @@ use Rattle.lert_ingest.specs.Bays.{AreWoven, HasFailed, HoldsAll, HoldsWeave, If
 use Rattle.lert_ingest.specs.Status.{cone_status}
 use Rattle.lert_ingest.specs.Traces.{AllFit}
 use Rattle.lert_ingest.specs.declared.status.Status.{Status}
-use Rattle.lert_ingest.specs.declared.status.Status.TheVariants.{Done, Usage, PlaceFault, TraceFault, BadTrace, TooLong, NotFresh, BayFault, CapacityFull, Malformed, OtherSettings, OutFault}
-use Rattle.lert_ingest.specs.declared.status.Status.TheVariants.{OutOfMemory}
+use Rattle.lert_ingest.specs.declared.status.Status.TheVariants.{Done, BayFault, Malformed, OutFault}
 use Rattle.lert_top.specs.cones.Printed.{ArePrinted}
 use Rattle.lert_text.specs.Page.{IsCut}
 
@@ -85,17 +84,8 @@ pub record AreEndedTo {B : Type 0} (files : B → Option Files) (s : Numbers) (w
 -- what the status says of cones that were to be finished and printed, by their bays as they were and as they are
 module _ {K B : Type 0} (taken : K → Option (List ℕ)) (sink_faults : K → ℕ) (files : B → Option Files) (faults : B → ℕ) (s : Numbers) (workers : ℕ) (traces : List (List ℕ))
     (before after : K) (bays later : List B) where
-  abbrev pub EndShows : Status → Type 0
-  EndShows Done = AreClosed files s workers traces later (λ all. IfTold (taken before) (λ text. taken after ≡ Some (text ++ all)))
-  EndShows (Usage rule) = ⊥
-  EndShows PlaceFault = ⊥
-  EndShows (TraceFault trace) = ⊥
-  EndShows (BadTrace trace at) = ⊥
-  EndShows (TooLong trace) = ⊥
-  EndShows (NotFresh cone) = ⊥
-  EndShows (BayFault cone) = HasFailed faults bays later cone × (after ≡ before) × AreEndedTo files s workers traces later cone
-  EndShows (CapacityFull cone n len) = ⊥
-  EndShows (Malformed cone file at) = IsUntold files bays cone × (after ≡ before) × AreEndedTo files s workers traces later cone
-  EndShows (OtherSettings cone) = ⊥
-  EndShows OutFault = HasRisen (sink_faults before) (sink_faults after) × AreClosed files s workers traces later (IsCut (taken before) (taken after))
-  EndShows OutOfMemory = ⊥
+  pub data EndShows : Status → Type 0 where
+    end_done : AreClosed files s workers traces later (λ all. IfTold (taken before) (λ text. taken after ≡ Some (text ++ all))) → EndShows Done
+    end_failed : (cone : ℕ) → HasFailed faults bays later cone → after ≡ before → AreEndedTo files s workers traces later cone → EndShows (BayFault cone)
+    end_malformed : (cone file at : ℕ) → IsUntold files bays cone → after ≡ before → AreEndedTo files s workers traces later cone → EndShows (Malformed cone file at)
+    end_cut : HasRisen (sink_faults before) (sink_faults after) → AreClosed files s workers traces later (IsCut (taken before) (taken after)) → EndShows OutFault

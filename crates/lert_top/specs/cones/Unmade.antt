@@ -5,8 +5,7 @@ use Rattle.lert_cone.specs.Sound.{FramesStay}
 use Rattle.lert_spec.specs.declared.numbers.Numbers.{Numbers}
 use Rattle.lert_ingest.specs.Bays.{AreFresh, AreFreshBelow, AreKept, AreUnused, AreUnusedBut, HasFailed, IfHeld, IsStale}
 use Rattle.lert_ingest.specs.declared.status.Status.{Status}
-use Rattle.lert_ingest.specs.declared.status.Status.TheVariants.{Done, Usage, PlaceFault, TraceFault, BadTrace, TooLong, NotFresh, BayFault, CapacityFull, Malformed, OtherSettings, OutFault}
-use Rattle.lert_ingest.specs.declared.status.Status.TheVariants.{OutOfMemory}
+use Rattle.lert_ingest.specs.declared.status.Status.TheVariants.{NotFresh, BayFault, OutOfMemory}
 
 -- how long a cone's files are wasn't answered: the files of those below it have no byte, and all files are as they were
 pub record IsUnasked {B : Type 0} (files : B → Option Files) (bays later : List B) (cone : ℕ) : Type 0 where
@@ -26,19 +25,8 @@ BrokeEarly files settings bays later cone = IsUnasked files bays later cone ⊎ 
 
 -- Why no cones were made over bays: a file of one isn't empty, a bay failed, or there is no memory. No journal has a packet
 -- then, but for that of the bay that failed; and where the cone that isn't fresh tells its files, all files are as they were.
-abbrev pub IsUnmade : {B : Type 0} → (B → Option Files) → (B → ℕ) → Numbers → List B → List B → Status → Type 0
-IsUnmade files faults settings bays later Done = ⊥
-IsUnmade files faults settings bays later (Usage rule) = ⊥
-IsUnmade files faults settings bays later PlaceFault = ⊥
-IsUnmade files faults settings bays later (TraceFault trace) = ⊥
-IsUnmade files faults settings bays later (BadTrace trace at) = ⊥
-IsUnmade files faults settings bays later (TooLong trace) = ⊥
-IsUnmade files faults settings bays later (NotFresh cone) =
-    IsStale files bays cone × IfHeld files bays cone (λ _. AreKept files bays later) × AreUnused files settings bays later
-IsUnmade files faults settings bays later (BayFault cone) =
-    HasFailed faults bays later cone × BrokeEarly files settings bays later cone
-IsUnmade files faults settings bays later (CapacityFull cone n len) = ⊥
-IsUnmade files faults settings bays later (Malformed cone file at) = ⊥
-IsUnmade files faults settings bays later (OtherSettings cone) = ⊥
-IsUnmade files faults settings bays later OutFault = ⊥
-IsUnmade files faults settings bays later OutOfMemory = AreUnused files settings bays later
+pub data IsUnmade {B : Type 0} (files : B → Option Files) (faults : B → ℕ) (settings : Numbers) (bays later : List B) : Status → Type 0 where
+  unmade_stale : (cone : ℕ) → IsStale files bays cone → IfHeld files bays cone (λ _. AreKept files bays later) → AreUnused files settings bays later →
+      IsUnmade files faults settings bays later (NotFresh cone)
+  unmade_failed : (cone : ℕ) → HasFailed faults bays later cone → BrokeEarly files settings bays later cone → IsUnmade files faults settings bays later (BayFault cone)
+  unmade_memory : AreUnused files settings bays later → IsUnmade files faults settings bays later OutOfMemory

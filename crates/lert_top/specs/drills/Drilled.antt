@@ -9,8 +9,7 @@ use Rattle.lert_spec.specs.Mix.{part_of}
 use Rattle.lert_text.specs.Drill.{drill_lines, drilled}
 use Rattle.lert_text.specs.Page.{IsCut}
 use Rattle.lert_ingest.specs.declared.status.Status.{Status}
-use Rattle.lert_ingest.specs.declared.status.Status.TheVariants.{Done, Usage, PlaceFault, TraceFault, BadTrace, TooLong, NotFresh, BayFault, CapacityFull, Malformed, OtherSettings, OutFault}
-use Rattle.lert_ingest.specs.declared.status.Status.TheVariants.{OutOfMemory}
+use Rattle.lert_ingest.specs.declared.status.Status.TheVariants.{Done, CapacityFull, OutFault, OutOfMemory}
 
 -- each cone takes its part of the keys
 abbrev pub Fits : Numbers → List ℕ → Type 0
@@ -26,35 +25,14 @@ pub record IsOverfull (s : Numbers) (keys : List ℕ) (cone n len : ℕ) : Type 
 
 -- what the status of a drill says, by the sink before and after: with `Done` the text is that of a plain count, whatever the workers
 module _ {K : Type 0} (taken : K → Option (List ℕ)) (faults : K → ℕ) (s : Numbers) (seed events : ℕ) (before after : K) where
-  abbrev pub DrillShows : Status → Type 0
-  DrillShows Done = Fits s (generated seed events)
-      × IfTold (taken before) (λ text. taken after ≡ Some (text ++ drill_lines (drilled s (generated seed events))))
-  DrillShows (Usage rule) = ⊥
-  DrillShows PlaceFault = ⊥
-  DrillShows (TraceFault trace) = ⊥
-  DrillShows (BadTrace trace at) = ⊥
-  DrillShows (TooLong trace) = ⊥
-  DrillShows (NotFresh cone) = ⊥
-  DrillShows (BayFault cone) = ⊥
-  DrillShows (CapacityFull cone n len) = IsOverfull s (generated seed events) cone n len × (after ≡ before)
-  DrillShows (Malformed cone file at) = ⊥
-  DrillShows (OtherSettings cone) = ⊥
-  DrillShows OutFault = Fits s (generated seed events) × HasRisen (faults before) (faults after)
-      × IsCut (taken before) (taken after) (drill_lines (drilled s (generated seed events)))
-  DrillShows OutOfMemory = after ≡ before
+  pub data DrillShows : Status → Type 0 where
+    drill_done : Fits s (generated seed events) → IfTold (taken before) (λ text. taken after ≡ Some (text ++ drill_lines (drilled s (generated seed events)))) → DrillShows Done
+    drill_full : (cone n len : ℕ) → IsOverfull s (generated seed events) cone n len → after ≡ before → DrillShows (CapacityFull cone n len)
+    drill_cut : Fits s (generated seed events) → HasRisen (faults before) (faults after) → IsCut (taken before) (taken after) (drill_lines (drilled s (generated seed events))) →
+        DrillShows OutFault
+    drill_memory : after ≡ before → DrillShows OutOfMemory
 
 -- the status of a drill whose reading stopped with another: a full cone is handed on, and all else is want of memory
 abbrev pub drill_status : Status → Status
-drill_status Done = OutOfMemory
-drill_status (Usage rule) = OutOfMemory
-drill_status PlaceFault = OutOfMemory
-drill_status (TraceFault trace) = OutOfMemory
-drill_status (BadTrace trace at) = OutOfMemory
-drill_status (TooLong trace) = OutOfMemory
-drill_status (NotFresh cone) = OutOfMemory
-drill_status (BayFault cone) = OutOfMemory
 drill_status (CapacityFull cone n len) = CapacityFull cone n len
-drill_status (Malformed cone file at) = OutOfMemory
-drill_status (OtherSettings cone) = OutOfMemory
-drill_status OutFault = OutOfMemory
-drill_status OutOfMemory = OutOfMemory
+drill_status other = OutOfMemory

@@ -23,8 +23,7 @@ use Rattle.lert_ingest.specs.Bays.{AreFaultless, AreFaultlessTo, AreUntouched, E
 use Rattle.lert_top.specs.cones.Print.{state_of}
 use Rattle.lert_text.specs.Page.{IsCut}
 use Rattle.lert_ingest.specs.declared.status.Status.{Status}
-use Rattle.lert_ingest.specs.declared.status.Status.TheVariants.{Done, Usage, PlaceFault, TraceFault, BadTrace, TooLong, NotFresh, BayFault, CapacityFull}
-use Rattle.lert_ingest.specs.declared.status.Status.TheVariants.{Malformed, OtherSettings, OutFault, OutOfMemory}
+use Rattle.lert_ingest.specs.declared.status.Status.TheVariants.{Done, BayFault, Malformed, OtherSettings, OutFault, OutOfMemory}
 
 -- ---- one cone
 
@@ -130,20 +129,13 @@ reopen_status cone (fault.OtherSettings kept) = OtherSettings cone
 -- Why it stops, by the bays as they were opened and as they are put back. A cone that is named is the first that isn't opened:
 -- those below it were, and the bays behind it are as they were handed out. With want of memory no cone is opened, and all bays are as
 -- they were handed out.
-abbrev pub IsUnopened : {B : Type 0} → (B → Option Files) → (B → ℕ) → Numbers → List B → List B → Status → Type 0
-IsUnopened files faults s bays later Done = ⊥
-IsUnopened files faults s bays later (Usage rule) = ⊥
-IsUnopened files faults s bays later PlaceFault = ⊥
-IsUnopened files faults s bays later (TraceFault trace) = ⊥
-IsUnopened files faults s bays later (BadTrace trace at) = ⊥
-IsUnopened files faults s bays later (TooLong trace) = ⊥
-IsUnopened files faults s bays later (NotFresh cone) = ⊥
-IsUnopened files faults s bays later (BayFault cone) = HasFailed faults bays later cone × LowerAreFormed files s bays cone × AreUntouched cone bays later
-IsUnopened files faults s bays later (CapacityFull cone n len) = ⊥
-IsUnopened files faults s bays later (Malformed cone file at) = IsSpoiled files s bays later cone file at × LowerAreFormed files s bays cone × AreUntouched cone bays later
-IsUnopened files faults s bays later (OtherSettings cone) = IsOther files s bays later cone × LowerAreFormed files s bays cone × AreUntouched cone bays later
-IsUnopened files faults s bays later OutFault = ⊥
-IsUnopened files faults s bays later OutOfMemory = later ≡ bays
+pub data IsUnopened {B : Type 0} (files : B → Option Files) (faults : B → ℕ) (s : Numbers) (bays later : List B) : Status → Type 0 where
+  unopened_failed : (cone : ℕ) → HasFailed faults bays later cone → LowerAreFormed files s bays cone → AreUntouched cone bays later → IsUnopened files faults s bays later (BayFault cone)
+  unopened_spoiled : (cone file at : ℕ) → IsSpoiled files s bays later cone file at → LowerAreFormed files s bays cone → AreUntouched cone bays later →
+      IsUnopened files faults s bays later (Malformed cone file at)
+  unopened_other : (cone : ℕ) → IsOther files s bays later cone → LowerAreFormed files s bays cone → AreUntouched cone bays later →
+      IsUnopened files faults s bays later (OtherSettings cone)
+  unopened_memory : later ≡ bays → IsUnopened files faults s bays later OutOfMemory
 
 -- ---- the whole
 
@@ -168,22 +160,12 @@ AreSoundBelow {B = B} files s bays number = (cone : ℕ) (bay : B) → cone < nu
 module _ {K B : Type 0} (taken : K → Option (List ℕ)) (sink_faults : K → ℕ) (files : B → Option Files) (bay_faults : B → ℕ) (s : Numbers)
     (before after : K) (bays later : List B) where
   -- what the status of a recovery says: the text of all cones was written, or a part of it, or nothing was
-  abbrev pub RecoveryShows : Status → Type 0
-  RecoveryShows Done = LowerAreFormed files s bays (length bays) × ((cones : List Printed) × AreRecovered files s bays later cones
-      × reading.IfTold (taken before) (λ text. taken after ≡ Some (text ++ lines cones)))
-  RecoveryShows (Usage rule) = ⊥
-  RecoveryShows PlaceFault = ⊥
-  RecoveryShows (TraceFault trace) = ⊥
-  RecoveryShows (BadTrace trace at) = ⊥
-  RecoveryShows (TooLong trace) = ⊥
-  RecoveryShows (NotFresh cone) = ⊥
-  RecoveryShows (BayFault cone) = (HasFailed bay_faults bays later cone × LowerAreFormed files s bays cone × AreUntouched cone bays later) × (after ≡ before)
-  RecoveryShows (CapacityFull cone n len) = ⊥
-  RecoveryShows (Malformed cone file at) = (IsSpoiled files s bays later cone file at × LowerAreFormed files s bays cone × AreUntouched cone bays later) × (after ≡ before)
-  RecoveryShows (OtherSettings cone) = (IsOther files s bays later cone × LowerAreFormed files s bays cone × AreUntouched cone bays later) × (after ≡ before)
-  RecoveryShows OutFault = HasRisen (sink_faults before) (sink_faults after) × LowerAreFormed files s bays (length bays)
-      × ((cones : List Printed) × AreRecovered files s bays later cones × IsCut (taken before) (taken after) (lines cones))
-  RecoveryShows OutOfMemory = (after ≡ before) × (later ≡ bays)
+  pub data RecoveryShows : Status → Type 0 where
+    printed : LowerAreFormed files s bays (length bays) → (cones : List Printed) → AreRecovered files s bays later cones →
+        reading.IfTold (taken before) (λ text. taken after ≡ Some (text ++ lines cones)) → RecoveryShows Done
+    printed_partly : LowerAreFormed files s bays (length bays) → (cones : List Printed) → AreRecovered files s bays later cones →
+        HasRisen (sink_faults before) (sink_faults after) → IsCut (taken before) (taken after) (lines cones) → RecoveryShows OutFault
+    unopened : {status : Status} → IsUnopened files bay_faults s bays later status → after ≡ before → RecoveryShows status
 
   -- A recovery over bays that were opened: what its status says, and which one comes where no fault was counted. Bays that all
   -- tell sound files are answered with the text; and where those below a cone do, and that one's files leave their format or

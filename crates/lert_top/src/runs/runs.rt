@@ -1,11 +1,11 @@
 //! Runs over several traces by workers.
 
-ghost use Rattle.std.specs.Prelude.{◌≡◌, ◌≢◌, ◌⊎◌, ◌^◌, ◌<◌, ◌≤◌, ℕ, All, List, [], length, slice_get, true, ⊤};
+ghost use Rattle.std.specs.Prelude.{◌≡◌, ◌≢◌, ◌⊎◌, ◌^◌, ◌<◌, ◌≤◌, ℕ, All, List, [], length, slice_get};
 ghost use Rattle.std.specs.VecDeque.{deque_capacity};
 ghost use Rattle.lert_args.specs.Names.{names_of};
 ghost use Rattle.lert_args.specs.Word.{word_at};
 ghost use Rattle.lert_io.specs.Fault.{HasRisen, IsFaultless};
-ghost use Rattle.lert_ingest.specs.Bays.{AreFresh, AreLater, AreToldFresh, IsStale, bays_of};
+ghost use Rattle.lert_ingest.specs.Bays.{AreLater, AreToldFresh, bays_of};
 ghost use Rattle.lert_ingest.specs.Cones.{AreNew};
 ghost use Rattle.lert_ingest.specs.Stops.{AreWeaving, IsExact};
 ghost use Rattle.lert_ingest.specs.Traces.{AreTracesLater};
@@ -13,9 +13,8 @@ ghost use Rattle.lert_place.specs.Openings.{AreReturned, AreReturnedSame};
 ghost use Rattle.lert_top.specs.cones.Asked.{IsAsked, IsAskedForBays};
 ghost use Rattle.lert_top.specs.cones.Closed.{AreClosedInEach, AreReturnedClosed};
 ghost use Rattle.lert_top.specs.cones.Finish.{EndShows};
-ghost use Rattle.lert_top.specs.cones.Unmade.{BrokeEarly};
 ghost use Rattle.lert_top.specs.runs.Ran.{HasPutBack, IsDone};
-ghost use Rattle.lert_top.specs.runs.Run.{HasRun, StatusShows, is_past_freshness};
+ghost use Rattle.lert_top.specs.runs.Run.{HasRun, MadeShows, RunShows};
 
 use crate::cones::{
     bring_back, find_stale, finish_cones, make_cones, open_bays, print_cones, put_back_bays,
@@ -148,10 +147,8 @@ fn run_bays<S: Source + Send, B: Bay + Send, K: Sink, R: Threads + Wait + Sync>(
     requires room { length bays.old.items ≤ deque_capacity bays.old }
     ensures later { AreLater B.files B.faults B.mark bays.old.items bays.new.items }
     ensures traces_later { AreTracesLater S.faults S.mark traces.items result.0.items }
-    ensures fresh { is_past_freshness result.1 ≡ true → AreFresh B.files bays.old.items }
-    ensures shows { StatusShows S.remaining S.faults K.taken K.faults B.files B.faults settings.now workers traces.items result.0.items
-        out.old out.new bays.old.items bays.new.items (IsStale B.files bays.old.items)
-        (BrokeEarly B.files settings.now bays.old.items bays.new.items) (AreFresh B.files bays.old.items) result.1 }
+    ensures shows { RunShows S.remaining S.faults K.taken K.faults B.files B.faults settings.now workers traces.items result.0.items
+        out.old out.new bays.old.items bays.new.items result.1 }
     ensures exact { AreToldFresh B.files bays.old.items → IsExact S.remaining S.faults B.files B.faults settings.now workers
         traces.items result.0.items bays.old.items bays.new.items (IsDone K.faults out.old out.new result.1) (λ status. result.1 ≡ status) }
     ensures closed { result.1 ≡ Status.Done → AreClosedInEach B.files B.leaves settings.now bays.new.items }
@@ -186,8 +183,8 @@ fn run_cones<S: Source + Send, B: Bay + Send, K: Sink, R: Threads + Wait + Sync>
     requires new_cones { AreNew B.files B.leaves B.faults settings.now cones.items }
     ensures later { AreLater B.files B.faults B.mark (bays_of cones.items) (bays_of result.0.items) }
     ensures traces_later { AreTracesLater S.faults S.mark traces.items result.1.items }
-    ensures shows { StatusShows S.remaining S.faults K.taken K.faults B.files B.faults settings.now workers traces.items result.1.items
-        out.old out.new (bays_of cones.items) (bays_of result.0.items) (λ _. ⊥) (λ _. ⊥) ⊤ result.2 }
+    ensures shows { MadeShows S.remaining S.faults K.taken K.faults B.files B.faults settings.now workers traces.items result.1.items
+        out.old out.new (bays_of cones.items) (bays_of result.0.items) result.2 }
     ensures exact { IsExact S.remaining S.faults B.files B.faults settings.now workers traces.items result.1.items
         (bays_of cones.items) (bays_of result.0.items) (IsDone K.faults out.old out.new result.2) (λ status. result.2 ≡ status) }
     ensures closed { result.2 ≡ Status.Done → AreClosedInEach B.files B.leaves settings.now (bays_of result.0.items) }

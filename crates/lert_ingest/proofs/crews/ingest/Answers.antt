@@ -48,20 +48,8 @@ untaken g c =
     untouched g.S.Source.remaining g.S.Faulty.faults g.S.Faulty.mark g.B.Bay.files g.B.Bay.leaves g.B.Faulty.faults g.B.Faulty.mark
     c.args.settings.now c.args.workers c.args.traces.items c.args.traces.items c.args.cones.items c.in-Err.cones.items refl c.in-Err.ensures.back
 
-pub returns-in-Err-clause-later : goal.returns-in-Err-clause-later
-returns-in-Err-clause-later g c = (untaken g c).later
-
-pub returns-in-Err-clause-traces_later : goal.returns-in-Err-clause-traces_later
-returns-in-Err-clause-traces_later g c = (untaken g c).traces_later
-
-pub returns-in-Err-clause-stopped : goal.returns-in-Err-clause-stopped
-returns-in-Err-clause-stopped g c = (untaken g c).stopped
-
-pub returns-in-Err-clause-exact : goal.returns-in-Err-clause-exact
-returns-in-Err-clause-exact g c = (untaken g c).exact
-
-pub returns-in-Err-clause-read : goal.returns-in-Err-clause-read
-returns-in-Err-clause-read g c = tt
+pub returns-in-Err : goal.returns-in-Err
+returns-in-Err g c = record { later = (untaken g c).later; traces_later = (untaken g c).traces_later; read = tt; stopped = (untaken g c).stopped; exact = (untaken g c).exact }
 
 -- nor is there a list for the traces
 unlocked : (g : given.Over) (c : In_default g) → HasIngested g.S.Source.remaining g.S.Faulty.faults g.S.Faulty.mark g.B.Bay.files g.B.Bay.leaves g.B.Faulty.faults g.B.Faulty.mark
@@ -70,20 +58,8 @@ unlocked g c =
     untouched g.S.Source.remaining g.S.Faulty.faults g.S.Faulty.mark g.B.Bay.files g.B.Bay.leaves g.B.Faulty.faults g.B.Faulty.mark
     c.args.settings.now c.args.workers c.args.traces.items c.args.traces.items c.args.cones.items c.args.cones.items refl refl
 
-pub returns-in_default-clause-later : goal.returns-in_default-clause-later
-returns-in_default-clause-later g c = (unlocked g c).later
-
-pub returns-in_default-clause-traces_later : goal.returns-in_default-clause-traces_later
-returns-in_default-clause-traces_later g c = (unlocked g c).traces_later
-
-pub returns-in_default-clause-stopped : goal.returns-in_default-clause-stopped
-returns-in_default-clause-stopped g c = (unlocked g c).stopped
-
-pub returns-in_default-clause-exact : goal.returns-in_default-clause-exact
-returns-in_default-clause-exact g c = (unlocked g c).exact
-
-pub returns-in_default-clause-read : goal.returns-in_default-clause-read
-returns-in_default-clause-read g c = tt
+pub returns-in_default : goal.returns-in_default
+returns-in_default g c = record { later = (unlocked g c).later; traces_later = (unlocked g c).traces_later; read = tt; stopped = (unlocked g c).stopped; exact = (unlocked g c).exact }
 
 -- ---- where workers began, the fleet's answer
 
@@ -98,20 +74,14 @@ ingested g c =
     c.args.settings.now c.busy_workers-crew.result c.args.traces.items c.ingest_fleet.result.0.items firsts c.ingest_fleet.result.1.items c.ingest_fleet.result.2)
     c.in-Ok-lock_cones.ensures.locks.firsts c.ingest_fleet.ensures)
 
-pub returns-in-Ok-lock_cones-clause-later : goal.returns-in-Ok-lock_cones-clause-later
-returns-in-Ok-lock_cones-clause-later g c = (ingested g c).later
-
-pub returns-in-Ok-lock_cones-clause-traces_later : goal.returns-in-Ok-lock_cones-clause-traces_later
-returns-in-Ok-lock_cones-clause-traces_later g c = (ingested g c).traces_later
-
-pub returns-in-Ok-lock_cones-clause-read : goal.returns-in-Ok-lock_cones-clause-read
-returns-in-Ok-lock_cones-clause-read g c = (ingested g c).read
-
-pub returns-in-Ok-lock_cones-clause-stopped : goal.returns-in-Ok-lock_cones-clause-stopped
-returns-in-Ok-lock_cones-clause-stopped g c = (ingested g c).stopped
-
-pub returns-in-Ok-lock_cones-clause-exact : goal.returns-in-Ok-lock_cones-clause-exact
-returns-in-Ok-lock_cones-clause-exact g c = (ingested g c).exact
+pub returns-in-Ok-lock_cones : goal.returns-in-Ok-lock_cones
+returns-in-Ok-lock_cones g c = record {
+  later = (ingested g c).later;
+  traces_later = (ingested g c).traces_later;
+  read = (ingested g c).read;
+  stopped = (ingested g c).stopped;
+  exact = (ingested g c).exact;
+}
 
 pub lock_cones-requires-clause-numbers : goal.lock_cones-requires-clause-numbers
 lock_cones-requires-clause-numbers g c κs within = (c.busy_workers-crew.ensures.least, c.busy_workers-crew.ensures.most)

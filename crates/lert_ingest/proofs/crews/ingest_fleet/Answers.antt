@@ -17,25 +17,42 @@ use Rattle.lert_ingest.proofs.crews.ingest_fleet.Goals as goal
 pub line_up-crew-requires : goal.line_up-crew-requires
 line_up-crew-requires g c = subst (λ n. AreHired c.args.fleet c.args.settings.now n c.in-Ok.crew.items) (sym c.in-Ok.ensures.number) c.in-Ok.ensures.hired
 
-pub close-requires-clause-whole : goal.close-requires-clause-whole
-close-requires-clause-whole g c = is_whole c.args.fleet c.args.workers c.in-Err.pass c.in-Err.ensures.pass c.requires.numbers
+pub close-requires : goal.close-requires
+close-requires g c = record { belongs = c.in-Err.ensures.pass.belongs; whole = is_whole c.args.fleet c.args.workers c.in-Err.pass c.in-Err.ensures.pass c.requires.numbers }
 
 pub returns-in-Err : goal.returns-in-Err
 returns-in-Err g c = untouched g.S.Source.remaining g.S.Faulty.faults g.S.Faulty.mark g.B.Bay.files g.B.Bay.leaves g.B.Faulty.faults g.B.Faulty.mark c.args.settings.now c.args.workers
     c.args.traces.items c.args.traces.items (firsts_of c.args.fleet) c.close.result.items refl
     (closed_quiet _ c.args.fleet c.in-Err.pass c.close.result.items c.close.ensures c.in-Err.ensures.quiet)
 
-pub give_traces-requires-clause-free : goal.give_traces-requires-clause-free
-give_traces-requires-clause-free g c = subst (λ xs. AreFree xs) (sym c.deref_mut.ensures.value)
-    (free_in_line c.args.fleet c.args.settings.now c.line_up-crew.result.items c.line_up-crew.ensures.in_line)
+pub give_traces-requires : goal.give_traces-requires
+give_traces-requires g c = record {
+  some =
+      let number = ap (λ xs. length xs) c.deref_mut.ensures.value ∙ (c.line_up-crew.ensures.number ∙ c.in-Ok.ensures.number) in
+      let least = c.requires.least in omega (arith, number, least);
+  few = c.requires.few;
+  free = subst (λ xs. AreFree xs) (sym c.deref_mut.ensures.value) (free_in_line c.args.fleet c.args.settings.now c.line_up-crew.result.items c.line_up-crew.ensures.in_line);
+}
 
-pub take_traces-back-requires-clause-shared : goal.take_traces-back-requires-clause-shared
-take_traces-back-requires-clause-shared g c =
-    subst (AreShared c.in-Err-give_traces.given)
-    (sym (c.deref_mut-in-Err-give_traces.ensures.value ∙ (front_is c.give_traces.new.crew _ c.line_up-crew.result.len (c.give_traces.auto.crew ∙ c.deref_mut.ensures.len))))
-    (ready_shared c.args.fleet c.args.settings.now c.in-Err-give_traces.given c.args.traces.items c.give_traces.new.crew
-    (ready_now c.args.fleet c.args.settings.now c.args.workers c.in-Err-give_traces.given c.args.traces.items c.line_up-crew.result.items c.deref_mut.result.now c.give_traces.new.crew
-    c.deref_mut.ensures.value c.line_up-crew.ensures.in_line c.in-Err-give_traces.ensures.some_given))
+pub take_traces-back-requires : goal.take_traces-back-requires
+take_traces-back-requires g c = record {
+  some =
+      let shown = c.deref_mut-in-Err-give_traces.ensures.value
+      ∙ front_is c.give_traces.new.crew _ c.line_up-crew.result.len (c.give_traces.auto.crew ∙ c.deref_mut.ensures.len) in
+      let number = ap (λ xs. length xs) shown
+      ∙ (c.in-Err-give_traces.ensures.some_given.number
+      ∙ (ap (λ xs. length xs) c.deref_mut.ensures.value ∙ (c.line_up-crew.ensures.number ∙ c.in-Ok.ensures.number))) in
+      let least = c.requires.least in
+      omega (arith, number, least);
+  shared =
+      subst (AreShared c.in-Err-give_traces.given)
+      (sym (c.deref_mut-in-Err-give_traces.ensures.value ∙ (front_is c.give_traces.new.crew _ c.line_up-crew.result.len (c.give_traces.auto.crew ∙ c.deref_mut.ensures.len))))
+      (ready_shared c.args.fleet c.args.settings.now c.in-Err-give_traces.given c.args.traces.items c.give_traces.new.crew
+      (ready_now c.args.fleet c.args.settings.now c.args.workers c.in-Err-give_traces.given c.args.traces.items c.line_up-crew.result.items c.deref_mut.result.now c.give_traces.new.crew
+      c.deref_mut.ensures.value c.line_up-crew.ensures.in_line c.in-Err-give_traces.ensures.some_given));
+  empty = c.requires.empty;
+  room = let r = c.requires.room in let f = c.in-Err-give_traces.ensures.refused in omega (arith, r, f);
+}
 
 pub dismiss_all-pass-requires-clause-done : goal.dismiss_all-pass-requires-clause-done
 dismiss_all-pass-requires-clause-done g c =
@@ -72,8 +89,7 @@ pour-requires g c =
 
 pub close-requires-in-Err-give_traces-clause-whole : goal.close-requires-in-Err-give_traces-clause-whole
 close-requires-in-Err-give_traces-clause-whole g c =
-    is_whole c.args.fleet c.args.workers c.dismiss_all-pass.result
-    (pass_all c.args.fleet c.args.workers _ c.take_traces-back.new.crew
+    is_whole c.args.fleet c.args.workers c.dismiss_all-pass.result (pass_all c.args.fleet c.args.workers _ c.take_traces-back.new.crew
     (front_is c.take_traces-back.new.crew _ c.line_up-crew.result.len (c.take_traces-back.auto.crew ∙ c.deref_mut-in-Err-give_traces.ensures.len))
     ((subst (λ xs. WereTaken c.in-Err-give_traces.given xs c.take_traces-back.new.crew c.take_traces-back.result.items)
     (c.deref_mut-in-Err-give_traces.ensures.value ∙ (front_is c.give_traces.new.crew _ c.line_up-crew.result.len (c.give_traces.auto.crew ∙ c.deref_mut.ensures.len)))
@@ -106,22 +122,20 @@ returns-in-Err-give_traces g c = untouched g.S.Source.remaining g.S.Faulty.fault
     (c.deref_mut-in-Err-give_traces.ensures.value
     ∙ (front_is c.give_traces.new.crew _ c.line_up-crew.result.len (c.give_traces.auto.crew ∙ c.deref_mut.ensures.len)))
     c.take_traces-back.ensures.taken) (ready_quiet c.args.fleet c.args.settings.now c.args.workers c.in-Err-give_traces.given
-    c.args.traces.items c.give_traces.new.crew
-    (ready_now c.args.fleet c.args.settings.now c.args.workers c.in-Err-give_traces.given c.args.traces.items
+    c.args.traces.items c.give_traces.new.crew (ready_now c.args.fleet c.args.settings.now c.args.workers c.in-Err-give_traces.given c.args.traces.items
     c.line_up-crew.result.items c.deref_mut.result.now c.give_traces.new.crew c.deref_mut.ensures.value
     c.line_up-crew.ensures.in_line c.in-Err-give_traces.ensures.some_given)))))
 
 pub read_all-traces-requires-clause-may : goal.read_all-traces-requires-clause-may
-read_all-traces-requires-clause-may g c = λ κs h. may_run g.S.Source.remaining g.S.Faulty.faults g.S.Faulty.mark g.B.Bay.files g.B.Bay.leaves g.B.Faulty.faults g.B.Faulty.mark _
-    (record {
-      terms_are = λ _. refl;
-      stands = λ _ _ stands. stands;
-      stood = λ _ _ stands. stands;
-      stopped_is =
-          λ cone stopped running. false≢true (sym (ap is_stopped running) ∙ stopped);
-      over_is = λ _. refl;
-      refuses = λ _ _ _ _ why. (why.fault_is, why.too_many);
-    }) c.args.fleet
+read_all-traces-requires-clause-may g c = λ κs h. may_run g.S.Source.remaining g.S.Faulty.faults g.S.Faulty.mark g.B.Bay.files g.B.Bay.leaves g.B.Faulty.faults g.B.Faulty.mark _ (record {
+  terms_are = λ _. refl;
+  stands = λ _ _ stands. stands;
+  stood = λ _ _ stands. stands;
+  stopped_is =
+      λ cone stopped running. false≢true (sym (ap is_stopped running) ∙ stopped);
+  over_is = λ _. refl;
+  refuses = λ _ _ _ _ why. (why.fault_is, why.too_many);
+}) c.args.fleet
     c.args.settings.now c.args.workers c.len-count.result c.args.traces.items c.deref_mut-2.result.now
     (ap (λ xs. length xs) (c.deref_mut-2.ensures.value ∙ (front_is c.give_traces.new.crew _ c.line_up-crew.result.len (c.give_traces.auto.crew ∙ c.deref_mut.ensures.len)))
     ∙ (c.in_default.ensures.given.number ∙ (ap (λ xs. length xs) c.deref_mut.ensures.value ∙ (c.line_up-crew.ensures.number ∙ c.in-Ok.ensures.number))))
@@ -129,8 +143,7 @@ read_all-traces-requires-clause-may g c = λ κs h. may_run g.S.Source.remaining
     (subst (λ n. AreReady c.args.fleet c.args.settings.now n c.args.traces.items c.deref_mut-2.result.now)
     (sym (let k : c.len-count.result ≡ length c.args.traces.items = (let n = c.len-count.ensures in let o = c.args.traces.ok in omega (arith, n, o)) in k))
     (subst (AreReady c.args.fleet c.args.settings.now (length c.args.traces.items) c.args.traces.items)
-    (sym (c.deref_mut-2.ensures.value ∙ (front_is c.give_traces.new.crew _ c.line_up-crew.result.len
-    (c.give_traces.auto.crew ∙ c.deref_mut.ensures.len))))
+    (sym (c.deref_mut-2.ensures.value ∙ (front_is c.give_traces.new.crew _ c.line_up-crew.result.len (c.give_traces.auto.crew ∙ c.deref_mut.ensures.len))))
     (ready_now c.args.fleet c.args.settings.now c.args.workers (length c.args.traces.items) c.args.traces.items c.line_up-crew.result.items
     c.deref_mut.result.now c.give_traces.new.crew c.deref_mut.ensures.value c.line_up-crew.ensures.in_line c.in_default.ensures.given)))
     c.requires.new_cones c.requires.numbers c.requires.number c.requires.most (λ terms packet journaled. journaled)
@@ -150,8 +163,7 @@ dismiss_all-pass-requires-2-clause-done g c =
     subst (AreDone c.args.fleet) (sym (front_is c.read_all-traces.new.crew _ c.line_up-crew.result.len (c.read_all-traces.auto.crew ∙ c.deref_mut-2.ensures.len)))
     (done_taken c.args.fleet c.len-count.result c.read_all-traces.ensures.mids c.read_all-traces.new.crew c.read_all-traces.result.0.items c.read_all-traces.ensures.taken
     (ran_passes g.S.Source.remaining g.S.Faulty.faults g.S.Faulty.mark c.args.fleet c.args.settings.now c.len-count.result c.args.traces.items c.deref_mut-2.result.now
-    c.read_all-traces.ensures.mids c.read_all-traces.ensures.ran
-    (subst (λ n. AreReady c.args.fleet c.args.settings.now n c.args.traces.items c.deref_mut-2.result.now)
+    c.read_all-traces.ensures.mids c.read_all-traces.ensures.ran (subst (λ n. AreReady c.args.fleet c.args.settings.now n c.args.traces.items c.deref_mut-2.result.now)
     (sym (let k : c.len-count.result ≡ length c.args.traces.items = (let n = c.len-count.ensures in let o = c.args.traces.ok in omega (arith, n, o)) in k))
     (subst (AreReady c.args.fleet c.args.settings.now (length c.args.traces.items) c.args.traces.items)
     (sym (c.deref_mut-2.ensures.value ∙ (front_is c.give_traces.new.crew _ c.line_up-crew.result.len (c.give_traces.auto.crew ∙ c.deref_mut.ensures.len))))
@@ -159,8 +171,7 @@ dismiss_all-pass-requires-2-clause-done g c =
     c.give_traces.new.crew c.deref_mut.ensures.value c.line_up-crew.ensures.in_line c.in_default.ensures.given)))))
 
 pub close-cones-requires-clause-whole : goal.close-cones-requires-clause-whole
-close-cones-requires-clause-whole g c = is_whole c.args.fleet c.args.workers c.dismiss_all-pass-2.result
-    (pass_all c.args.fleet c.args.workers _ c.read_all-traces.new.crew
+close-cones-requires-clause-whole g c = is_whole c.args.fleet c.args.workers c.dismiss_all-pass-2.result (pass_all c.args.fleet c.args.workers _ c.read_all-traces.new.crew
     (front_is c.read_all-traces.new.crew _ c.line_up-crew.result.len (c.read_all-traces.auto.crew ∙ c.deref_mut-2.ensures.len))
     (c.read_all-traces.ensures.taken.number ∙ (c.read_all-traces.ensures.ran.as_many
     ∙ (ap (λ xs. length xs) (c.deref_mut-2.ensures.value
@@ -169,16 +180,15 @@ close-cones-requires-clause-whole g c = is_whole c.args.fleet c.args.workers c.d
     c.dismiss_all-pass-2.result c.dismiss_all-pass-2.ensures.pass) c.requires.numbers
 
 pub returns : goal.returns
-returns g c = answered g.S.Source.remaining g.S.Faulty.faults g.S.Faulty.mark g.B.Bay.files g.B.Bay.leaves g.B.Faulty.faults g.B.Faulty.mark _
-    (record {
-      terms_are = λ _. refl;
-      stands = λ _ _ stands. stands;
-      stood = λ _ _ stands. stands;
-      stopped_is =
-          λ cone stopped running. false≢true (sym (ap is_stopped running) ∙ stopped);
-      over_is = λ _. refl;
-      refuses = λ _ _ _ _ why. (why.fault_is, why.too_many);
-    }) c.args.fleet
+returns g c = answered g.S.Source.remaining g.S.Faulty.faults g.S.Faulty.mark g.B.Bay.files g.B.Bay.leaves g.B.Faulty.faults g.B.Faulty.mark _ (record {
+  terms_are = λ _. refl;
+  stands = λ _ _ stands. stands;
+  stood = λ _ _ stands. stands;
+  stopped_is =
+      λ cone stopped running. false≢true (sym (ap is_stopped running) ∙ stopped);
+  over_is = λ _. refl;
+  refuses = λ _ _ _ _ why. (why.fault_is, why.too_many);
+}) c.args.fleet
     c.args.settings.now c.args.workers c.len-count.result c.args.traces.items c.deref_mut-2.result.now
     (ap (λ xs. length xs) (c.deref_mut-2.ensures.value ∙ (front_is c.give_traces.new.crew _ c.line_up-crew.result.len (c.give_traces.auto.crew ∙ c.deref_mut.ensures.len)))
     ∙ (c.in_default.ensures.given.number ∙ (ap (λ xs. length xs) c.deref_mut.ensures.value ∙ (c.line_up-crew.ensures.number ∙ c.in-Ok.ensures.number))))
@@ -186,13 +196,11 @@ returns g c = answered g.S.Source.remaining g.S.Faulty.faults g.S.Faulty.mark g.
     (subst (λ n. AreReady c.args.fleet c.args.settings.now n c.args.traces.items c.deref_mut-2.result.now)
     (sym (let k : c.len-count.result ≡ length c.args.traces.items = (let n = c.len-count.ensures in let o = c.args.traces.ok in omega (arith, n, o)) in k))
     (subst (AreReady c.args.fleet c.args.settings.now (length c.args.traces.items) c.args.traces.items)
-    (sym (c.deref_mut-2.ensures.value ∙ (front_is c.give_traces.new.crew _ c.line_up-crew.result.len
-    (c.give_traces.auto.crew ∙ c.deref_mut.ensures.len))))
+    (sym (c.deref_mut-2.ensures.value ∙ (front_is c.give_traces.new.crew _ c.line_up-crew.result.len (c.give_traces.auto.crew ∙ c.deref_mut.ensures.len))))
     (ready_now c.args.fleet c.args.settings.now c.args.workers (length c.args.traces.items) c.args.traces.items c.line_up-crew.result.items
     c.deref_mut.result.now c.give_traces.new.crew c.deref_mut.ensures.value c.line_up-crew.ensures.in_line c.in_default.ensures.given)))
     c.requires.new_cones c.requires.numbers c.requires.number c.requires.least c.read_all-traces.new.crew _
-    c.read_all-traces.result.0.items c.read_all-traces.result.1 c.earlier-first.result c.read_all-traces.ensures
-    (front_is c.read_all-traces.new.crew _ c.line_up-crew.result.len
+    c.read_all-traces.result.0.items c.read_all-traces.result.1 c.earlier-first.result c.read_all-traces.ensures (front_is c.read_all-traces.new.crew _ c.line_up-crew.result.len
     (c.read_all-traces.auto.crew ∙ c.deref_mut-2.ensures.len)) c.dismiss_all-pass-2.result c.close-cones.result.items
     c.close-cones.ensures c.dismiss_all-pass-2.ensures.shows (subst (AreSeen g.B.Bay.files g.B.Faulty.faults g.B.Faulty.mark) c.deref.ensures.value c.first_of_cones.ensures.seen)
     (c.earlier-first.ensures ∙ ap (earlier c.read_all-traces.result.1) (c.first_of_cones.ensures.first ∙ ap (λ xs. earliest (fault_at xs) (length xs)) c.deref.ensures.value))
@@ -212,34 +220,8 @@ pub read_all-traces-requires-send-H : goal.read_all-traces-requires-send-H
 read_all-traces-requires-send-H g c κs within =
     param_send _ _ (arg_send _ no _ (cone_send _ _ _ g.B.Bay g.B.Faulty g.T.CountTable c.type_bounds.send-B c.type_bounds.send-T c.type_bounds.send-T-Cursor))
 
-pub make_crew-requires-clause-some : goal.make_crew-requires-clause-some
-make_crew-requires-clause-some g c = c.requires.least
-
-pub make_crew-requires-clause-most : goal.make_crew-requires-clause-most
-make_crew-requires-clause-most g c = c.requires.most
-
-pub make_crew-requires-clause-pass : goal.make_crew-requires-clause-pass
-make_crew-requires-clause-pass g c = c.requires.pass
-
-pub make_crew-requires-clause-quiet : goal.make_crew-requires-clause-quiet
-make_crew-requires-clause-quiet g c = c.requires.quiet
-
-pub give_traces-requires-clause-few : goal.give_traces-requires-clause-few
-give_traces-requires-clause-few g c = c.requires.few
-
-pub give_traces-requires-clause-some : goal.give_traces-requires-clause-some
-give_traces-requires-clause-some g c =
-    let number = ap (λ xs. length xs) c.deref_mut.ensures.value ∙ (c.line_up-crew.ensures.number ∙ c.in-Ok.ensures.number) in
-    let least = c.requires.least in omega (arith, number, least)
-
-pub take_traces-back-requires-clause-empty : goal.take_traces-back-requires-clause-empty
-take_traces-back-requires-clause-empty g c = c.requires.empty
-
-pub take_traces-back-requires-clause-room : goal.take_traces-back-requires-clause-room
-take_traces-back-requires-clause-room g c = let r = c.requires.room in let f = c.in-Err-give_traces.ensures.refused in omega (arith, r, f)
-
-pub close-requires-clause-belongs : goal.close-requires-clause-belongs
-close-requires-clause-belongs g c = c.in-Err.ensures.pass.belongs
+pub make_crew-requires : goal.make_crew-requires
+make_crew-requires g c = record { some = c.requires.least; most = c.requires.most; pass = c.requires.pass; quiet = c.requires.quiet }
 
 pub close-requires-in-Err-give_traces-clause-belongs : goal.close-requires-in-Err-give_traces-clause-belongs
 close-requires-in-Err-give_traces-clause-belongs g c = c.dismiss_all-pass.ensures.pass.belongs
@@ -271,16 +253,6 @@ destroy_empty-requires-2 g c =
     let items = c.give_traces.new.traces.ok in
     let none = ap (λ xs. length xs) c.in_default.ensures.emptied in
     omega (arith, items, none)
-
-pub take_traces-back-requires-clause-some : goal.take_traces-back-requires-clause-some
-take_traces-back-requires-clause-some g c =
-    let shown = c.deref_mut-in-Err-give_traces.ensures.value
-    ∙ front_is c.give_traces.new.crew _ c.line_up-crew.result.len (c.give_traces.auto.crew ∙ c.deref_mut.ensures.len) in
-    let number = ap (λ xs. length xs) shown
-    ∙ (c.in-Err-give_traces.ensures.some_given.number
-    ∙ (ap (λ xs. length xs) c.deref_mut.ensures.value ∙ (c.line_up-crew.ensures.number ∙ c.in-Ok.ensures.number))) in
-    let least = c.requires.least in
-    omega (arith, number, least)
 
 pub read_all-traces-requires-clause-some : goal.read_all-traces-requires-clause-some
 read_all-traces-requires-clause-some g c κs within =

@@ -15,17 +15,5 @@ new-requires-clause-numbers g c κs within = c.requires.numbers
 pub new-requires-clause-opened : goal.new-requires-clause-opened
 new-requires-clause-opened g c κs within = c.requires.opened
 
-pub returns-clause-locks : goal.returns-clause-locks
-returns-clause-locks g c = c.new.ensures.locks
-
-pub returns-clause-pass : goal.returns-clause-pass
-returns-clause-pass g c = c.new.ensures.pass
-
-pub returns-clause-belongs : goal.returns-clause-belongs
-returns-clause-belongs g c = c.new.ensures.belongs
-
-pub returns-clause-whole : goal.returns-clause-whole
-returns-clause-whole g c = c.new.ensures.whole
-
-pub returns-clause-back : goal.returns-clause-back
-returns-clause-back g c = c.new.ensures.back
+pub returns : goal.returns
+returns g c = record { locks = c.new.ensures.locks; pass = c.new.ensures.pass; belongs = c.new.ensures.belongs; whole = c.new.ensures.whole; back = c.new.ensures.back }

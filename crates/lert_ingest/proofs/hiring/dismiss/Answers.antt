@@ -58,19 +58,17 @@ loop-worker-smaller g c =
 pub destroy_empty-requires : goal.destroy_empty-requires
 destroy_empty-requires g c = c.in_default.ensures.cases.1
 
-pub returns-clause-pass : goal.returns-clause-pass
-returns-clause-pass g c = record {
-  belongs = c.loop-worker.invariant.belongs;
-  lo_is = c.loop-worker.invariant.lo_is;
-  hi_is = none_behind c.loop-worker.pass.hi (length c.loop-worker.crew.items) (c.args.pass.hi + length c.args.crew.items)
-      (sym c.loop-worker.crew.ok.0 ∙ c.in_default.ensures.cases.0) c.loop-worker.invariant.total;
+pub returns : goal.returns
+returns g c = record {
+  pass = record {
+    belongs = c.loop-worker.invariant.belongs;
+    lo_is = c.loop-worker.invariant.lo_is;
+    hi_is = none_behind c.loop-worker.pass.hi (length c.loop-worker.crew.items) (c.args.pass.hi + length c.args.crew.items)
+        (sym c.loop-worker.crew.ok.0 ∙ c.in_default.ensures.cases.0) c.loop-worker.invariant.total;
+  };
+  quiet = λ one all. (c.loop-worker.invariant.quiet one all).0;
+  shows = λ brought turned one all.
+      let top = none_behind c.loop-worker.pass.hi (length c.loop-worker.crew.items) (c.args.pass.hi + length c.args.crew.items)
+      (sym c.loop-worker.crew.ok.0 ∙ c.in_default.ensures.cases.0) c.loop-worker.invariant.total in
+      subst (λ n. Shows brought turned c.args.pass.lo n c.loop-worker.pass) top (c.loop-worker.invariant.shows brought turned one all).0;
 }
-
-pub returns-clause-quiet : goal.returns-clause-quiet
-returns-clause-quiet g c = λ one all. (c.loop-worker.invariant.quiet one all).0
-
-pub returns-clause-shows : goal.returns-clause-shows
-returns-clause-shows g c = λ brought turned one all.
-    let top = none_behind c.loop-worker.pass.hi (length c.loop-worker.crew.items) (c.args.pass.hi + length c.args.crew.items)
-    (sym c.loop-worker.crew.ok.0 ∙ c.in_default.ensures.cases.0) c.loop-worker.invariant.total in
-    subst (λ n. Shows brought turned c.args.pass.lo n c.loop-worker.pass) top (c.loop-worker.invariant.shows brought turned one all).0

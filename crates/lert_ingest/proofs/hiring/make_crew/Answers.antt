@@ -27,29 +27,65 @@ dismiss-requires-clause-leaving g c =
     hired_leave c.args.fleet.now c.args.settings.now c.args.workers (c.hire.new.pass.hi + length c.loop-number.crew.items) c.loop-number.crew.items c.loop-number.invariant.hired
     (let t = c.loop-number.invariant.total in let h = c.in-Err.ensures.back.hi_is in let test = c.loop-number-test.true in omega (arith, t, h, test))
 
-pub returns-in-Err-clause-quiet : goal.returns-in-Err-clause-quiet
-returns-in-Err-clause-quiet g c = c.dismiss.ensures.quiet c.in-Err.ensures.quiet
-    (hired_quiet c.args.fleet.now c.args.settings.now c.args.workers c.loop-number.crew.items c.loop-number.invariant.hired (let t = c.loop-number.invariant.total in omega (arith, t)))
+pub returns-in-Err : goal.returns-in-Err
+returns-in-Err g c = record {
+  number = tt;
+  hired = tt;
+  pass =
+      let top : c.hire.new.pass.hi + length c.loop-number.crew.items ≡ c.args.workers =
+      (let t = c.loop-number.invariant.total in let h = c.in-Err.ensures.back.hi_is in let test = c.loop-number-test.true in omega (arith, t, h, test)) in
+      let all = c.dismiss.ensures.pass in
+      record { belongs = all.belongs; lo_is = all.lo_is ∙ c.in-Err.ensures.back.lo_is; hi_is = all.hi_is ∙ top };
+  quiet = c.dismiss.ensures.quiet c.in-Err.ensures.quiet
+      (hired_quiet c.args.fleet.now c.args.settings.now c.args.workers c.loop-number.crew.items c.loop-number.invariant.hired (let t = c.loop-number.invariant.total in omega (arith, t)));
+}
 
-pub dismiss-requires-in-Err-new-clause-leaving : goal.dismiss-requires-in-Err-new-clause-leaving
-dismiss-requires-in-Err-new-clause-leaving g c =
-    hired_leave c.args.fleet.now c.args.settings.now c.args.workers (c.in-Err-new.pass.hi + length c.loop-number.crew.items) c.loop-number.crew.items c.loop-number.invariant.hired
-    (let t = c.loop-number.invariant.total in let h = c.loop-number.invariant.pass_is.hi_is in let b =
-    ap (λ (p : FleetPassSight g.row.H.Denot ConeFault). p.hi) c.in-Err-new.ensures.back in
-    omega (arith, t, h, b))
+pub dismiss-requires-in-Err-new : goal.dismiss-requires-in-Err-new
+dismiss-requires-in-Err-new g c = record {
+  belongs = subst (λ (p : FleetPassSight g.row.H.Denot ConeFault). IsPassOf p c.args.fleet.now) (sym c.in-Err-new.ensures.back) c.loop-number.invariant.pass_is.belongs;
+  leaving =
+      hired_leave c.args.fleet.now c.args.settings.now c.args.workers (c.in-Err-new.pass.hi + length c.loop-number.crew.items) c.loop-number.crew.items c.loop-number.invariant.hired
+      (let t = c.loop-number.invariant.total in let h = c.loop-number.invariant.pass_is.hi_is in let b =
+      ap (λ (p : FleetPassSight g.row.H.Denot ConeFault). p.hi) c.in-Err-new.ensures.back in
+      omega (arith, t, h, b));
+}
 
-pub returns-in-Ok-new-clause-hired : goal.returns-in-Ok-new-clause-hired
-returns-in-Ok-new-clause-hired g c =
-    let held = c.loop-number.invariant in
-    let last : c.loop-number.number ≡ 1 = (let l = held.low in let f = c.loop-number-test.false in omega (arith, l, f)) in
-    subst (AreHired c.args.fleet.now c.args.settings.now c.args.workers) (sym c.push_reserved-in-Ok-new.ensures.items)
-    (hired_push c.args.fleet.now c.args.settings.now c.args.workers c.loop-number.crew.items c.in-Ok-new.worker 0 held.hired
-    (hired_last c.args.fleet.now c.args.settings.now c.loop-number.pass c.in-Ok-new.worker (subst (λ n. IsPassFrom c.args.fleet.now 0 n c.loop-number.pass) last held.pass_is) held.quiet
-    c.in-Ok-new.ensures.made) (let t = held.total in omega (arith, t, last)))
+pub returns-in-Ok-new : goal.returns-in-Ok-new
+returns-in-Ok-new g c = record {
+  number =
+      let pushed = ap (λ (xs : List _). length xs) c.push_reserved-in-Ok-new.ensures.items in
+      let sum = length-append c.loop-number.crew.items (c.in-Ok-new.worker ∷ []) in
+      let t = c.loop-number.invariant.total in
+      let l = c.loop-number.invariant.low in
+      let f = c.loop-number-test.false in
+      omega (arith, pushed, sum, t, l, f);
+  hired =
+      let held = c.loop-number.invariant in
+      let last : c.loop-number.number ≡ 1 = (let l = held.low in let f = c.loop-number-test.false in omega (arith, l, f)) in
+      subst (AreHired c.args.fleet.now c.args.settings.now c.args.workers) (sym c.push_reserved-in-Ok-new.ensures.items)
+      (hired_push c.args.fleet.now c.args.settings.now c.args.workers c.loop-number.crew.items c.in-Ok-new.worker 0 held.hired
+      (hired_last c.args.fleet.now c.args.settings.now c.loop-number.pass c.in-Ok-new.worker (subst (λ n. IsPassFrom c.args.fleet.now 0 n c.loop-number.pass) last held.pass_is) held.quiet
+      c.in-Ok-new.ensures.made) (let t = held.total in omega (arith, t, last)));
+  pass = tt;
+  quiet = tt;
+}
 
-pub returns-in-Err-new-clause-quiet : goal.returns-in-Err-new-clause-quiet
-returns-in-Err-new-clause-quiet g c = c.dismiss-in-Err-new.ensures.quiet (subst IsQuiet (sym c.in-Err-new.ensures.back) c.loop-number.invariant.quiet)
-    (hired_quiet c.args.fleet.now c.args.settings.now c.args.workers c.loop-number.crew.items c.loop-number.invariant.hired (let t = c.loop-number.invariant.total in omega (arith, t)))
+pub returns-in-Err-new : goal.returns-in-Err-new
+returns-in-Err-new g c = record {
+  number = tt;
+  hired = tt;
+  pass =
+      let back = c.in-Err-new.ensures.back in
+      let all = c.dismiss-in-Err-new.ensures.pass in
+      record {
+        belongs = all.belongs;
+        lo_is = all.lo_is ∙ (ap (λ (p : FleetPassSight g.row.H.Denot ConeFault). p.lo) back ∙ c.loop-number.invariant.pass_is.lo_is);
+        hi_is = all.hi_is ∙ (ap (λ (p : FleetPassSight g.row.H.Denot ConeFault). p.hi + length c.loop-number.crew.items) back
+            ∙ (let t = c.loop-number.invariant.total in let h = c.loop-number.invariant.pass_is.hi_is in omega (arith, t, h)));
+      };
+  quiet = c.dismiss-in-Err-new.ensures.quiet (subst IsQuiet (sym c.in-Err-new.ensures.back) c.loop-number.invariant.quiet)
+      (hired_quiet c.args.fleet.now c.args.settings.now c.args.workers c.loop-number.crew.items c.loop-number.invariant.hired (let t = c.loop-number.invariant.total in omega (arith, t)));
+}
 
 pub loop-number-init : goal.loop-number-init
 loop-number-init g c = record {
@@ -61,16 +97,14 @@ loop-number-init g c = record {
   room = c.in-Ok.ensures.capacity;
 }
 
-pub hire-requires-clause-some : goal.hire-requires-clause-some
-hire-requires-clause-some g c = let test = c.loop-number-test.true in omega (arith, test)
-
-pub hire-requires-clause-pass : goal.hire-requires-clause-pass
-hire-requires-clause-pass g c =
-    let same : c.loop-number.number ≡ c.loop-number.number - 1 + 1 = (let l = c.loop-number.invariant.low in omega (arith, l)) in
-    subst (λ n. IsPassFrom c.args.fleet.now 0 n c.loop-number.pass) same c.loop-number.invariant.pass_is
-
-pub hire-requires-clause-quiet : goal.hire-requires-clause-quiet
-hire-requires-clause-quiet g c = c.loop-number.invariant.quiet
+pub hire-requires : goal.hire-requires
+hire-requires g c = record {
+  some = let test = c.loop-number-test.true in omega (arith, test);
+  pass =
+      let same : c.loop-number.number ≡ c.loop-number.number - 1 + 1 = (let l = c.loop-number.invariant.low in omega (arith, l)) in
+      subst (λ n. IsPassFrom c.args.fleet.now 0 n c.loop-number.pass) same c.loop-number.invariant.pass_is;
+  quiet = c.loop-number.invariant.quiet;
+}
 
 pub overflow_step-number : goal.overflow_step-number
 overflow_step-number g c = c.loop-number.invariant.low
@@ -89,63 +123,5 @@ push_reserved-requires-in-Ok-new g c = has_room c.loop-number.crew.items (vec_le
 pub dismiss-requires-clause-belongs : goal.dismiss-requires-clause-belongs
 dismiss-requires-clause-belongs g c = c.in-Err.ensures.back.belongs
 
-pub dismiss-requires-in-Err-new-clause-belongs : goal.dismiss-requires-in-Err-new-clause-belongs
-dismiss-requires-in-Err-new-clause-belongs g c =
-    subst (λ (p : FleetPassSight g.row.H.Denot ConeFault). IsPassOf p c.args.fleet.now) (sym c.in-Err-new.ensures.back) c.loop-number.invariant.pass_is.belongs
-
-pub returns-in-Err-clause-number : goal.returns-in-Err-clause-number
-returns-in-Err-clause-number g c = tt
-
-pub returns-in-Err-clause-hired : goal.returns-in-Err-clause-hired
-returns-in-Err-clause-hired g c = tt
-
-pub returns-in-Err-clause-pass : goal.returns-in-Err-clause-pass
-returns-in-Err-clause-pass g c =
-    let top : c.hire.new.pass.hi + length c.loop-number.crew.items ≡ c.args.workers =
-    (let t = c.loop-number.invariant.total in let h = c.in-Err.ensures.back.hi_is in let test = c.loop-number-test.true in omega (arith, t, h, test)) in
-    let all = c.dismiss.ensures.pass in
-    record { belongs = all.belongs; lo_is = all.lo_is ∙ c.in-Err.ensures.back.lo_is; hi_is = all.hi_is ∙ top }
-
-pub returns-in-Err-new-clause-number : goal.returns-in-Err-new-clause-number
-returns-in-Err-new-clause-number g c = tt
-
-pub returns-in-Err-new-clause-hired : goal.returns-in-Err-new-clause-hired
-returns-in-Err-new-clause-hired g c = tt
-
-pub returns-in-Err-new-clause-pass : goal.returns-in-Err-new-clause-pass
-returns-in-Err-new-clause-pass g c =
-    let back = c.in-Err-new.ensures.back in
-    let all = c.dismiss-in-Err-new.ensures.pass in
-    record {
-      belongs = all.belongs;
-      lo_is = all.lo_is ∙ (ap (λ (p : FleetPassSight g.row.H.Denot ConeFault). p.lo) back ∙ c.loop-number.invariant.pass_is.lo_is);
-      hi_is = all.hi_is ∙ (ap (λ (p : FleetPassSight g.row.H.Denot ConeFault). p.hi + length c.loop-number.crew.items) back
-          ∙ (let t = c.loop-number.invariant.total in let h = c.loop-number.invariant.pass_is.hi_is in omega (arith, t, h)));
-    }
-
-pub returns-in-Ok-new-clause-number : goal.returns-in-Ok-new-clause-number
-returns-in-Ok-new-clause-number g c =
-    let pushed = ap (λ (xs : List _). length xs) c.push_reserved-in-Ok-new.ensures.items in
-    let sum = length-append c.loop-number.crew.items (c.in-Ok-new.worker ∷ []) in
-    let t = c.loop-number.invariant.total in
-    let l = c.loop-number.invariant.low in
-    let f = c.loop-number-test.false in
-    omega (arith, pushed, sum, t, l, f)
-
-pub returns-in-Ok-new-clause-pass : goal.returns-in-Ok-new-clause-pass
-returns-in-Ok-new-clause-pass g c = tt
-
-pub returns-in-Ok-new-clause-quiet : goal.returns-in-Ok-new-clause-quiet
-returns-in-Ok-new-clause-quiet g c = tt
-
-pub returns-in_default-clause-number : goal.returns-in_default-clause-number
-returns-in_default-clause-number g c = tt
-
-pub returns-in_default-clause-hired : goal.returns-in_default-clause-hired
-returns-in_default-clause-hired g c = tt
-
-pub returns-in_default-clause-pass : goal.returns-in_default-clause-pass
-returns-in_default-clause-pass g c = c.requires.pass
-
-pub returns-in_default-clause-quiet : goal.returns-in_default-clause-quiet
-returns-in_default-clause-quiet g c = c.requires.quiet
+pub returns-in_default : goal.returns-in_default
+returns-in_default g c = record { number = tt; hired = tt; pass = c.requires.pass; quiet = c.requires.quiet }

@@ -10,14 +10,20 @@ use Rattle.lert_ingest.proofs.sharing.give_one.Goals as goal
 pub give-requires-clause-most : goal.give-requires-clause-most
 give-requires-clause-most g c = c.requires.most
 
-pub returns-in-Ok-clause-back : goal.returns-in-Ok-clause-back
-returns-in-Ok-clause-back g c = tt
+pub returns-in-Ok : goal.returns-in-Ok
+returns-in-Ok g c = record {
+  given = given_one c.args.trace c.args.source c.args.crew.now c.index-crew-by.result c.give.new.self c.new.result
+      (mod_below c.args.trace (length c.args.crew.now) c.requires.some) c.new.ensures c.in-Ok.ensures.given;
+  back = tt;
+  unchanged = tt;
+}
 
-pub returns-in-Ok-clause-unchanged : goal.returns-in-Ok-clause-unchanged
-returns-in-Ok-clause-unchanged g c = tt
-
-pub returns-in-Err-clause-given : goal.returns-in-Err-clause-given
-returns-in-Err-clause-given g c = tt
+pub returns-in-Err : goal.returns-in-Err
+returns-in-Err g c = record {
+  given = tt;
+  back = c.into_source.ensures ∙ ap (λ (r : Reading g.row.S.Denot). r.source) (c.in-Err.ensures.back.0 ∙ c.new.ensures);
+  unchanged = set_back c.args.crew.now _ c.index-crew-by.result c.give.new.self c.in-Err.ensures.back.1;
+}
 
 pub nonzero_rem-by : goal.nonzero_rem-by
 nonzero_rem-by g c = c.requires.some
@@ -30,16 +36,5 @@ offset_bounds-crew-by g c =
 
 pub give-requires-clause-above : goal.give-requires-clause-above
 give-requires-clause-above g c =
-    c.requires.above (c.args.trace % length c.args.crew.now) _
-    (slice_get-get_or c.args.crew.now (c.args.trace % length c.args.crew.now) c.index-crew-by.result
+    c.requires.above (c.args.trace % length c.args.crew.now) _ (slice_get-get_or c.args.crew.now (c.args.trace % length c.args.crew.now) c.index-crew-by.result
     (mod_below c.args.trace (length c.args.crew.now) c.requires.some))
-
-pub returns-in-Ok-clause-given : goal.returns-in-Ok-clause-given
-returns-in-Ok-clause-given g c = given_one c.args.trace c.args.source c.args.crew.now c.index-crew-by.result c.give.new.self c.new.result
-    (mod_below c.args.trace (length c.args.crew.now) c.requires.some) c.new.ensures c.in-Ok.ensures.given
-
-pub returns-in-Err-clause-back : goal.returns-in-Err-clause-back
-returns-in-Err-clause-back g c = c.into_source.ensures ∙ ap (λ (r : Reading g.row.S.Denot). r.source) (c.in-Err.ensures.back.0 ∙ c.new.ensures)
-
-pub returns-in-Err-clause-unchanged : goal.returns-in-Err-clause-unchanged
-returns-in-Err-clause-unchanged g c = set_back c.args.crew.now _ c.index-crew-by.result c.give.new.self c.in-Err.ensures.back.1

@@ -6,7 +6,7 @@ use Rattle.lert_args.specs.declared.line.Line.{Line}
 use Rattle.lert_args.specs.declared.line.Line.TheVariants.{Run, Recover, Gen, Drill}
 use Rattle.lert_args.specs.Word.{word_at}
 use Rattle.lert_args.proofs.SoundLines.{AreBelow, along_drill, along_gen, along_recover, along_run, command_number, drill_keeps, gen_keeps, recover_placed, run_keeps, run_placed, word_at-slice_get}
-use Rattle.lert_top.specs.drills.Drilled.{DrillShows}
+use Rattle.lert_top.specs.drills.Drilled.{DrillShows, drill_memory}
 use Rattle.lert_ingest.specs.declared.status.Status.TheVariants.{Done, OutOfMemory, PlaceFault, Usage}
 use Rattle.lert_ingest.specs.Bays.{AreLater}
 use Rattle.lert_top.specs.cones.Asked.{IsAsked, IsAskedForBays}
@@ -55,6 +55,23 @@ all_back g place none = (
   none_back (g.P.Place.handed_bays place) (no_bay g place none) (g.P.Place.returned_bay place) g.P.Bay.Faulty.mark,
 )
 
+-- what is said of another command than that of the line
+in_run : {P : Type 0} (g : given.Over) (c : goal.After-drop-traces-inside g) (other : Line) → command c.args.words.now ≡ Some other → eqb 0 (command_number other) ≡ false → P
+in_run g c other said apart =
+    of_another (command c.args.words.now) c.in-Ok.line (Run c.in-Run.settings c.in-Run.workers c.in-Run.dir c.in-Run.traces) other c.in-Ok.ensures.line c.in-Run.is said apart
+
+in_recover : {P : Type 0} (g : given.Over) (c : goal.After-recover_to g) (other : Line) → command c.args.words.now ≡ Some other → eqb 1 (command_number other) ≡ false → P
+in_recover g c other said apart =
+    of_another (command c.args.words.now) c.in-Ok.line (Recover c.in-Recover.settings c.in-Recover.dir) other c.in-Ok.ensures.line c.in-Recover.is said apart
+
+in_gen : {P : Type 0} (g : given.Over) (c : goal.After-gen_to g) (other : Line) → command c.args.words.now ≡ Some other → eqb 2 (command_number other) ≡ false → P
+in_gen g c other said apart =
+    of_another (command c.args.words.now) c.in-Ok.line (Gen c.in-Gen.seed c.in-Gen.events) other c.in-Ok.ensures.line c.in-Gen.is said apart
+
+in_drill : {P : Type 0} (g : given.Over) (c : goal.After-drill g) (other : Line) → command c.args.words.now ≡ Some other → eqb 3 (command_number other) ≡ false → P
+in_drill g c other said apart =
+    of_another (command c.args.words.now) c.in-Ok.line (Drill c.in-Drill.settings c.in-Drill.workers c.in-Drill.seed c.in-Drill.events) other c.in-Ok.ensures.line c.in-Drill.is said apart
+
 pub run_line-requires-clause-dir : goal.run_line-requires-clause-dir
 run_line-requires-clause-dir g c κs within =
     (run_placed c.args.words.now c.in-Ok.line c.in-Ok.ensures.line c.in-Run.settings c.in-Run.workers c.in-Run.dir c.in-Run.traces c.in-Run.is).dir_in
@@ -67,11 +84,34 @@ run_line-requires-clause-within g c κs within =
 pub word-requires : goal.word-requires
 word-requires g c = recover_placed c.args.words.now c.in-Ok.line c.in-Ok.ensures.line c.in-Recover.settings c.in-Recover.dir c.in-Recover.is
 
-pub returns-in-Run-clause-ran : goal.returns-in-Run-clause-ran
-returns-in-Run-clause-ran g c = λ settings workers dir traces spelled sound.
-    along_run (command c.args.words.now) c.in-Ok.line c.in-Ok.ensures.line Ran
-    c.in-Run.settings settings c.in-Run.workers workers c.in-Run.dir dir c.in-Run.traces traces c.in-Run.is spelled
-    (subst (Ran c.in-Run.settings c.in-Run.workers c.in-Run.dir) c.as_slice.ensures c.run_line.ensures.ran)
+-- a run
+pub returns-in-Run : goal.returns-in-Run
+returns-in-Run g c = record {
+  usage = λ rule is. absurd (c.run_line.ensures.no_usage rule is);
+  at_usage = λ rule broken. of_no_rule (usage c.args.words.now) rule c.in-Ok.ensures.sound broken;
+  asked = λ settings workers dir traces spelled sound.
+      let words = c.args.words.now in
+      along_run (command words) c.in-Ok.line c.in-Ok.ensures.line
+      (λ (s : Numbers) (w d : ℕ) (t : List ℕ). IsAsked (names_of words t) (word_at words d) (2 ^ s.cone_bits) (g.P.Place.asked c.run_line.new.place) c.run_line.result)
+      c.in-Run.settings settings c.in-Run.workers workers c.in-Run.dir dir c.in-Run.traces traces c.in-Run.is spelled
+      (subst (λ (t : List ℕ). IsAsked (names_of words t) (word_at words c.in-Run.dir) (2 ^ c.in-Run.settings.cone_bits) (g.P.Place.asked c.run_line.new.place) c.run_line.result)
+      c.as_slice.ensures c.run_line.ensures.asked);
+  place_fault = c.run_line.ensures.place_fault;
+  returned = λ sound. c.run_line.ensures.returned;
+  ran = λ settings workers dir traces spelled sound.
+      along_run (command c.args.words.now) c.in-Ok.line c.in-Ok.ensures.line Ran
+      c.in-Run.settings settings c.in-Run.workers workers c.in-Run.dir dir c.in-Run.traces traces c.in-Run.is spelled
+      (subst (Ran c.in-Run.settings c.in-Run.workers c.in-Run.dir) c.as_slice.ensures c.run_line.ensures.ran);
+  closed = λ settings workers dir traces spelled sound.
+      along_run (command c.args.words.now) c.in-Ok.line c.in-Ok.ensures.line
+      (λ (s : Numbers) (w d : ℕ) (t : List ℕ). c.run_line.result ≡ Done → AreReturnedClosed g.P.Bay.Bay.files g.P.Bay.Bay.leaves s (g.P.Place.returned_bay c.run_line.new.place))
+      c.in-Run.settings settings c.in-Run.workers workers c.in-Run.dir dir c.in-Run.traces traces c.in-Run.is spelled c.run_line.ensures.closed;
+  asked_again = λ settings dir spelled sound. in_run g c (Recover settings dir) spelled refl;
+  recovered = λ settings dir spelled sound. in_run g c (Recover settings dir) spelled refl;
+  each_moment = λ settings dir spelled sound. in_run g c (Recover settings dir) spelled refl;
+  generated = λ seed events spelled sound. in_run g c (Gen seed events) spelled refl;
+  drilled = λ settings workers seed events spelled sound. in_run g c (Drill settings workers seed events) spelled refl;
+}
   where
     Ran : Numbers → ℕ → ℕ → List ℕ → Type 0
     Ran s w d t = c.run_line.result ≢ PlaceFault → (backs : List g.row.P-Trace.Denot) × (bays : List g.row.P-Bay.Denot)
@@ -83,44 +123,69 @@ returns-in-Run-clause-ran g c = λ settings workers dir traces spelled sound.
         g.P.Bay.Bay.files g.P.Bay.Faulty.faults s w (g.P.Place.handed_traces c.run_line.new.place) backs c.args.out.now c.run_line.new.out
         (g.P.Place.handed_bays c.run_line.new.place) bays c.run_line.result
 
-pub returns-in-Run-clause-closed : goal.returns-in-Run-clause-closed
-returns-in-Run-clause-closed g c = λ settings workers dir traces spelled sound.
-    along_run (command c.args.words.now) c.in-Ok.line c.in-Ok.ensures.line
-    (λ (s : Numbers) (w d : ℕ) (t : List ℕ). c.run_line.result ≡ Done → AreReturnedClosed g.P.Bay.Bay.files g.P.Bay.Bay.leaves s (g.P.Place.returned_bay c.run_line.new.place))
-    c.in-Run.settings settings c.in-Run.workers workers c.in-Run.dir dir c.in-Run.traces traces c.in-Run.is spelled c.run_line.ensures.closed
+pub returns-in-Recover : goal.returns-in-Recover
+returns-in-Recover g c = record {
+  usage = λ rule is. absurd (c.recover_to.ensures.no_usage rule is);
+  at_usage = λ rule broken. of_no_rule (usage c.args.words.now) rule c.in-Ok.ensures.sound broken;
+  asked = λ settings workers dir traces spelled sound. in_recover g c (Run settings workers dir traces) spelled refl;
+  place_fault = λ is.
+      let found = c.recover_to.ensures.place_fault is in (
+        found.0,
+        found.1,
+        none_back_same (g.P.Place.handed_traces c.recover_to.new.place) (c.recover_to.ensures.traces ∙ no_trace g c.args.place.now c.requires.asked) (g.P.Place.returned_trace c.recover_to.new.place),
+        found.2,
+      );
+  returned = λ sound. (
+    none_back (g.P.Place.handed_traces c.recover_to.new.place) (c.recover_to.ensures.traces ∙ no_trace g c.args.place.now c.requires.asked) (g.P.Place.returned_trace c.recover_to.new.place)
+        g.P.Trace.Faulty.mark,
+    c.recover_to.ensures.returned,
+  );
+  ran = λ settings workers dir traces spelled sound. in_recover g c (Run settings workers dir traces) spelled refl;
+  closed = λ settings workers dir traces spelled sound. in_recover g c (Run settings workers dir traces) spelled refl;
+  asked_again = λ settings dir spelled sound.
+      let words = c.args.words.now in
+      let name = word_at-slice_get words c.in-Recover.dir c.word.result.now c.word.ensures in
+      along_recover (command words) c.in-Ok.line c.in-Ok.ensures.line
+      (λ s d. IsAskedForBays (word_at words d) (2 ^ s.cone_bits) [] (g.P.Place.asked c.recover_to.new.place) c.recover_to.result)
+      c.in-Recover.settings settings c.in-Recover.dir dir c.in-Recover.is spelled
+      (subst (λ xs. IsAskedForBays (word_at words c.in-Recover.dir) (2 ^ c.in-Recover.settings.cone_bits) xs (g.P.Place.asked c.recover_to.new.place) c.recover_to.result) c.requires.asked
+      (subst (λ (d : List ℕ). IsAskedForBays d (2 ^ c.in-Recover.settings.cone_bits) (g.P.Place.asked c.args.place.now) (g.P.Place.asked c.recover_to.new.place) c.recover_to.result) name
+      c.recover_to.ensures.asked));
+  recovered = λ settings dir spelled sound.
+      along_recover (command c.args.words.now) c.in-Ok.line c.in-Ok.ensures.line (λ s d. c.recover_to.result ≢ PlaceFault → (backs : List g.row.P-Bay.Denot)
+      × ((cone : ℕ) → cone < length backs → g.P.Place.returned_bay c.recover_to.new.place cone ≡ slice_get backs cone)
+      × AreLater g.P.Bay.Bay.files g.P.Bay.Faulty.faults g.P.Bay.Faulty.mark (g.P.Place.handed_bays c.recover_to.new.place) backs
+      × HasRecovered {K = g.row.K.Denot} {B = g.row.P-Bay.Denot} g.K.Sink.taken g.K.Faulty.faults g.P.Bay.Bay.files g.P.Bay.Faulty.faults s c.args.out.now
+      c.recover_to.new.out (g.P.Place.handed_bays c.recover_to.new.place) backs c.recover_to.result)
+      c.in-Recover.settings settings c.in-Recover.dir dir c.in-Recover.is spelled c.recover_to.ensures.recovered;
+  each_moment = λ settings dir spelled sound.
+      along_recover (command c.args.words.now) c.in-Ok.line c.in-Ok.ensures.line
+      (λ (s : Numbers) (d : ℕ). c.recover_to.result ≢ PlaceFault → AreReturnedSpared (bays_in g) s (g.P.Place.handed_bays c.recover_to.new.place) (g.P.Place.returned_bay c.recover_to.new.place))
+      c.in-Recover.settings settings c.in-Recover.dir dir c.in-Recover.is spelled c.recover_to.ensures.each_moment;
+  generated = λ seed events spelled sound. in_recover g c (Gen seed events) spelled refl;
+  drilled = λ settings workers seed events spelled sound. in_recover g c (Drill settings workers seed events) spelled refl;
+}
 
-pub returns-in-Recover-clause-asked_again : goal.returns-in-Recover-clause-asked_again
-returns-in-Recover-clause-asked_again g c = λ settings dir spelled sound.
-    let words = c.args.words.now in
-    let name = word_at-slice_get words c.in-Recover.dir c.word.result.now c.word.ensures in
-    along_recover (command words) c.in-Ok.line c.in-Ok.ensures.line
-    (λ s d. IsAskedForBays (word_at words d) (2 ^ s.cone_bits) [] (g.P.Place.asked c.recover_to.new.place) c.recover_to.result)
-    c.in-Recover.settings settings c.in-Recover.dir dir c.in-Recover.is spelled
-    (subst (λ xs. IsAskedForBays (word_at words c.in-Recover.dir) (2 ^ c.in-Recover.settings.cone_bits) xs (g.P.Place.asked c.recover_to.new.place) c.recover_to.result) c.requires.asked
-    (subst (λ (d : List ℕ). IsAskedForBays d (2 ^ c.in-Recover.settings.cone_bits) (g.P.Place.asked c.args.place.now) (g.P.Place.asked c.recover_to.new.place) c.recover_to.result) name
-    c.recover_to.ensures.asked))
-
-pub returns-in-Recover-clause-recovered : goal.returns-in-Recover-clause-recovered
-returns-in-Recover-clause-recovered g c = λ settings dir spelled sound.
-    along_recover (command c.args.words.now) c.in-Ok.line c.in-Ok.ensures.line
-    (λ s d. c.recover_to.result ≢ PlaceFault → (backs : List g.row.P-Bay.Denot)
-    × ((cone : ℕ) → cone < length backs → g.P.Place.returned_bay c.recover_to.new.place cone ≡ slice_get backs cone)
-    × AreLater g.P.Bay.Bay.files g.P.Bay.Faulty.faults g.P.Bay.Faulty.mark (g.P.Place.handed_bays c.recover_to.new.place) backs
-    × HasRecovered {K = g.row.K.Denot} {B = g.row.P-Bay.Denot} g.K.Sink.taken g.K.Faulty.faults g.P.Bay.Bay.files g.P.Bay.Faulty.faults s c.args.out.now
-    c.recover_to.new.out (g.P.Place.handed_bays c.recover_to.new.place) backs c.recover_to.result)
-    c.in-Recover.settings settings c.in-Recover.dir dir c.in-Recover.is spelled c.recover_to.ensures.recovered
-
-pub returns-in-Recover-clause-each_moment : goal.returns-in-Recover-clause-each_moment
-returns-in-Recover-clause-each_moment g c = λ settings dir spelled sound.
-    along_recover (command c.args.words.now) c.in-Ok.line c.in-Ok.ensures.line
-    (λ (s : Numbers) (d : ℕ). c.recover_to.result ≢ PlaceFault → AreReturnedSpared (bays_in g) s (g.P.Place.handed_bays c.recover_to.new.place) (g.P.Place.returned_bay c.recover_to.new.place))
-    c.in-Recover.settings settings c.in-Recover.dir dir c.in-Recover.is spelled c.recover_to.ensures.each_moment
-
-pub returns-in-Drill-clause-drilled : goal.returns-in-Drill-clause-drilled
-returns-in-Drill-clause-drilled g c = λ settings workers seed events spelled sound.
-    along_drill (command c.args.words.now) c.in-Ok.line c.in-Ok.ensures.line
-    (λ s w a n. (c.args.place.now ≡ c.args.place.now) × DrillShows {K = g.row.K.Denot} g.K.Sink.taken g.K.Faulty.faults s a n c.args.out.now c.drill.new.out c.drill.result)
-    c.in-Drill.settings settings c.in-Drill.workers workers c.in-Drill.seed seed c.in-Drill.events events c.in-Drill.is spelled (refl, c.drill.ensures.shows)
+pub returns-in-Drill : goal.returns-in-Drill
+returns-in-Drill g c = record {
+  usage = λ rule is.
+      elim (subst (DrillShows g.K.Sink.taken g.K.Faulty.faults c.in-Drill.settings c.in-Drill.seed c.in-Drill.events c.args.out.now c.drill.new.out) is c.drill.ensures.shows) [ ];
+  at_usage = λ rule broken. of_no_rule (usage c.args.words.now) rule c.in-Ok.ensures.sound broken;
+  asked = λ settings workers dir traces spelled sound. in_drill g c (Run settings workers dir traces) spelled refl;
+  place_fault = λ is.
+      elim (subst (DrillShows g.K.Sink.taken g.K.Faulty.faults c.in-Drill.settings c.in-Drill.seed c.in-Drill.events c.args.out.now c.drill.new.out) is c.drill.ensures.shows) [ ];
+  returned = λ sound. all_back g c.args.place.now c.requires.asked;
+  ran = λ settings workers dir traces spelled sound. in_drill g c (Run settings workers dir traces) spelled refl;
+  closed = λ settings workers dir traces spelled sound. in_drill g c (Run settings workers dir traces) spelled refl;
+  asked_again = λ settings dir spelled sound. in_drill g c (Recover settings dir) spelled refl;
+  recovered = λ settings dir spelled sound. in_drill g c (Recover settings dir) spelled refl;
+  each_moment = λ settings dir spelled sound. in_drill g c (Recover settings dir) spelled refl;
+  generated = λ seed events spelled sound. in_drill g c (Gen seed events) spelled refl;
+  drilled = λ settings workers seed events spelled sound.
+      along_drill (command c.args.words.now) c.in-Ok.line c.in-Ok.ensures.line
+      (λ s w a n. (c.args.place.now ≡ c.args.place.now) × DrillShows {K = g.row.K.Denot} g.K.Sink.taken g.K.Faulty.faults s a n c.args.out.now c.drill.new.out c.drill.result)
+      c.in-Drill.settings settings c.in-Drill.workers workers c.in-Drill.seed seed c.in-Drill.events events c.in-Drill.is spelled (refl, c.drill.ensures.shows);
+}
 
 -- a run
 pub run_line-requires-clause-least : goal.run_line-requires-clause-least
@@ -144,52 +209,9 @@ run_line-requires-clause-few g c κs within =
 pub run_line-requires-clause-asked : goal.run_line-requires-clause-asked
 run_line-requires-clause-asked g c κs within = c.requires.asked
 
-pub returns-in-Run-clause-usage : goal.returns-in-Run-clause-usage
-returns-in-Run-clause-usage g c = λ rule is. absurd (c.run_line.ensures.no_usage rule is)
-
-pub returns-in-Run-clause-at_usage : goal.returns-in-Run-clause-at_usage
-returns-in-Run-clause-at_usage g c = λ rule broken. of_no_rule (usage c.args.words.now) rule c.in-Ok.ensures.sound broken
-
-pub returns-in-Run-clause-asked : goal.returns-in-Run-clause-asked
-returns-in-Run-clause-asked g c = λ settings workers dir traces spelled sound.
-    let words = c.args.words.now in
-    along_run (command words) c.in-Ok.line c.in-Ok.ensures.line
-    (λ (s : Numbers) (w d : ℕ) (t : List ℕ). IsAsked (names_of words t) (word_at words d) (2 ^ s.cone_bits) (g.P.Place.asked c.run_line.new.place) c.run_line.result)
-    c.in-Run.settings settings c.in-Run.workers workers c.in-Run.dir dir c.in-Run.traces traces c.in-Run.is spelled
-    (subst (λ (t : List ℕ). IsAsked (names_of words t) (word_at words c.in-Run.dir) (2 ^ c.in-Run.settings.cone_bits) (g.P.Place.asked c.run_line.new.place) c.run_line.result)
-    c.as_slice.ensures c.run_line.ensures.asked)
-
-pub returns-in-Run-clause-place_fault : goal.returns-in-Run-clause-place_fault
-returns-in-Run-clause-place_fault g c = c.run_line.ensures.place_fault
-
-pub returns-in-Run-clause-returned : goal.returns-in-Run-clause-returned
-returns-in-Run-clause-returned g c = λ sound. c.run_line.ensures.returned
-
 -- a recovery
 pub recover_to-requires-clause-no_bay : goal.recover_to-requires-clause-no_bay
 recover_to-requires-clause-no_bay g c κs within = ap bays_granted c.requires.asked
-
-pub returns-in-Recover-clause-usage : goal.returns-in-Recover-clause-usage
-returns-in-Recover-clause-usage g c = λ rule is. absurd (c.recover_to.ensures.no_usage rule is)
-
-pub returns-in-Recover-clause-at_usage : goal.returns-in-Recover-clause-at_usage
-returns-in-Recover-clause-at_usage g c = λ rule broken. of_no_rule (usage c.args.words.now) rule c.in-Ok.ensures.sound broken
-
-pub returns-in-Recover-clause-returned : goal.returns-in-Recover-clause-returned
-returns-in-Recover-clause-returned g c = λ sound. (
-  none_back (g.P.Place.handed_traces c.recover_to.new.place) (c.recover_to.ensures.traces ∙ no_trace g c.args.place.now c.requires.asked) (g.P.Place.returned_trace c.recover_to.new.place)
-      g.P.Trace.Faulty.mark,
-  c.recover_to.ensures.returned,
-)
-
-pub returns-in-Recover-clause-place_fault : goal.returns-in-Recover-clause-place_fault
-returns-in-Recover-clause-place_fault g c = λ is.
-    let found = c.recover_to.ensures.place_fault is in (
-      found.0,
-      found.1,
-      none_back_same (g.P.Place.handed_traces c.recover_to.new.place) (c.recover_to.ensures.traces ∙ no_trace g c.args.place.now c.requires.asked) (g.P.Place.returned_trace c.recover_to.new.place),
-      found.2,
-    )
 
 -- generated keys
 pub gen_to-requires : goal.gen_to-requires
@@ -197,26 +219,27 @@ gen_to-requires g c = record {
   few = gen_keeps c.args.words.now c.in-Ok.line c.in-Ok.ensures.line c.in-Ok.ensures.sound c.in-Gen.seed c.in-Gen.events c.in-Gen.is;
 }
 
-pub returns-in-Gen-clause-usage : goal.returns-in-Gen-clause-usage
-returns-in-Gen-clause-usage g c = λ rule is.
-    absurd (subst (TraceShows g.K.Sink.taken g.K.Faulty.faults c.in-Gen.seed c.in-Gen.events c.args.out.now c.gen_to.new.out) is c.gen_to.ensures.shows)
-
-pub returns-in-Gen-clause-at_usage : goal.returns-in-Gen-clause-at_usage
-returns-in-Gen-clause-at_usage g c = λ rule broken. of_no_rule (usage c.args.words.now) rule c.in-Ok.ensures.sound broken
-
-pub returns-in-Gen-clause-place_fault : goal.returns-in-Gen-clause-place_fault
-returns-in-Gen-clause-place_fault g c = λ is.
-    absurd (subst (TraceShows g.K.Sink.taken g.K.Faulty.faults c.in-Gen.seed c.in-Gen.events c.args.out.now c.gen_to.new.out) is c.gen_to.ensures.shows)
-
-pub returns-in-Gen-clause-returned : goal.returns-in-Gen-clause-returned
-returns-in-Gen-clause-returned g c = λ sound. all_back g c.args.place.now c.requires.asked
-
-pub returns-in-Gen-clause-generated : goal.returns-in-Gen-clause-generated
-returns-in-Gen-clause-generated g c = λ seed events spelled sound.
-    along_gen (command c.args.words.now) c.in-Ok.line c.in-Ok.ensures.line
-    (λ (a n : ℕ). (c.args.place.now ≡ c.args.place.now) × (((c.gen_to.result ≡ OutOfMemory) × (c.gen_to.new.out ≡ c.args.out.now))
-    ⊎ TraceShows g.K.Sink.taken g.K.Faulty.faults a n c.args.out.now c.gen_to.new.out c.gen_to.result))
-    c.in-Gen.seed seed c.in-Gen.events events c.in-Gen.is spelled (refl, inr c.gen_to.ensures.shows)
+pub returns-in-Gen : goal.returns-in-Gen
+returns-in-Gen g c = record {
+  usage = λ rule is.
+      elim (subst (TraceShows g.K.Sink.taken g.K.Faulty.faults c.in-Gen.seed c.in-Gen.events c.args.out.now c.gen_to.new.out) is c.gen_to.ensures.shows) [ ];
+  at_usage = λ rule broken. of_no_rule (usage c.args.words.now) rule c.in-Ok.ensures.sound broken;
+  asked = λ settings workers dir traces spelled sound. in_gen g c (Run settings workers dir traces) spelled refl;
+  place_fault = λ is.
+      elim (subst (TraceShows g.K.Sink.taken g.K.Faulty.faults c.in-Gen.seed c.in-Gen.events c.args.out.now c.gen_to.new.out) is c.gen_to.ensures.shows) [ ];
+  returned = λ sound. all_back g c.args.place.now c.requires.asked;
+  ran = λ settings workers dir traces spelled sound. in_gen g c (Run settings workers dir traces) spelled refl;
+  closed = λ settings workers dir traces spelled sound. in_gen g c (Run settings workers dir traces) spelled refl;
+  asked_again = λ settings dir spelled sound. in_gen g c (Recover settings dir) spelled refl;
+  recovered = λ settings dir spelled sound. in_gen g c (Recover settings dir) spelled refl;
+  each_moment = λ settings dir spelled sound. in_gen g c (Recover settings dir) spelled refl;
+  generated = λ seed events spelled sound.
+      along_gen (command c.args.words.now) c.in-Ok.line c.in-Ok.ensures.line
+      (λ (a n : ℕ). (c.args.place.now ≡ c.args.place.now) × (((c.gen_to.result ≡ OutOfMemory) × (c.gen_to.new.out ≡ c.args.out.now))
+      ⊎ TraceShows g.K.Sink.taken g.K.Faulty.faults a n c.args.out.now c.gen_to.new.out c.gen_to.result))
+      c.in-Gen.seed seed c.in-Gen.events events c.in-Gen.is spelled (refl, inr c.gen_to.ensures.shows);
+  drilled = λ settings workers seed events spelled sound. in_gen g c (Drill settings workers seed events) spelled refl;
+}
 
 -- a drill
 pub drill-requires-clause-least : goal.drill-requires-clause-least
@@ -230,109 +253,6 @@ drill-requires-clause-most g c κs within =
 pub drill-requires-clause-few : goal.drill-requires-clause-few
 drill-requires-clause-few g c κs within =
     (drill_keeps c.args.words.now c.in-Ok.line c.in-Ok.ensures.line c.in-Ok.ensures.sound c.in-Drill.settings c.in-Drill.workers c.in-Drill.seed c.in-Drill.events c.in-Drill.is).1
-
-pub returns-in-Drill-clause-usage : goal.returns-in-Drill-clause-usage
-returns-in-Drill-clause-usage g c = λ rule is.
-    absurd (subst (DrillShows g.K.Sink.taken g.K.Faulty.faults c.in-Drill.settings c.in-Drill.seed c.in-Drill.events c.args.out.now c.drill.new.out) is c.drill.ensures.shows)
-
-pub returns-in-Drill-clause-at_usage : goal.returns-in-Drill-clause-at_usage
-returns-in-Drill-clause-at_usage g c = λ rule broken. of_no_rule (usage c.args.words.now) rule c.in-Ok.ensures.sound broken
-
-pub returns-in-Drill-clause-place_fault : goal.returns-in-Drill-clause-place_fault
-returns-in-Drill-clause-place_fault g c = λ is.
-    absurd (subst (DrillShows g.K.Sink.taken g.K.Faulty.faults c.in-Drill.settings c.in-Drill.seed c.in-Drill.events c.args.out.now c.drill.new.out) is c.drill.ensures.shows)
-
-pub returns-in-Drill-clause-returned : goal.returns-in-Drill-clause-returned
-returns-in-Drill-clause-returned g c = λ sound. all_back g c.args.place.now c.requires.asked
-
--- what is said of another command than that of the line
-in_run : {P : Type 0} (g : given.Over) (c : goal.After-drop-traces-inside g) (other : Line) → command c.args.words.now ≡ Some other → eqb 0 (command_number other) ≡ false → P
-in_run g c other said apart =
-    of_another (command c.args.words.now) c.in-Ok.line (Run c.in-Run.settings c.in-Run.workers c.in-Run.dir c.in-Run.traces) other c.in-Ok.ensures.line c.in-Run.is said apart
-
-in_recover : {P : Type 0} (g : given.Over) (c : goal.After-recover_to g) (other : Line) → command c.args.words.now ≡ Some other → eqb 1 (command_number other) ≡ false → P
-in_recover g c other said apart =
-    of_another (command c.args.words.now) c.in-Ok.line (Recover c.in-Recover.settings c.in-Recover.dir) other c.in-Ok.ensures.line c.in-Recover.is said apart
-
-in_gen : {P : Type 0} (g : given.Over) (c : goal.After-gen_to g) (other : Line) → command c.args.words.now ≡ Some other → eqb 2 (command_number other) ≡ false → P
-in_gen g c other said apart =
-    of_another (command c.args.words.now) c.in-Ok.line (Gen c.in-Gen.seed c.in-Gen.events) other c.in-Ok.ensures.line c.in-Gen.is said apart
-
-in_drill : {P : Type 0} (g : given.Over) (c : goal.After-drill g) (other : Line) → command c.args.words.now ≡ Some other → eqb 3 (command_number other) ≡ false → P
-in_drill g c other said apart =
-    of_another (command c.args.words.now) c.in-Ok.line (Drill c.in-Drill.settings c.in-Drill.workers c.in-Drill.seed c.in-Drill.events) other c.in-Ok.ensures.line c.in-Drill.is said apart
-
-pub returns-in-Run-clause-asked_again : goal.returns-in-Run-clause-asked_again
-returns-in-Run-clause-asked_again g c = λ settings dir spelled sound. in_run g c (Recover settings dir) spelled refl
-
-pub returns-in-Run-clause-recovered : goal.returns-in-Run-clause-recovered
-returns-in-Run-clause-recovered g c = λ settings dir spelled sound. in_run g c (Recover settings dir) spelled refl
-
-pub returns-in-Run-clause-each_moment : goal.returns-in-Run-clause-each_moment
-returns-in-Run-clause-each_moment g c = λ settings dir spelled sound. in_run g c (Recover settings dir) spelled refl
-
-pub returns-in-Run-clause-generated : goal.returns-in-Run-clause-generated
-returns-in-Run-clause-generated g c = λ seed events spelled sound. in_run g c (Gen seed events) spelled refl
-
-pub returns-in-Run-clause-drilled : goal.returns-in-Run-clause-drilled
-returns-in-Run-clause-drilled g c = λ settings workers seed events spelled sound. in_run g c (Drill settings workers seed events) spelled refl
-
-pub returns-in-Recover-clause-asked : goal.returns-in-Recover-clause-asked
-returns-in-Recover-clause-asked g c = λ settings workers dir traces spelled sound. in_recover g c (Run settings workers dir traces) spelled refl
-
-pub returns-in-Recover-clause-ran : goal.returns-in-Recover-clause-ran
-returns-in-Recover-clause-ran g c = λ settings workers dir traces spelled sound. in_recover g c (Run settings workers dir traces) spelled refl
-
-pub returns-in-Recover-clause-closed : goal.returns-in-Recover-clause-closed
-returns-in-Recover-clause-closed g c = λ settings workers dir traces spelled sound. in_recover g c (Run settings workers dir traces) spelled refl
-
-pub returns-in-Recover-clause-generated : goal.returns-in-Recover-clause-generated
-returns-in-Recover-clause-generated g c = λ seed events spelled sound. in_recover g c (Gen seed events) spelled refl
-
-pub returns-in-Recover-clause-drilled : goal.returns-in-Recover-clause-drilled
-returns-in-Recover-clause-drilled g c = λ settings workers seed events spelled sound. in_recover g c (Drill settings workers seed events) spelled refl
-
-pub returns-in-Gen-clause-asked : goal.returns-in-Gen-clause-asked
-returns-in-Gen-clause-asked g c = λ settings workers dir traces spelled sound. in_gen g c (Run settings workers dir traces) spelled refl
-
-pub returns-in-Gen-clause-ran : goal.returns-in-Gen-clause-ran
-returns-in-Gen-clause-ran g c = λ settings workers dir traces spelled sound. in_gen g c (Run settings workers dir traces) spelled refl
-
-pub returns-in-Gen-clause-closed : goal.returns-in-Gen-clause-closed
-returns-in-Gen-clause-closed g c = λ settings workers dir traces spelled sound. in_gen g c (Run settings workers dir traces) spelled refl
-
-pub returns-in-Gen-clause-asked_again : goal.returns-in-Gen-clause-asked_again
-returns-in-Gen-clause-asked_again g c = λ settings dir spelled sound. in_gen g c (Recover settings dir) spelled refl
-
-pub returns-in-Gen-clause-recovered : goal.returns-in-Gen-clause-recovered
-returns-in-Gen-clause-recovered g c = λ settings dir spelled sound. in_gen g c (Recover settings dir) spelled refl
-
-pub returns-in-Gen-clause-each_moment : goal.returns-in-Gen-clause-each_moment
-returns-in-Gen-clause-each_moment g c = λ settings dir spelled sound. in_gen g c (Recover settings dir) spelled refl
-
-pub returns-in-Gen-clause-drilled : goal.returns-in-Gen-clause-drilled
-returns-in-Gen-clause-drilled g c = λ settings workers seed events spelled sound. in_gen g c (Drill settings workers seed events) spelled refl
-
-pub returns-in-Drill-clause-asked : goal.returns-in-Drill-clause-asked
-returns-in-Drill-clause-asked g c = λ settings workers dir traces spelled sound. in_drill g c (Run settings workers dir traces) spelled refl
-
-pub returns-in-Drill-clause-ran : goal.returns-in-Drill-clause-ran
-returns-in-Drill-clause-ran g c = λ settings workers dir traces spelled sound. in_drill g c (Run settings workers dir traces) spelled refl
-
-pub returns-in-Drill-clause-closed : goal.returns-in-Drill-clause-closed
-returns-in-Drill-clause-closed g c = λ settings workers dir traces spelled sound. in_drill g c (Run settings workers dir traces) spelled refl
-
-pub returns-in-Drill-clause-asked_again : goal.returns-in-Drill-clause-asked_again
-returns-in-Drill-clause-asked_again g c = λ settings dir spelled sound. in_drill g c (Recover settings dir) spelled refl
-
-pub returns-in-Drill-clause-recovered : goal.returns-in-Drill-clause-recovered
-returns-in-Drill-clause-recovered g c = λ settings dir spelled sound. in_drill g c (Recover settings dir) spelled refl
-
-pub returns-in-Drill-clause-each_moment : goal.returns-in-Drill-clause-each_moment
-returns-in-Drill-clause-each_moment g c = λ settings dir spelled sound. in_drill g c (Recover settings dir) spelled refl
-
-pub returns-in-Drill-clause-generated : goal.returns-in-Drill-clause-generated
-returns-in-Drill-clause-generated g c = λ seed events spelled sound. in_drill g c (Gen seed events) spelled refl
 
 -- words that break a rule
 broken_rule : (g : given.Over) (c : In-Err-Usage g) → usage c.args.words.now ≡ Some c.in-Err-Usage.rule
@@ -369,11 +289,10 @@ returns-in-Err-OutOfMemory g c =
             [],
             [],
             put_back_none (g.P.Place.handed_bays place) no_bays g.P.Bay.Bay.files g.P.Bay.Faulty.faults g.P.Bay.Faulty.mark
-                g.P.Trace.Faulty.faults g.P.Trace.Faulty.mark
-                (g.P.Place.handed_traces place) no_traces (g.P.Place.returned_trace place) (g.P.Place.returned_bay place),
+                g.P.Trace.Faulty.faults g.P.Trace.Faulty.mark (g.P.Place.handed_traces place) no_traces (g.P.Place.returned_trace place) (g.P.Place.returned_bay place),
             λ other. absurd (other refl),
             run_none g.P.Trace.Source.remaining g.P.Trace.Faulty.faults g.K.Sink.taken g.K.Faulty.faults g.P.Bay.Bay.files g.P.Bay.Faulty.faults
-                settings workers (g.P.Place.handed_traces place) [] out out (g.P.Place.handed_bays place) [] (sym no_traces) refl refl no_bays,
+                settings workers (g.P.Place.handed_traces place) [] out out (g.P.Place.handed_bays place) [] (sym no_traces) refl refl,
           );
       closed = λ settings workers dir traces spelled sound is. absurd (no_memory_not_done is);
       asked_again = λ settings dir spelled sound.
@@ -394,5 +313,5 @@ returns-in-Err-OutOfMemory g c =
       asked = λ settings workers dir traces spelled sound. inl (c.requires.asked, refl);
       returned = λ sound. all_back g c.args.place.now c.requires.asked;
       generated = λ seed events spelled sound. (refl, inl (refl, refl));
-      drilled = λ settings workers seed events spelled sound. (refl, refl);
+      drilled = λ settings workers seed events spelled sound. (refl, drill_memory refl);
     }

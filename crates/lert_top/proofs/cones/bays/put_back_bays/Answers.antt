@@ -39,40 +39,28 @@ loop-bay-init g c = record {
   faults = refl;
 }
 
-pub returns-clause-returned_traces : goal.returns-clause-returned_traces
-returns-clause-returned_traces g c = c.loop-bay.invariant.returned_traces
+pub returns : goal.returns
+returns g c = record {
+  returned = λ number below.
+      c.loop-bay.invariant.returned number (none_left c.loop-bay.bays.len (length c.loop-bay.bays.items) number c.loop-bay.bays.ok.0 c.in_default.ensures.cases.0) below;
+  returned_traces = c.loop-bay.invariant.returned_traces;
+  asked = c.loop-bay.invariant.asked;
+  traces = c.loop-bay.invariant.traces;
+  bays = c.loop-bay.invariant.bays;
+  faults = c.loop-bay.invariant.faults;
+}
 
-pub returns-clause-asked : goal.returns-clause-asked
-returns-clause-asked g c = c.loop-bay.invariant.asked
-
-pub returns-clause-traces : goal.returns-clause-traces
-returns-clause-traces g c = c.loop-bay.invariant.traces
-
-pub returns-clause-bays : goal.returns-clause-bays
-returns-clause-bays g c = c.loop-bay.invariant.bays
-
-pub returns-clause-faults : goal.returns-clause-faults
-returns-clause-faults g c = c.loop-bay.invariant.faults
-
-pub put_back_bay-requires-clause-handed : goal.put_back_bay-requires-clause-handed
-put_back_bay-requires-clause-handed g c =
+pub put_back_bay-requires : goal.put_back_bay-requires
+put_back_bay-requires g c =
     let here = c.loop-bay.invariant in
     let left = c.pop_back.new.self.items in
     let bay = c.in-Some.bay in
     let split = sym (append_assoc left (bay ∷ []) here.split.0) ∙ (ap (λ xs. xs ++ here.split.0) (sym c.in-Some.ensures.items) ∙ here.split.1) in
-    number_below left here.split.0 c.args.bays.items bay (g.P.Place.handed_bays c.loop-bay.place) c.len.result split (c.len.ensures ∙ c.pop_back.new.self.ok.0)
-    (c.requires.handed ∙ ap length (sym here.bays))
-
-pub put_back_bay-requires-clause-marked : goal.put_back_bay-requires-clause-marked
-put_back_bay-requires-clause-marked g c =
-    let here = c.loop-bay.invariant in
-    let left = c.pop_back.new.self.items in
-    let bay = c.in-Some.bay in
-    let split = sym (append_assoc left (bay ∷ []) here.split.0) ∙ (ap (λ xs. xs ++ here.split.0) (sym c.in-Some.ensures.items) ∙ here.split.1) in
-    c.requires.marked (length left) bay (ap (λ xs. slice_get xs (length left)) (sym split) ∙ slice_get-seam left bay here.split.0)
-    ∙ sym (c.len.ensures ∙ c.pop_back.new.self.ok.0)
-
-pub returns-clause-returned : goal.returns-clause-returned
-returns-clause-returned g c = λ number below.
-    c.loop-bay.invariant.returned number
-    (none_left c.loop-bay.bays.len (length c.loop-bay.bays.items) number c.loop-bay.bays.ok.0 c.in_default.ensures.cases.0) below
+    record {
+      handed =
+          number_below left here.split.0 c.args.bays.items bay (g.P.Place.handed_bays c.loop-bay.place) c.len.result split (c.len.ensures ∙ c.pop_back.new.self.ok.0)
+          (c.requires.handed ∙ ap length (sym here.bays));
+      marked =
+          c.requires.marked (length left) bay (ap (λ xs. slice_get xs (length left)) (sym split) ∙ slice_get-seam left bay here.split.0)
+          ∙ sym (c.len.ensures ∙ c.pop_back.new.self.ok.0);
+    }

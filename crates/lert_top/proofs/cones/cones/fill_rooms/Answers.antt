@@ -160,12 +160,11 @@ push_front_reserved-requires g c =
       c.pop_front.new.self.ok,
     )
 
-pub create-requires-clause-named : goal.create-requires-clause-named
-create-requires-clause-named g c =
-    let popped = All-pop (IsNewRoom c.args.settings.now) c.loop-number.rooms.items c.pop.new.self.items (Some c.in-Some-pop.room) c.in-Some-pop.ensures.items c.loop-number.invariant.rooms in
-    let below : c.loop-number.number < 2 ^ c.args.settings.now.cone_bits = omega (arith, c.loop-number-test.true, c.cones-number-end.ensures) in
-    subst (λ (n : Numbers). c.loop-number.number < 2 ^ n.cone_bits) (sym popped.1.0) below
-
-pub create-requires-clause-room : goal.create-requires-clause-room
-create-requires-clause-room g c =
-    (All-pop (IsNewRoom c.args.settings.now) c.loop-number.rooms.items c.pop.new.self.items (Some c.in-Some-pop.room) c.in-Some-pop.ensures.items c.loop-number.invariant.rooms).1.1
+pub create-requires : goal.create-requires
+create-requires g c = record {
+  named =
+      let popped = All-pop (IsNewRoom c.args.settings.now) c.loop-number.rooms.items c.pop.new.self.items (Some c.in-Some-pop.room) c.in-Some-pop.ensures.items c.loop-number.invariant.rooms in
+      let below : c.loop-number.number < 2 ^ c.args.settings.now.cone_bits = omega (arith, c.loop-number-test.true, c.cones-number-end.ensures) in
+      subst (λ (n : Numbers). c.loop-number.number < 2 ^ n.cone_bits) (sym popped.1.0) below;
+  room = (All-pop (IsNewRoom c.args.settings.now) c.loop-number.rooms.items c.pop.new.self.items (Some c.in-Some-pop.room) c.in-Some-pop.ensures.items c.loop-number.invariant.rooms).1.1;
+}

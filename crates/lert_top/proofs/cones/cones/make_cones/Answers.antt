@@ -2,7 +2,8 @@ use Rattle.std.proofs.Common.{◌++◌, ap, sym, ◌∙◌, subst, arith, append
 use Rattle.lert_ingest.specs.Bays.{AreLater, AreUnused, bays_of}
 use Rattle.lert_ingest.proofs.BayLaws.{are_same}
 use Rattle.lert_ingest.proofs.EachLaws.{unused_same}
-use Rattle.lert_top.specs.cones.Unmade.{IsUnmade}
+use Rattle.lert_top.specs.cones.Unmade.{IsUnmade, unmade_memory}
+use Rattle.std.proofs.lemmas.Result.{err_from_is_err_and}
 use Rattle.lert_top.proofs.cones.ConeLaws.{cones_and_left}
 use Rattle.lert_top.proofs.cones.cones.make_cones.Goals as goal
 
@@ -37,4 +38,9 @@ pub returns-in_default-clause-kept : goal.returns-in_default-clause-kept
 returns-in_default-clause-kept g c = are_same g.B.Bay.files g.B.Faulty.faults g.B.Faulty.mark c.args.bays.now.items
 
 pub returns-in_default-clause-unmade : goal.returns-in_default-clause-unmade
-returns-in_default-clause-unmade g c = λ cone before now was is. unused_same g.B.Bay.files c.args.settings.now c.args.bays.now.items cone before now was is
+returns-in_default-clause-unmade g c = unmade_memory (unused_same g.B.Bay.files c.args.settings.now c.args.bays.now.items)
+
+pub returns-in_err-rooms-clause-unmade : goal.returns-in_err-rooms-clause-unmade
+returns-in_err-rooms-clause-unmade g c =
+    let p = err_from_is_err_and c.from_residual.result c.from_residual.ensures.1 in
+    rw (p.1, p.2) (unmade_memory (unused_same g.B.Bay.files c.args.settings.now c.args.bays.now.items))

@@ -40,8 +40,7 @@ returns-in_err-print_cone-clause-cut g c =
       reports = (c.list.ensures.reports ∙ c.reports.ensures.value) i;
       closed = (c.is_finished-closed.ensures ∙ ap is_finished c.state.ensures.value) i;
     }) in
-    rw p.1
-    (IsCut-begins start now (lines all) (cone_texts 0 (take (n + 1) all)) (texts_begin all (n + 1))
+    rw p.1 (IsCut-begins start now (lines all) (cone_texts 0 (take (n + 1) all)) (texts_begin all (n + 1))
     (subst (IsCut start now) (texts_next cones n cone one found is) (c.in_err-print_cone.ensures.cut start (cone_texts 0 (take n all)) here.printing)))
 
 pub returns-in_err-print_cone-clause-cause : goal.returns-in_err-print_cone-clause-cause
@@ -49,8 +48,7 @@ returns-in_err-print_cone-clause-cause g c =
     let p = err_from_is_err_and c.from_residual.result c.from_residual.ensures.1 in
     let here = c.loop-number.invariant in
     let cause = c.in_err-print_cone.ensures.cause in
-    rw p.1
-    (record {
+    rw p.1 (record {
       never_falls = omega (arith, here.falls, cause.never_falls);
       failed = λ failed. risen_since (g.K.Faulty.faults c.args.out.now) (g.K.Faulty.faults c.loop-number.out) (g.K.Faulty.faults c.print_cone.new.out) here.falls (omega arith)
           (cause.failed refl);
@@ -87,8 +85,7 @@ loop-number-preserved g c =
     let next = printed_next cones n cone found in
     let counts = c.numbers_of-events_here.ensures in
     record {
-      printing = subst (IsPrinting start now c.print_cone.new.page) (texts_next cones n cone one found is)
-          (c.in_ok-print_cone.ensures.ok start (cone_texts 0 (take n all)) here.printing);
+      printing = subst (IsPrinting start now c.print_cone.new.page) (texts_next cones n cone one found is) (c.in_ok-print_cone.ensures.ok start (cone_texts 0 (take n all)) here.printing);
       events = omega (
         arith,
         here.events,
@@ -109,48 +106,43 @@ loop-number-preserved g c =
       marked = c.print_cone.ensures.mark ∙ here.marked;
     }
 
-pub returns-clause-ok : goal.returns-clause-ok
-returns-clause-ok g c = λ text was.
-    let here = c.loop-number.invariant in
-    let all = map printed_as c.args.cones.now in
-    let start = g.K.Sink.taken c.args.out.now in
-    let enough : length all ≤ c.loop-number.number = omega (arith, c.loop-number-test.false, length-map c.args.cones.now printed_as) in
-    let whole = take_all c.loop-number.number all enough in
-    let printing = subst (λ (ps : List Printed). IsPrinting start (g.K.Sink.taken c.loop-number.out) c.loop-number.page (cone_texts 0 ps)) whole here.printing in
-    let texts = lines_are all c.loop-number.events c.loop-number.reports (here.events ∙ ap (λ (ps : List Printed). sum_by (λ (p : Printed). p.events) ps) whole)
-    (here.reports ∙ ap (λ (ps : List Printed). sum_by (λ (p : Printed). length p.reports) ps) whole) in
-    on_ok_weaker c.print_total.result
-    (λ printed_all. IsPrinting-all start (g.K.Sink.taken c.print_total.new.out) (lines all) (subst (IsPrinting start (g.K.Sink.taken c.print_total.new.out) _) texts printed_all) text was)
-    (c.print_total.ensures.ok start (cone_texts 0 all) printing)
-
-pub returns-clause-cut : goal.returns-clause-cut
-returns-clause-cut g c =
-    let here = c.loop-number.invariant in
-    let all = map printed_as c.args.cones.now in
-    let start = g.K.Sink.taken c.args.out.now in
-    let enough : length all ≤ c.loop-number.number = omega (arith, c.loop-number-test.false, length-map c.args.cones.now printed_as) in
-    let whole = take_all c.loop-number.number all enough in
-    let printing = subst (λ (ps : List Printed). IsPrinting start (g.K.Sink.taken c.loop-number.out) c.loop-number.page (cone_texts 0 ps)) whole here.printing in
-    let texts = lines_are all c.loop-number.events c.loop-number.reports (here.events ∙ ap (λ (ps : List Printed). sum_by (λ (p : Printed). p.events) ps) whole)
-    (here.reports ∙ ap (λ (ps : List Printed). sum_by (λ (p : Printed). length p.reports) ps) whole) in
-    on_err_weaker c.print_total.result (λ cut. subst (IsCut start (g.K.Sink.taken c.print_total.new.out)) texts cut)
-    (c.print_total.ensures.cut start (cone_texts 0 all) printing)
+pub returns : goal.returns
+returns g c = record {
+  ok = λ text was.
+      let here = c.loop-number.invariant in
+      let all = map printed_as c.args.cones.now in
+      let start = g.K.Sink.taken c.args.out.now in
+      let enough : length all ≤ c.loop-number.number = omega (arith, c.loop-number-test.false, length-map c.args.cones.now printed_as) in
+      let whole = take_all c.loop-number.number all enough in
+      let printing = subst (λ (ps : List Printed). IsPrinting start (g.K.Sink.taken c.loop-number.out) c.loop-number.page (cone_texts 0 ps)) whole here.printing in
+      let texts = lines_are all c.loop-number.events c.loop-number.reports (here.events ∙ ap (λ (ps : List Printed). sum_by (λ (p : Printed). p.events) ps) whole)
+      (here.reports ∙ ap (λ (ps : List Printed). sum_by (λ (p : Printed). length p.reports) ps) whole) in
+      on_ok_weaker c.print_total.result
+      (λ printed_all. IsPrinting-all start (g.K.Sink.taken c.print_total.new.out) (lines all) (subst (IsPrinting start (g.K.Sink.taken c.print_total.new.out) _) texts printed_all) text was)
+      (c.print_total.ensures.ok start (cone_texts 0 all) printing);
+  cut =
+      let here = c.loop-number.invariant in
+      let all = map printed_as c.args.cones.now in
+      let start = g.K.Sink.taken c.args.out.now in
+      let enough : length all ≤ c.loop-number.number = omega (arith, c.loop-number-test.false, length-map c.args.cones.now printed_as) in
+      let whole = take_all c.loop-number.number all enough in
+      let printing = subst (λ (ps : List Printed). IsPrinting start (g.K.Sink.taken c.loop-number.out) c.loop-number.page (cone_texts 0 ps)) whole here.printing in
+      let texts = lines_are all c.loop-number.events c.loop-number.reports (here.events ∙ ap (λ (ps : List Printed). sum_by (λ (p : Printed). p.events) ps) whole)
+      (here.reports ∙ ap (λ (ps : List Printed). sum_by (λ (p : Printed). length p.reports) ps) whole) in
+      on_err_weaker c.print_total.result (λ cut. subst (IsCut start (g.K.Sink.taken c.print_total.new.out)) texts cut) (c.print_total.ensures.cut start (cone_texts 0 all) printing);
+  cause =
+      let here = c.loop-number.invariant in
+      let cause = c.print_total.ensures.cause in
+      record {
+        never_falls = omega (arith, here.falls, cause.never_falls);
+        failed = λ failed. risen_since (g.K.Faulty.faults c.args.out.now) (g.K.Faulty.faults c.loop-number.out) (g.K.Faulty.faults c.print_total.new.out) here.falls cause.never_falls
+            (cause.failed failed);
+      };
+  mark = c.print_total.ensures.mark ∙ c.loop-number.invariant.marked;
+}
 
 pub returns-in_err-print_cone-clause-mark : goal.returns-in_err-print_cone-clause-mark
 returns-in_err-print_cone-clause-mark g c = c.print_cone.ensures.mark ∙ c.loop-number.invariant.marked
-
-pub returns-clause-mark : goal.returns-clause-mark
-returns-clause-mark g c = c.print_total.ensures.mark ∙ c.loop-number.invariant.marked
-
-pub returns-clause-cause : goal.returns-clause-cause
-returns-clause-cause g c =
-    let here = c.loop-number.invariant in
-    let cause = c.print_total.ensures.cause in
-    record {
-      never_falls = omega (arith, here.falls, cause.never_falls);
-      failed = λ failed. risen_since (g.K.Faulty.faults c.args.out.now) (g.K.Faulty.faults c.loop-number.out) (g.K.Faulty.faults c.print_total.new.out) here.falls cause.never_falls
-          (cause.failed failed);
-    }
 
 pub overflow_add-events : goal.overflow_add-events
 overflow_add-events g c = omega (arith, c.loop-number.invariant.few_events, c.numbers_of-events_here.ensures.few_events, c.loop-number-test.true, c.requires.few)

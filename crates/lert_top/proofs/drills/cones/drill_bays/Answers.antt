@@ -5,6 +5,7 @@ use Rattle.lert_cone.specs.Sound.{AreEmpty}
 use Rattle.lert_ingest.specs.Bays.{AreFresh, AreToldFresh, bays_of}
 use Rattle.lert_ingest.proofs.BayLaws.{told_later}
 use Rattle.lert_top.proofs.cones.StatusLaws.{fresh_told}
+use Rattle.lert_top.specs.drills.Drilled.{drill_memory}
 use Rattle.lert_top.proofs.drills.cones.drill_bays.Goals as goal
 
 -- bays that tell that they are empty are
@@ -50,7 +51,7 @@ bring_back-requires g c =
     )
 
 pub returns-in_default : goal.returns-in_default
-returns-in_default g c = record { shows = λ seed events are. refl }
+returns-in_default g c = record { shows = λ seed events are. drill_memory refl }
 
 pub returns : goal.returns
 returns g c = record { shows = λ seed events are. c.drill_cones-cones.ensures.shows seed events are }

@@ -5,7 +5,7 @@ use Rattle.std.specs.Prelude.{IfErr, OnOk}
 use Rattle.lert_top.proofs.drills.DealtLaws.{dealt_keys}
 use Rattle.lert_top.proofs.drills.DrillLaws.{stopped_shows}
 use Rattle.lert_top.specs.drills.Dealt.{AreDealt}
-use Rattle.lert_top.specs.drills.Drilled.{DrillShows}
+use Rattle.lert_top.specs.drills.Drilled.{DrillShows, drill_memory}
 use Rattle.lert_ingest.specs.Bays.{bays_of}
 use Rattle.lert_ingest.specs.Stops.{AreWeaving}
 use Rattle.lert_ingest.proofs.BayLaws.{told_later}
@@ -32,11 +32,8 @@ four_few number is = omega (arith, is)
 cones_number : {B : Type 0} (old new : List (Standing B)) → length (bays_of new) ≡ length (bays_of old) → length new ≡ length old
 cones_number {B} old new is = sym (length-map new (λ (cone : Standing B). cone.bay)) ∙ (is ∙ length-map old (λ (cone : Standing B). cone.bay))
 
-pub returns-in_default-clause-number : goal.returns-in_default-clause-number
-returns-in_default-clause-number g c = refl
-
-pub returns-in_default-clause-shows : goal.returns-in_default-clause-shows
-returns-in_default-clause-shows g c = λ seed events are. refl
+pub returns-in_default : goal.returns-in_default
+returns-in_default g c = record { number = refl; shows = λ seed events are. drill_memory refl }
 
 pub ingest-sources-requires-clause-least : goal.ingest-sources-requires-clause-least
 ingest-sources-requires-clause-least g c = λ lifetimes outlive. c.requires.least
@@ -61,37 +58,29 @@ ingest-sources-requires-clause-new_cones g c = λ lifetimes outlive. c.requires.
 pub returns-in-Err-clause-number : goal.returns-in-Err-clause-number
 returns-in-Err-clause-number g c = cones_number c.args.cones.items c.ingest-sources.result.1.items c.ingest-sources.ensures.later.number
 
-pub finish_and_print-status-requires-clause-empty : goal.finish_and_print-status-requires-clause-empty
-finish_and_print-status-requires-clause-empty g c = c.in-Ok.ensures
+pub finish_and_print-status-requires : goal.finish_and_print-status-requires
+finish_and_print-status-requires g c = record {
+  empty = c.in-Ok.ensures;
+  number = cones_number c.args.cones.items c.ingest-sources.result.1.items c.ingest-sources.ensures.later.number ∙ c.requires.number;
+  told = told_later g.B.Bay.files g.B.Faulty.faults g.B.Faulty.mark (bays_of c.args.cones.items) (bays_of c.ingest-sources.result.1.items) c.ingest-sources.ensures.later c.requires.told;
+  weaving =
+      let read = ok_at c.ingest-sources.result.2 _ c.in_default-read.is c.ingest-sources.ensures.read in
+      (c.args.workers, (read.traces, read.weaving));
+}
 
-pub finish_and_print-status-requires-clause-number : goal.finish_and_print-status-requires-clause-number
-finish_and_print-status-requires-clause-number g c =
-    cones_number c.args.cones.items c.ingest-sources.result.1.items c.ingest-sources.ensures.later.number ∙ c.requires.number
-
-pub returns-clause-number : goal.returns-clause-number
-returns-clause-number g c =
-    c.finish_and_print-status.ensures.number ∙ cones_number c.args.cones.items c.ingest-sources.result.1.items c.ingest-sources.ensures.later.number
+pub returns : goal.returns
+returns g c = record {
+  number = c.finish_and_print-status.ensures.number ∙ cones_number c.args.cones.items c.ingest-sources.result.1.items c.ingest-sources.ensures.later.number;
+  shows = λ seed events are.
+      let read = ok_at c.ingest-sources.result.2 _ c.in_default-read.is c.ingest-sources.ensures.read in
+      c.finish_and_print-status.ensures.shows c.args.workers seed events
+      (subst (λ traces. AreWeaving g.B.Bay.files g.B.Bay.leaves g.B.Faulty.faults c.args.settings.now c.args.workers traces c.ingest-sources.result.1.items)
+      (dealt_keys seed events g.S.Source.remaining c.args.sources.items read.traces are read.keys) read.weaving);
+}
 
 pub returns-in-Err-clause-shows : goal.returns-in-Err-clause-shows
 returns-in-Err-clause-shows g c = λ seed events are.
     subst (DrillShows g.K.Sink.taken g.K.Faulty.faults c.args.settings.now seed events c.args.out.now c.args.out.now) (sym c.status_of-status.ensures)
     (stopped_shows {S = g.row.S.Denot} {K = g.row.K.Denot} {B = g.row.B.Denot} g.S.Source.remaining g.S.Faulty.faults g.K.Sink.taken g.K.Faulty.faults g.B.Bay.files g.B.Faulty.faults
     c.args.settings.now c.args.workers seed events c.args.sources.items c.ingest-sources.result.0.items c.args.out.now (bays_of c.args.cones.items)
-    (bays_of c.ingest-sources.result.1.items) are c.in-Err.stopped
-    (err_at c.ingest-sources.result.2 c.in-Err.stopped _ c.in-Err.is c.ingest-sources.ensures.stopped))
-
-pub finish_and_print-status-requires-clause-told : goal.finish_and_print-status-requires-clause-told
-finish_and_print-status-requires-clause-told g c =
-    told_later g.B.Bay.files g.B.Faulty.faults g.B.Faulty.mark (bays_of c.args.cones.items) (bays_of c.ingest-sources.result.1.items) c.ingest-sources.ensures.later c.requires.told
-
-pub finish_and_print-status-requires-clause-weaving : goal.finish_and_print-status-requires-clause-weaving
-finish_and_print-status-requires-clause-weaving g c =
-    let read = ok_at c.ingest-sources.result.2 _ c.in_default-read.is c.ingest-sources.ensures.read in
-    (c.args.workers, (read.traces, read.weaving))
-
-pub returns-clause-shows : goal.returns-clause-shows
-returns-clause-shows g c = λ seed events are.
-    let read = ok_at c.ingest-sources.result.2 _ c.in_default-read.is c.ingest-sources.ensures.read in
-    c.finish_and_print-status.ensures.shows c.args.workers seed events
-    (subst (λ traces. AreWeaving g.B.Bay.files g.B.Bay.leaves g.B.Faulty.faults c.args.settings.now c.args.workers traces c.ingest-sources.result.1.items)
-    (dealt_keys seed events g.S.Source.remaining c.args.sources.items read.traces are read.keys) read.weaving)
+    (bays_of c.ingest-sources.result.1.items) are c.in-Err.stopped (err_at c.ingest-sources.result.2 c.in-Err.stopped _ c.in-Err.is c.ingest-sources.ensures.stopped))

@@ -49,8 +49,7 @@ returns-in_err-print_drill_cone-clause-cut g c =
     let summary = c.summary_of-events_here.result in
     let line = drill_line n summary.0 summary.1 summary.2 in
     let is : line ≡ drill_text n (drilled_as cone) = (λ i. drill_line n (counts.events i) (counts.reports i) (counts.keys i)) in
-    rw p.1
-    (IsCut-begins start now (drill_lines all) (drill_texts 0 (take (n + 1) all)) (texts_begin all (n + 1))
+    rw p.1 (IsCut-begins start now (drill_lines all) (drill_texts 0 (take (n + 1) all)) (texts_begin all (n + 1))
     (subst (IsCut start now) (texts_next cones n cone line found is) (c.in_err-print_drill_cone.ensures.cut start (drill_texts 0 (take n all)) here.printing)))
 
 pub returns-in_err-print_drill_cone-clause-cause : goal.returns-in_err-print_drill_cone-clause-cause
@@ -58,8 +57,7 @@ returns-in_err-print_drill_cone-clause-cause g c =
     let p = err_from_is_err_and c.from_residual.result c.from_residual.ensures.1 in
     let here = c.loop-number.invariant in
     let cause = c.in_err-print_drill_cone.ensures.cause in
-    rw p.1
-    (record {
+    rw p.1 (record {
       never_falls = omega (arith, here.falls, cause.never_falls);
       failed = λ failed. risen_since (g.K.Faulty.faults c.args.out.now) (g.K.Faulty.faults c.loop-number.out) (g.K.Faulty.faults c.print_drill_cone.new.out) here.falls (omega arith)
           (cause.failed refl);
@@ -102,42 +100,39 @@ loop-number-preserved g c =
       falls = omega (arith, here.falls, c.print_drill_cone.ensures.cause.never_falls);
     }
 
-pub returns-clause-ok : goal.returns-clause-ok
-returns-clause-ok g c = λ text was.
-    let here = c.loop-number.invariant in
-    let all = map drilled_as c.args.cones.now in
-    let start = g.K.Sink.taken c.args.out.now in
-    let enough : length all ≤ c.loop-number.number = omega (arith, c.loop-number-test.false, length-map c.args.cones.now drilled_as) in
-    let whole = take_all c.loop-number.number all enough in
-    let printing = subst (λ (ones : List Drilled). IsPrinting start (g.K.Sink.taken c.loop-number.out) c.loop-number.page (drill_texts 0 ones)) whole here.printing in
-    let texts = lines_are all c.loop-number.events c.loop-number.reports (here.events ∙ ap (λ (ones : List Drilled). sum_by (λ (one : Drilled). one.events) ones) whole)
-    (here.reports ∙ ap (λ (ones : List Drilled). sum_by (λ (one : Drilled). length one.keys) ones) whole) in
-    on_ok_weaker c.print_total.result
-    (λ printed. IsPrinting-all start (g.K.Sink.taken c.print_total.new.out) (drill_lines all) (subst (IsPrinting start (g.K.Sink.taken c.print_total.new.out) _) texts printed) text was)
-    (c.print_total.ensures.ok start (drill_texts 0 all) printing)
-
-pub returns-clause-cut : goal.returns-clause-cut
-returns-clause-cut g c =
-    let here = c.loop-number.invariant in
-    let all = map drilled_as c.args.cones.now in
-    let start = g.K.Sink.taken c.args.out.now in
-    let enough : length all ≤ c.loop-number.number = omega (arith, c.loop-number-test.false, length-map c.args.cones.now drilled_as) in
-    let whole = take_all c.loop-number.number all enough in
-    let printing = subst (λ (ones : List Drilled). IsPrinting start (g.K.Sink.taken c.loop-number.out) c.loop-number.page (drill_texts 0 ones)) whole here.printing in
-    let texts = lines_are all c.loop-number.events c.loop-number.reports (here.events ∙ ap (λ (ones : List Drilled). sum_by (λ (one : Drilled). one.events) ones) whole)
-    (here.reports ∙ ap (λ (ones : List Drilled). sum_by (λ (one : Drilled). length one.keys) ones) whole) in
-    on_err_weaker c.print_total.result (λ cut. subst (IsCut start (g.K.Sink.taken c.print_total.new.out)) texts cut)
-    (c.print_total.ensures.cut start (drill_texts 0 all) printing)
-
-pub returns-clause-cause : goal.returns-clause-cause
-returns-clause-cause g c =
-    let here = c.loop-number.invariant in
-    let cause = c.print_total.ensures.cause in
-    record {
-      never_falls = omega (arith, here.falls, cause.never_falls);
-      failed = λ failed. risen_since (g.K.Faulty.faults c.args.out.now) (g.K.Faulty.faults c.loop-number.out) (g.K.Faulty.faults c.print_total.new.out) here.falls cause.never_falls
-          (cause.failed failed);
-    }
+pub returns : goal.returns
+returns g c = record {
+  ok = λ text was.
+      let here = c.loop-number.invariant in
+      let all = map drilled_as c.args.cones.now in
+      let start = g.K.Sink.taken c.args.out.now in
+      let enough : length all ≤ c.loop-number.number = omega (arith, c.loop-number-test.false, length-map c.args.cones.now drilled_as) in
+      let whole = take_all c.loop-number.number all enough in
+      let printing = subst (λ (ones : List Drilled). IsPrinting start (g.K.Sink.taken c.loop-number.out) c.loop-number.page (drill_texts 0 ones)) whole here.printing in
+      let texts = lines_are all c.loop-number.events c.loop-number.reports (here.events ∙ ap (λ (ones : List Drilled). sum_by (λ (one : Drilled). one.events) ones) whole)
+      (here.reports ∙ ap (λ (ones : List Drilled). sum_by (λ (one : Drilled). length one.keys) ones) whole) in
+      on_ok_weaker c.print_total.result
+      (λ printed. IsPrinting-all start (g.K.Sink.taken c.print_total.new.out) (drill_lines all) (subst (IsPrinting start (g.K.Sink.taken c.print_total.new.out) _) texts printed) text was)
+      (c.print_total.ensures.ok start (drill_texts 0 all) printing);
+  cut =
+      let here = c.loop-number.invariant in
+      let all = map drilled_as c.args.cones.now in
+      let start = g.K.Sink.taken c.args.out.now in
+      let enough : length all ≤ c.loop-number.number = omega (arith, c.loop-number-test.false, length-map c.args.cones.now drilled_as) in
+      let whole = take_all c.loop-number.number all enough in
+      let printing = subst (λ (ones : List Drilled). IsPrinting start (g.K.Sink.taken c.loop-number.out) c.loop-number.page (drill_texts 0 ones)) whole here.printing in
+      let texts = lines_are all c.loop-number.events c.loop-number.reports (here.events ∙ ap (λ (ones : List Drilled). sum_by (λ (one : Drilled). one.events) ones) whole)
+      (here.reports ∙ ap (λ (ones : List Drilled). sum_by (λ (one : Drilled). length one.keys) ones) whole) in
+      on_err_weaker c.print_total.result (λ cut. subst (IsCut start (g.K.Sink.taken c.print_total.new.out)) texts cut) (c.print_total.ensures.cut start (drill_texts 0 all) printing);
+  cause =
+      let here = c.loop-number.invariant in
+      let cause = c.print_total.ensures.cause in
+      record {
+        never_falls = omega (arith, here.falls, cause.never_falls);
+        failed = λ failed. risen_since (g.K.Faulty.faults c.args.out.now) (g.K.Faulty.faults c.loop-number.out) (g.K.Faulty.faults c.print_total.new.out) here.falls cause.never_falls
+            (cause.failed failed);
+      };
+}
 
 pub overflow_add-events : goal.overflow_add-events
 overflow_add-events g c = omega (arith, c.loop-number.invariant.few_events, c.summary_of-events_here.ensures.few_events, c.loop-number-test.true, c.requires.few)

@@ -7,9 +7,8 @@ use Rattle.lert_ingest.specs.Bays.{AreLater, bays_of}
 use Rattle.lert_ingest.proofs.BayLaws.{are_same}
 use Rattle.lert_text.specs.Page.{IsCut}
 use Rattle.lert_top.specs.cones.Print.{ArePrintable, printed_as}
-use Rattle.lert_top.specs.recovery.Recovered.{AreJournalsSame, AreRecovered, AreSoundStill}
+use Rattle.lert_top.specs.recovery.Recovered.{AreJournalsSame, AreRecovered, AreSoundStill, printed, printed_partly, unopened, unopened_memory}
 use Rattle.lert_top.proofs.recovery.JournalLaws.{journals_same}
-use Rattle.lert_top.proofs.recovery.RecoverEnding.{shows_unopened}
 use Rattle.lert_top.proofs.recovery.RecoverLaws.{all_formed, open_printable, open_recovered}
 use Rattle.lert_top.proofs.recovery.SoundLaws.{sound_same}
 use Rattle.lert_bay.specs.Kept.{Bays}
@@ -36,11 +35,14 @@ lawful g = record { as_read = g.met.B.Bay.as_read; since_now = g.met.B.Bay.since
 few_bits : (known bits : ℕ) → known ≡ bits → known ≤ 8 → bits ≤ 8
 few_bits known bits same few = omega (arith, same, few)
 
-pub returns-in-Err-reopen_cones-clause-shows : goal.returns-in-Err-reopen_cones-clause-shows
-returns-in-Err-reopen_cones-clause-shows g c =
-    shows_unopened {K = g.row.K.Denot} {B = g.row.B.Denot} g.K.Sink.taken g.K.Faulty.faults g.B.Bay.files g.B.Faulty.faults c.args.settings.now c.args.out.now c.args.out.now c.args.bays.now.items
-    c.reopen_cones.new.bays.items
-    c.in-Err-reopen_cones.status refl c.in-Err-reopen_cones.ensures.unopened
+pub returns-in-Err-reopen_cones : goal.returns-in-Err-reopen_cones
+returns-in-Err-reopen_cones g c = record {
+  later = c.in-Err-reopen_cones.ensures.kept;
+  journals = c.in-Err-reopen_cones.ensures.journals_kept;
+  stays_sound = c.in-Err-reopen_cones.ensures.stays_sound_kept;
+  each_moment = c.in-Err-reopen_cones.ensures.each_moment_kept;
+  shows = unopened c.in-Err-reopen_cones.ensures.unopened refl;
+}
 
 pub print_cones-printed-requires-clause-few : goal.print_cones-printed-requires-clause-few
 print_cones-printed-requires-clause-few g c =
@@ -60,120 +62,80 @@ print_cones-printed-requires-clause-printable g c =
     (open_printable g.B.Bay.files g.B.Bay.leaves g.B.Faulty.faults g.B.Faulty.mark c.args.settings.now c.args.bays.now.items cones c.in-Ok-reopen_cones.ensures.open number
     c.in-Ok-reopen_cones.ensures.later)
 
-pub returns-in-Ok-printed-clause-shows : goal.returns-in-Ok-printed-clause-shows
-returns-in-Ok-printed-clause-shows g c =
-    let s = c.args.settings.now in
-    let bays = c.args.bays.now.items in
-    let cones = c.in-Ok-reopen_cones.cones.items in
-    let number : length cones ≡ length bays = omega (arith, c.in-Ok-reopen_cones.ensures.number, c.requires.number) in
-    let back = c.bring_back.ensures.bays ∙ (ap (λ xs. bays_of cones ++ xs) c.in-Ok-reopen_cones.ensures.emptied ∙ append-nil (bays_of cones)) in (
-      all_formed g.B.Bay.files g.B.Bay.leaves g.B.Faulty.faults g.B.Faulty.mark s bays cones c.in-Ok-reopen_cones.ensures.open number c.in-Ok-reopen_cones.ensures.later,
-      (
-        map printed_as cones,
-        subst (λ (xs : List g.row.B.Denot). AreRecovered g.B.Bay.files s bays xs (map printed_as cones)) (sym back)
-            (open_recovered g.B.Bay.files g.B.Bay.leaves g.B.Faulty.faults g.B.Faulty.mark s bays cones c.in-Ok-reopen_cones.ensures.open number c.in-Ok-reopen_cones.ensures.later
-            c.requires.number),
-        λ text had. c.in-Ok-printed.ensures.ok text had ∙ ap (λ (xs : List (Standing g.row.B.Denot)). Some (text ++ lines (map printed_as xs))) c.as_slice.ensures.value,
-      ),
-    )
+pub returns-in-Ok-printed : goal.returns-in-Ok-printed
+returns-in-Ok-printed g c = record {
+  later =
+      let cones = c.in-Ok-reopen_cones.cones.items in
+      let back = c.bring_back.ensures.bays ∙ (ap (λ xs. bays_of cones ++ xs) c.in-Ok-reopen_cones.ensures.emptied ∙ append-nil (bays_of cones)) in
+      subst (AreLater g.B.Bay.files g.B.Faulty.faults g.B.Faulty.mark c.args.bays.now.items) (sym back) c.in-Ok-reopen_cones.ensures.later;
+  journals =
+      let cones = c.in-Ok-reopen_cones.cones.items in
+      let back = c.bring_back.ensures.bays ∙ (ap (λ xs. bays_of cones ++ xs) c.in-Ok-reopen_cones.ensures.emptied ∙ append-nil (bays_of cones)) in
+      subst (AreJournalsSame g.B.Bay.files c.args.bays.now.items) (sym back) c.in-Ok-reopen_cones.ensures.journals;
+  stays_sound =
+      let cones = c.in-Ok-reopen_cones.cones.items in
+      let back = c.bring_back.ensures.bays ∙ (ap (λ xs. bays_of cones ++ xs) c.in-Ok-reopen_cones.ensures.emptied ∙ append-nil (bays_of cones)) in
+      subst (AreSoundStill g.B.Bay.files c.args.settings.now c.args.bays.now.items) (sym back) c.in-Ok-reopen_cones.ensures.stays_sound;
+  each_moment =
+      let cones = c.in-Ok-reopen_cones.cones.items in
+      let back = c.bring_back.ensures.bays ∙ (ap (λ xs. bays_of cones ++ xs) c.in-Ok-reopen_cones.ensures.emptied ∙ append-nil (bays_of cones)) in
+      subst (AreSpared (bays_in g) c.args.settings.now c.args.bays.now.items) (sym back) c.in-Ok-reopen_cones.ensures.each_moment;
+  shows =
+      let s = c.args.settings.now in
+      let bays = c.args.bays.now.items in
+      let cones = c.in-Ok-reopen_cones.cones.items in
+      let number : length cones ≡ length bays = omega (arith, c.in-Ok-reopen_cones.ensures.number, c.requires.number) in
+      let back = c.bring_back.ensures.bays ∙ (ap (λ xs. bays_of cones ++ xs) c.in-Ok-reopen_cones.ensures.emptied ∙ append-nil (bays_of cones)) in
+      printed (all_formed g.B.Bay.files g.B.Bay.leaves g.B.Faulty.faults g.B.Faulty.mark s bays cones c.in-Ok-reopen_cones.ensures.open number c.in-Ok-reopen_cones.ensures.later)
+      (map printed_as cones) (subst (λ (xs : List g.row.B.Denot). AreRecovered g.B.Bay.files s bays xs (map printed_as cones)) (sym back)
+      (open_recovered g.B.Bay.files g.B.Bay.leaves g.B.Faulty.faults g.B.Faulty.mark s bays cones c.in-Ok-reopen_cones.ensures.open number c.in-Ok-reopen_cones.ensures.later
+      c.requires.number)) (λ text had. c.in-Ok-printed.ensures.ok text had ∙ ap (λ (xs : List (Standing g.row.B.Denot)). Some (text ++ lines (map printed_as xs))) c.as_slice.ensures.value);
+}
 
-pub returns-clause-shows : goal.returns-clause-shows
-returns-clause-shows g c =
-    let s = c.args.settings.now in
-    let bays = c.args.bays.now.items in
-    let cones = c.in-Ok-reopen_cones.cones.items in
-    let number : length cones ≡ length bays = omega (arith, c.in-Ok-reopen_cones.ensures.number, c.requires.number) in
-    let back = c.bring_back.ensures.bays ∙ (ap (λ xs. bays_of cones ++ xs) c.in-Ok-reopen_cones.ensures.emptied ∙ append-nil (bays_of cones)) in (
-      c.in-Err-printed.ensures.cause.failed refl,
-      all_formed g.B.Bay.files g.B.Bay.leaves g.B.Faulty.faults g.B.Faulty.mark s bays cones c.in-Ok-reopen_cones.ensures.open number c.in-Ok-reopen_cones.ensures.later,
-      (
-        map printed_as cones,
-        subst (λ (xs : List g.row.B.Denot). AreRecovered g.B.Bay.files s bays xs (map printed_as cones)) (sym back)
-            (open_recovered g.B.Bay.files g.B.Bay.leaves g.B.Faulty.faults g.B.Faulty.mark s bays cones c.in-Ok-reopen_cones.ensures.open number c.in-Ok-reopen_cones.ensures.later
-            c.requires.number),
-        subst (λ (xs : List (Standing g.row.B.Denot)). IsCut (g.K.Sink.taken c.args.out.now) (g.K.Sink.taken c.print_cones-printed.new.out) (lines (map printed_as xs))) c.as_slice.ensures.value
-            c.in-Err-printed.ensures.cut,
-      ),
-    )
+pub returns : goal.returns
+returns g c = record {
+  later =
+      let cones = c.in-Ok-reopen_cones.cones.items in
+      let back = c.bring_back.ensures.bays ∙ (ap (λ xs. bays_of cones ++ xs) c.in-Ok-reopen_cones.ensures.emptied ∙ append-nil (bays_of cones)) in
+      subst (AreLater g.B.Bay.files g.B.Faulty.faults g.B.Faulty.mark c.args.bays.now.items) (sym back) c.in-Ok-reopen_cones.ensures.later;
+  journals =
+      let cones = c.in-Ok-reopen_cones.cones.items in
+      let back = c.bring_back.ensures.bays ∙ (ap (λ xs. bays_of cones ++ xs) c.in-Ok-reopen_cones.ensures.emptied ∙ append-nil (bays_of cones)) in
+      subst (AreJournalsSame g.B.Bay.files c.args.bays.now.items) (sym back) c.in-Ok-reopen_cones.ensures.journals;
+  stays_sound =
+      let cones = c.in-Ok-reopen_cones.cones.items in
+      let back = c.bring_back.ensures.bays ∙ (ap (λ xs. bays_of cones ++ xs) c.in-Ok-reopen_cones.ensures.emptied ∙ append-nil (bays_of cones)) in
+      subst (AreSoundStill g.B.Bay.files c.args.settings.now c.args.bays.now.items) (sym back) c.in-Ok-reopen_cones.ensures.stays_sound;
+  each_moment =
+      let cones = c.in-Ok-reopen_cones.cones.items in
+      let back = c.bring_back.ensures.bays ∙ (ap (λ xs. bays_of cones ++ xs) c.in-Ok-reopen_cones.ensures.emptied ∙ append-nil (bays_of cones)) in
+      subst (AreSpared (bays_in g) c.args.settings.now c.args.bays.now.items) (sym back) c.in-Ok-reopen_cones.ensures.each_moment;
+  shows =
+      let s = c.args.settings.now in
+      let bays = c.args.bays.now.items in
+      let cones = c.in-Ok-reopen_cones.cones.items in
+      let number : length cones ≡ length bays = omega (arith, c.in-Ok-reopen_cones.ensures.number, c.requires.number) in
+      let back = c.bring_back.ensures.bays ∙ (ap (λ xs. bays_of cones ++ xs) c.in-Ok-reopen_cones.ensures.emptied ∙ append-nil (bays_of cones)) in
+      printed_partly (all_formed g.B.Bay.files g.B.Bay.leaves g.B.Faulty.faults g.B.Faulty.mark s bays cones c.in-Ok-reopen_cones.ensures.open number c.in-Ok-reopen_cones.ensures.later)
+      (map printed_as cones) (subst (λ (xs : List g.row.B.Denot). AreRecovered g.B.Bay.files s bays xs (map printed_as cones)) (sym back)
+      (open_recovered g.B.Bay.files g.B.Bay.leaves g.B.Faulty.faults g.B.Faulty.mark s bays cones c.in-Ok-reopen_cones.ensures.open number c.in-Ok-reopen_cones.ensures.later
+      c.requires.number)) (c.in-Err-printed.ensures.cause.failed refl)
+      (subst (λ (xs : List (Standing g.row.B.Denot)). IsCut (g.K.Sink.taken c.args.out.now) (g.K.Sink.taken c.print_cones-printed.new.out) (lines (map printed_as xs))) c.as_slice.ensures.value
+      c.in-Err-printed.ensures.cut);
+}
 
-pub reopen_cones-requires-clause-number : goal.reopen_cones-requires-clause-number
-reopen_cones-requires-clause-number g c = c.requires.number
+pub reopen_cones-requires : goal.reopen_cones-requires
+reopen_cones-requires g c = record { number = c.requires.number; room = c.requires.room }
 
-pub reopen_cones-requires-clause-room : goal.reopen_cones-requires-clause-room
-reopen_cones-requires-clause-room g c = c.requires.room
-
-pub returns-in-Err-clause-later : goal.returns-in-Err-clause-later
-returns-in-Err-clause-later g c = are_same g.B.Bay.files g.B.Faulty.faults g.B.Faulty.mark c.args.bays.now.items
-
-pub returns-in-Err-reopen_cones-clause-later : goal.returns-in-Err-reopen_cones-clause-later
-returns-in-Err-reopen_cones-clause-later g c = c.in-Err-reopen_cones.ensures.kept
+pub returns-in-Err : goal.returns-in-Err
+returns-in-Err g c = record {
+  later = are_same g.B.Bay.files g.B.Faulty.faults g.B.Faulty.mark c.args.bays.now.items;
+  journals = journals_same g.B.Bay.files c.args.bays.now.items;
+  stays_sound = sound_same g.B.Bay.files c.args.settings.now c.args.bays.now.items;
+  each_moment = throughout_same (bays_in g) (lawful g) c.args.settings.now c.args.bays.now.items;
+  shows = unopened (unopened_memory refl) refl;
+}
 
 pub bring_back-requires : goal.bring_back-requires
 bring_back-requires g c =
     omega (arith, c.in-Ok-reopen_cones.ensures.number, c.requires.number, c.requires.room, ap length c.in-Ok-reopen_cones.ensures.emptied, c.reopen_cones.ensures.room)
-
-pub returns-in-Ok-printed-clause-later : goal.returns-in-Ok-printed-clause-later
-returns-in-Ok-printed-clause-later g c =
-    let cones = c.in-Ok-reopen_cones.cones.items in
-    let back = c.bring_back.ensures.bays ∙ (ap (λ xs. bays_of cones ++ xs) c.in-Ok-reopen_cones.ensures.emptied ∙ append-nil (bays_of cones)) in
-    subst (AreLater g.B.Bay.files g.B.Faulty.faults g.B.Faulty.mark c.args.bays.now.items) (sym back) c.in-Ok-reopen_cones.ensures.later
-
-pub returns-clause-later : goal.returns-clause-later
-returns-clause-later g c =
-    let cones = c.in-Ok-reopen_cones.cones.items in
-    let back = c.bring_back.ensures.bays ∙ (ap (λ xs. bays_of cones ++ xs) c.in-Ok-reopen_cones.ensures.emptied ∙ append-nil (bays_of cones)) in
-    subst (AreLater g.B.Bay.files g.B.Faulty.faults g.B.Faulty.mark c.args.bays.now.items) (sym back) c.in-Ok-reopen_cones.ensures.later
-
-pub returns-in-Err-clause-journals : goal.returns-in-Err-clause-journals
-returns-in-Err-clause-journals g c = journals_same g.B.Bay.files c.args.bays.now.items
-
-pub returns-in-Err-reopen_cones-clause-journals : goal.returns-in-Err-reopen_cones-clause-journals
-returns-in-Err-reopen_cones-clause-journals g c = c.in-Err-reopen_cones.ensures.journals_kept
-
-pub returns-in-Ok-printed-clause-journals : goal.returns-in-Ok-printed-clause-journals
-returns-in-Ok-printed-clause-journals g c =
-    let cones = c.in-Ok-reopen_cones.cones.items in
-    let back = c.bring_back.ensures.bays ∙ (ap (λ xs. bays_of cones ++ xs) c.in-Ok-reopen_cones.ensures.emptied ∙ append-nil (bays_of cones)) in
-    subst (AreJournalsSame g.B.Bay.files c.args.bays.now.items) (sym back) c.in-Ok-reopen_cones.ensures.journals
-
-pub returns-clause-journals : goal.returns-clause-journals
-returns-clause-journals g c =
-    let cones = c.in-Ok-reopen_cones.cones.items in
-    let back = c.bring_back.ensures.bays ∙ (ap (λ xs. bays_of cones ++ xs) c.in-Ok-reopen_cones.ensures.emptied ∙ append-nil (bays_of cones)) in
-    subst (AreJournalsSame g.B.Bay.files c.args.bays.now.items) (sym back) c.in-Ok-reopen_cones.ensures.journals
-
-pub returns-in-Err-clause-stays_sound : goal.returns-in-Err-clause-stays_sound
-returns-in-Err-clause-stays_sound g c = sound_same g.B.Bay.files c.args.settings.now c.args.bays.now.items
-
-pub returns-in-Err-reopen_cones-clause-stays_sound : goal.returns-in-Err-reopen_cones-clause-stays_sound
-returns-in-Err-reopen_cones-clause-stays_sound g c = c.in-Err-reopen_cones.ensures.stays_sound_kept
-
-pub returns-in-Ok-printed-clause-stays_sound : goal.returns-in-Ok-printed-clause-stays_sound
-returns-in-Ok-printed-clause-stays_sound g c =
-    let cones = c.in-Ok-reopen_cones.cones.items in
-    let back = c.bring_back.ensures.bays ∙ (ap (λ xs. bays_of cones ++ xs) c.in-Ok-reopen_cones.ensures.emptied ∙ append-nil (bays_of cones)) in
-    subst (AreSoundStill g.B.Bay.files c.args.settings.now c.args.bays.now.items) (sym back) c.in-Ok-reopen_cones.ensures.stays_sound
-
-pub returns-clause-stays_sound : goal.returns-clause-stays_sound
-returns-clause-stays_sound g c =
-    let cones = c.in-Ok-reopen_cones.cones.items in
-    let back = c.bring_back.ensures.bays ∙ (ap (λ xs. bays_of cones ++ xs) c.in-Ok-reopen_cones.ensures.emptied ∙ append-nil (bays_of cones)) in
-    subst (AreSoundStill g.B.Bay.files c.args.settings.now c.args.bays.now.items) (sym back) c.in-Ok-reopen_cones.ensures.stays_sound
-
-pub returns-in-Err-clause-each_moment : goal.returns-in-Err-clause-each_moment
-returns-in-Err-clause-each_moment g c = throughout_same (bays_in g) (lawful g) c.args.settings.now c.args.bays.now.items
-
-pub returns-in-Err-reopen_cones-clause-each_moment : goal.returns-in-Err-reopen_cones-clause-each_moment
-returns-in-Err-reopen_cones-clause-each_moment g c = c.in-Err-reopen_cones.ensures.each_moment_kept
-
-pub returns-in-Ok-printed-clause-each_moment : goal.returns-in-Ok-printed-clause-each_moment
-returns-in-Ok-printed-clause-each_moment g c =
-    let cones = c.in-Ok-reopen_cones.cones.items in
-    let back = c.bring_back.ensures.bays ∙ (ap (λ xs. bays_of cones ++ xs) c.in-Ok-reopen_cones.ensures.emptied ∙ append-nil (bays_of cones)) in
-    subst (AreSpared (bays_in g) c.args.settings.now c.args.bays.now.items) (sym back) c.in-Ok-reopen_cones.ensures.each_moment
-
-pub returns-clause-each_moment : goal.returns-clause-each_moment
-returns-clause-each_moment g c =
-    let cones = c.in-Ok-reopen_cones.cones.items in
-    let back = c.bring_back.ensures.bays ∙ (ap (λ xs. bays_of cones ++ xs) c.in-Ok-reopen_cones.ensures.emptied ∙ append-nil (bays_of cones)) in
-    subst (AreSpared (bays_in g) c.args.settings.now c.args.bays.now.items) (sym back) c.in-Ok-reopen_cones.ensures.each_moment

@@ -1,7 +1,8 @@
 use Rattle.std.specs.Prelude.{OnErr}
-use Rattle.std.proofs.Common.{◌++◌, Result, Ok, Err, ap, sym, ◌∙◌, subst, arith, append-nil}
+use Rattle.std.proofs.Common.{◌++◌, Result, Ok, Err, refl, ap, sym, ◌∙◌, subst, arith, append-nil}
 use Rattle.lert_ingest.specs.Bays.{AreLater, bays_of}
-use Rattle.lert_top.specs.recovery.Recovered.{AreJournalsSame, AreSoundStill, IsUnopened}
+use Rattle.lert_top.specs.recovery.Recovered.{AreJournalsSame, AreSoundStill, IsUnopened, unopened_memory}
+use Rattle.std.proofs.lemmas.Result.{err_from_is_err_and}
 use Rattle.lert_top.proofs.cones.ConeLaws.{cones_and_left}
 use Rattle.lert_bay.specs.Kept.{Bays}
 use Rattle.lert_bay.proofs.KeptLaws.{IsLawful}
@@ -67,8 +68,7 @@ returns-clause-stays_sound_kept g c =
 pub returns-in-Ok-reopen_rooms-clause-each_moment : goal.returns-in-Ok-reopen_rooms-clause-each_moment
 returns-in-Ok-reopen_rooms-clause-each_moment g c =
     let made = bays_of c.reopen_rooms.new.cones.items in
-    subst (AreSpared (bays g) c.args.settings.now c.args.bays.now.items)
-    (ap (λ xs. made ++ xs) c.in-Ok-reopen_rooms.ensures.emptied ∙ append-nil made) c.reopen_rooms.ensures.each_moment
+    subst (AreSpared (bays g) c.args.settings.now c.args.bays.now.items) (ap (λ xs. made ++ xs) c.in-Ok-reopen_rooms.ensures.emptied ∙ append-nil made) c.reopen_rooms.ensures.each_moment
 
 pub returns-clause-each_moment_kept : goal.returns-clause-each_moment_kept
 returns-clause-each_moment_kept g c =
@@ -84,3 +84,10 @@ returns-in_err-rooms-clause-each_moment_kept g c =
 
 pub returns-in_default-clause-each_moment_kept : goal.returns-in_default-clause-each_moment_kept
 returns-in_default-clause-each_moment_kept g c = throughout_same (bays g) (lawful g) c.args.settings.now c.args.bays.now.items
+
+pub returns-in_err-rooms-clause-unopened : goal.returns-in_err-rooms-clause-unopened
+returns-in_err-rooms-clause-unopened g c =
+    let p = err_from_is_err_and c.from_residual.result c.from_residual.ensures.1 in rw (p.1, p.2) (unopened_memory refl)
+
+pub returns-in_default-clause-unopened : goal.returns-in_default-clause-unopened
+returns-in_default-clause-unopened g c = unopened_memory refl

@@ -199,8 +199,7 @@ loop-number-preserved g c =
           c.in-Ok.ensures.unharmed in
           let moments_here = subst (λ (n : Numbers). IsSpared (bays_in g) n (length cones) bay cone.bay) popped.1.0
           (subst (λ (n : ℕ). IsSpared (bays_in g) room.settings n bay cone.bay) (sym here.number) moments) in
-          subst (λ xs. AreSpared (bays_in g) s bays (bays_of xs ++ rest)) (sym pushed)
-          (throughout_made (bays_in g) s bays cones bay rest there so_far cone moments_here);
+          subst (λ xs. AreSpared (bays_in g) s bays (bays_of xs ++ rest)) (sym pushed) (throughout_made (bays_in g) s bays cones bay rest there so_far cone moments_here);
       open_cones = λ place found is.
           each-push (λ (k : ℕ) (x : Standing g.row.B.Denot). (held : g.row.B.Denot) → slice_get bays k ≡ Some held → IsOpenOver g.B.Bay.files g.B.Bay.leaves g.B.Faulty.faults s k held x)
           cones cone here.open_cones
@@ -249,12 +248,11 @@ push_front_reserved-requires g c =
       c.pop_front.new.self.ok,
     )
 
-pub reopen-requires-clause-named : goal.reopen-requires-clause-named
-reopen-requires-clause-named g c =
-    let popped = All-pop (IsNewRoom c.args.settings.now) c.loop-number.rooms.items c.pop.new.self.items (Some c.in-Some-pop.room) c.in-Some-pop.ensures.items c.loop-number.invariant.rooms in
-    let below : c.loop-number.number < 2 ^ c.args.settings.now.cone_bits = omega (arith, c.loop-number-test.true, c.cones-number-end.ensures) in
-    subst (λ (n : Numbers). c.loop-number.number < 2 ^ n.cone_bits) (sym popped.1.0) below
-
-pub reopen-requires-clause-room : goal.reopen-requires-clause-room
-reopen-requires-clause-room g c =
-    (All-pop (IsNewRoom c.args.settings.now) c.loop-number.rooms.items c.pop.new.self.items (Some c.in-Some-pop.room) c.in-Some-pop.ensures.items c.loop-number.invariant.rooms).1.1
+pub reopen-requires : goal.reopen-requires
+reopen-requires g c = record {
+  named =
+      let popped = All-pop (IsNewRoom c.args.settings.now) c.loop-number.rooms.items c.pop.new.self.items (Some c.in-Some-pop.room) c.in-Some-pop.ensures.items c.loop-number.invariant.rooms in
+      let below : c.loop-number.number < 2 ^ c.args.settings.now.cone_bits = omega (arith, c.loop-number-test.true, c.cones-number-end.ensures) in
+      subst (λ (n : Numbers). c.loop-number.number < 2 ^ n.cone_bits) (sym popped.1.0) below;
+  room = (All-pop (IsNewRoom c.args.settings.now) c.loop-number.rooms.items c.pop.new.self.items (Some c.in-Some-pop.room) c.in-Some-pop.ensures.items c.loop-number.invariant.rooms).1.1;
+}

@@ -9,65 +9,64 @@ use Rattle.lert_top.proofs.cones.StatusLaws.{no_memory_no_place, no_memory_no_us
 use Rattle.lert_top.proofs.runs.RunLaws.{HasRun-shows, not_place_fault, not_usage, run_none}
 use Rattle.lert_top.proofs.runs.runs.run_traces.Goals as goal
 
-pub returns-in-Err-clause-asked : goal.returns-in-Err-clause-asked
-returns-in-Err-clause-asked g c =
-    elim c.in-Err.ensures.refused [
-      | inl none ↦ inr (record {
-        number = 0;
-        within = omega arith;
-        asked_is = ap g.P.Place.asked none.1 ∙ sym (append-nil (g.P.Place.asked c.args.place.now));
-        no_fault = λ is. no_memory_no_place (sym none.0 ∙ is);
-        all = λ is. absurd (no_memory_not_done (sym none.0 ∙ is));
-      })
-      | inr bay ↦ inl (record { number = bay.2.0; named = omega (arith, bay.2.1, c.cones.ensures); asked_is = bay.2.2; status_is = bay.0 })
-    ]
-
-pub returns-in-Err-clause-place_fault : goal.returns-in-Err-clause-place_fault
-returns-in-Err-clause-place_fault g c = λ is.
-    elim c.in-Err.ensures.refused [
-      | inl none ↦ absurd (no_memory_no_place (sym none.0 ∙ is))
-      | inr bay ↦ (bay.1, refl, refl, bay.4)
-    ]
-
-pub returns-in-Err-clause-returned : goal.returns-in-Err-clause-returned
-returns-in-Err-clause-returned g c =
-    elim c.in-Err.ensures.refused [
-      | inl none ↦ none_returned g.P.Bay.Faulty.mark _ _ (ap g.P.Place.handed_bays none.1 ∙ c.requires.none)
-      | inr bay ↦ bay.3
-    ]
-
-pub returns-in-Err-clause-ran : goal.returns-in-Err-clause-ran
-returns-in-Err-clause-ran g c = λ differs.
-    elim c.in-Err.ensures.refused [
-      | inl none ↦
-          let same = ap g.P.Place.handed_bays none.1 ∙ c.requires.none in
-          let traces = c.args.traces.items in
-          let out = c.args.out.now in (
-            [],
-            λ cone below. absurd (omega (arith, below)),
-            subst (λ (xs : List g.row.P-Bay.Denot). AreLater g.P.Bay.Bay.files g.P.Bay.Faulty.faults g.P.Bay.Faulty.mark xs []) (sym same)
-                (are_same g.P.Bay.Bay.files g.P.Bay.Faulty.faults g.P.Bay.Faulty.mark []),
-            subst (λ (xs : List g.row.P-Bay.Denot). HasRun {S = g.row.P-Trace.Denot} {K = g.row.K.Denot} {B = g.row.P-Bay.Denot} g.P.Trace.Source.remaining g.P.Trace.Faulty.faults
-                g.K.Sink.taken g.K.Faulty.faults
-                g.P.Bay.Bay.files g.P.Bay.Faulty.faults c.args.settings.now c.args.workers traces traces out out xs [] c.in-Err.status) (sym same)
-                (subst (λ (st : Status). HasRun {S = g.row.P-Trace.Denot} {K = g.row.K.Denot} {B = g.row.P-Bay.Denot} g.P.Trace.Source.remaining g.P.Trace.Faulty.faults
-                g.K.Sink.taken g.K.Faulty.faults
-                g.P.Bay.Bay.files g.P.Bay.Faulty.faults c.args.settings.now c.args.workers traces traces out out [] [] st) (sym none.0)
-                (run_none {S = g.row.P-Trace.Denot} {K = g.row.K.Denot} {B = g.row.P-Bay.Denot} g.P.Trace.Source.remaining g.P.Trace.Faulty.faults g.K.Sink.taken g.K.Faulty.faults
-                g.P.Bay.Bay.files g.P.Bay.Faulty.faults c.args.settings.now c.args.workers traces traces out out [] [] refl refl refl refl)),
-          )
-      | inr bay ↦ absurd (differs bay.0)
-    ]
-
-pub returns-in-Err-clause-later : goal.returns-in-Err-clause-later
-returns-in-Err-clause-later g c = traces_same g.P.Trace.Faulty.faults g.P.Trace.Faulty.mark c.args.traces.items
-
-pub returns-in-Err-clause-no_usage : goal.returns-in-Err-clause-no_usage
-returns-in-Err-clause-no_usage g c = λ rule is.
-    elim c.in-Err.ensures.refused [
-      | inl none ↦ no_memory_no_usage rule (sym none.0 ∙ is)
-      | inr bay ↦ no_place_no_usage rule (sym bay.0 ∙ is)
-    ]
+pub returns-in-Err : goal.returns-in-Err
+returns-in-Err g c = record {
+  asked =
+      elim c.in-Err.ensures.refused [
+        | inl none ↦ inr (record {
+          number = 0;
+          within = omega arith;
+          asked_is = ap g.P.Place.asked none.1 ∙ sym (append-nil (g.P.Place.asked c.args.place.now));
+          no_fault = λ is. no_memory_no_place (sym none.0 ∙ is);
+          all = λ is. absurd (no_memory_not_done (sym none.0 ∙ is));
+        })
+        | inr bay ↦ inl (record { number = bay.2.0; named = omega (arith, bay.2.1, c.cones.ensures); asked_is = bay.2.2; status_is = bay.0 })
+      ];
+  place_fault = λ is.
+      elim c.in-Err.ensures.refused [
+        | inl none ↦ absurd (no_memory_no_place (sym none.0 ∙ is))
+        | inr bay ↦ (bay.1, refl, refl, bay.4)
+      ];
+  returned =
+      elim c.in-Err.ensures.refused [
+        | inl none ↦ none_returned g.P.Bay.Faulty.mark _ _ (ap g.P.Place.handed_bays none.1 ∙ c.requires.none)
+        | inr bay ↦ bay.3
+      ];
+  ran = λ differs.
+      elim c.in-Err.ensures.refused [
+        | inl none ↦
+            let same = ap g.P.Place.handed_bays none.1 ∙ c.requires.none in
+            let traces = c.args.traces.items in
+            let out = c.args.out.now in (
+              [],
+              λ cone below. absurd (omega (arith, below)),
+              subst (λ (xs : List g.row.P-Bay.Denot). AreLater g.P.Bay.Bay.files g.P.Bay.Faulty.faults g.P.Bay.Faulty.mark xs []) (sym same)
+                  (are_same g.P.Bay.Bay.files g.P.Bay.Faulty.faults g.P.Bay.Faulty.mark []),
+              subst (λ (xs : List g.row.P-Bay.Denot). HasRun {S = g.row.P-Trace.Denot} {K = g.row.K.Denot} {B = g.row.P-Bay.Denot} g.P.Trace.Source.remaining g.P.Trace.Faulty.faults
+                  g.K.Sink.taken g.K.Faulty.faults
+                  g.P.Bay.Bay.files g.P.Bay.Faulty.faults c.args.settings.now c.args.workers traces traces out out xs [] c.in-Err.status) (sym same)
+                  (subst (λ (st : Status). HasRun {S = g.row.P-Trace.Denot} {K = g.row.K.Denot} {B = g.row.P-Bay.Denot} g.P.Trace.Source.remaining g.P.Trace.Faulty.faults
+                  g.K.Sink.taken g.K.Faulty.faults
+                  g.P.Bay.Bay.files g.P.Bay.Faulty.faults c.args.settings.now c.args.workers traces traces out out [] [] st) (sym none.0)
+                  (run_none {S = g.row.P-Trace.Denot} {K = g.row.K.Denot} {B = g.row.P-Bay.Denot} g.P.Trace.Source.remaining g.P.Trace.Faulty.faults g.K.Sink.taken g.K.Faulty.faults
+                  g.P.Bay.Bay.files g.P.Bay.Faulty.faults c.args.settings.now c.args.workers traces traces out out [] [] refl refl refl)),
+            )
+        | inr bay ↦ absurd (differs bay.0)
+      ];
+  later = traces_same g.P.Trace.Faulty.faults g.P.Trace.Faulty.mark c.args.traces.items;
+  never_falls = c.open_bays.ensures.never_falls;
+  no_usage = λ rule is.
+      elim c.in-Err.ensures.refused [
+        | inl none ↦ no_memory_no_usage rule (sym none.0 ∙ is)
+        | inr bay ↦ no_place_no_usage rule (sym bay.0 ∙ is)
+      ];
+  handed = c.open_bays.ensures.traces;
+  closed = λ is.
+      elim c.in-Err.ensures.refused [
+        | inl none ↦ absurd (no_memory_not_done (sym none.0 ∙ is))
+        | inr bay ↦ absurd (place_not_done (sym bay.0 ∙ is))
+      ];
+}
 
 pub returns-clause-asked : goal.returns-clause-asked
 returns-clause-asked g c =
@@ -118,18 +117,12 @@ returns-clause-ran g c = λ differs.
           (HasRun-shows {S = g.row.P-Trace.Denot} {K = g.row.K.Denot} {B = g.row.P-Bay.Denot} g.P.Trace.Source.remaining g.P.Trace.Faulty.faults g.K.Sink.taken g.K.Faulty.faults
           g.P.Bay.Bay.files g.P.Bay.Faulty.faults c.args.settings.now c.args.workers
           c.args.traces.items c.run_bays-traces.result.0.items c.args.out.now c.run_bays-traces.new.out first now status c.run_bays-traces.ensures.shows
-          (λ other. c.in-Ok.ensures.number ∙ c.cones.ensures) c.run_bays-traces.ensures.fresh c.run_bays-traces.ensures.exact),
+          (λ other. c.in-Ok.ensures.number ∙ c.cones.ensures) c.run_bays-traces.ensures.exact),
     )
 
 pub put_back_bays-requires-clause-marked : goal.put_back_bays-requires-clause-marked
 put_back_bays-requires-clause-marked g c = λ lifetimes outlive cone bay is.
     still_marked g.P.Bay.Bay.files g.P.Bay.Faulty.faults g.P.Bay.Faulty.mark c.in-Ok.bays.items c.run_bays-traces.new.bays.items c.run_bays-traces.ensures.later c.in-Ok.ensures.marked cone bay is
-
-pub returns-in-Err-clause-never_falls : goal.returns-in-Err-clause-never_falls
-returns-in-Err-clause-never_falls g c = c.open_bays.ensures.never_falls
-
-pub returns-in-Err-clause-handed : goal.returns-in-Err-clause-handed
-returns-in-Err-clause-handed g c = c.open_bays.ensures.traces
 
 pub run_bays-traces-requires-clause-number : goal.run_bays-traces-requires-clause-number
 run_bays-traces-requires-clause-number g c = λ lifetimes outlive. c.in-Ok.ensures.number ∙ c.cones.ensures
@@ -145,13 +138,6 @@ returns-clause-handed g c = c.put_back_bays.ensures.traces ∙ c.open_bays.ensur
 
 pub returns-clause-never_falls : goal.returns-clause-never_falls
 returns-clause-never_falls g c = omega (arith, c.open_bays.ensures.never_falls, c.put_back_bays.ensures.faults)
-
-pub returns-in-Err-clause-closed : goal.returns-in-Err-clause-closed
-returns-in-Err-clause-closed g c = λ is.
-    elim c.in-Err.ensures.refused [
-      | inl none ↦ absurd (no_memory_not_done (sym none.0 ∙ is))
-      | inr bay ↦ absurd (place_not_done (sym bay.0 ∙ is))
-    ]
 
 pub returns-clause-closed : goal.returns-clause-closed
 returns-clause-closed g c = λ is.

@@ -34,8 +34,7 @@ returns-in-Err-clause-refused g c =
             ∙ (ap (λ n. g.P.Place.asked c.loop-number.place ++ trace_asked n false ∷ []) name
             ∙ (ap (λ xs. xs ++ trace_asked (word_at words at) false ∷ []) here.asked
             ∙ (append_assoc (g.P.Place.asked c.args.place.now) (traces_opened (names_of words (take index places))) (trace_asked (word_at words at) false ∷ [])
-            ∙ ap (λ names. g.P.Place.asked c.args.place.now ++ (traces_opened names ++ trace_asked (word_at words at) false ∷ []))
-            (sym (names_before words places index))))));
+            ∙ ap (λ names. g.P.Place.asked c.args.place.now ++ (traces_opened names ++ trace_asked (word_at words at) false ∷ [])) (sym (names_before words places index))))));
       },
       all_returned g.P.Trace.Faulty.mark c.loop-number.opened.items (g.P.Place.handed_traces c.put_back_traces.new.place) (g.P.Place.returned_trace c.put_back_traces.new.place)
           handed c.put_back_traces.ensures.returned here.marked,

@@ -39,40 +39,28 @@ loop-trace-init g c = record {
   faults = refl;
 }
 
-pub returns-clause-returned_bays : goal.returns-clause-returned_bays
-returns-clause-returned_bays g c = c.loop-trace.invariant.returned_bays
+pub returns : goal.returns
+returns g c = record {
+  returned = λ number below.
+      c.loop-trace.invariant.returned number (none_left c.loop-trace.traces.len (length c.loop-trace.traces.items) number c.loop-trace.traces.ok.0 c.in_default.ensures.cases.0) below;
+  returned_bays = c.loop-trace.invariant.returned_bays;
+  asked = c.loop-trace.invariant.asked;
+  traces = c.loop-trace.invariant.traces;
+  bays = c.loop-trace.invariant.bays;
+  faults = c.loop-trace.invariant.faults;
+}
 
-pub returns-clause-asked : goal.returns-clause-asked
-returns-clause-asked g c = c.loop-trace.invariant.asked
-
-pub returns-clause-traces : goal.returns-clause-traces
-returns-clause-traces g c = c.loop-trace.invariant.traces
-
-pub returns-clause-bays : goal.returns-clause-bays
-returns-clause-bays g c = c.loop-trace.invariant.bays
-
-pub returns-clause-faults : goal.returns-clause-faults
-returns-clause-faults g c = c.loop-trace.invariant.faults
-
-pub put_back_trace-requires-clause-handed : goal.put_back_trace-requires-clause-handed
-put_back_trace-requires-clause-handed g c =
+pub put_back_trace-requires : goal.put_back_trace-requires
+put_back_trace-requires g c =
     let here = c.loop-trace.invariant in
     let left = c.pop_back.new.self.items in
     let trace = c.in-Some.trace in
     let split = sym (append_assoc left (trace ∷ []) here.split.0) ∙ (ap (λ xs. xs ++ here.split.0) (sym c.in-Some.ensures.items) ∙ here.split.1) in
-    number_below left here.split.0 c.args.traces.items trace (g.P.Place.handed_traces c.loop-trace.place) c.len.result split (c.len.ensures ∙ c.pop_back.new.self.ok.0)
-    (c.requires.handed ∙ ap length (sym here.traces))
-
-pub put_back_trace-requires-clause-marked : goal.put_back_trace-requires-clause-marked
-put_back_trace-requires-clause-marked g c =
-    let here = c.loop-trace.invariant in
-    let left = c.pop_back.new.self.items in
-    let trace = c.in-Some.trace in
-    let split = sym (append_assoc left (trace ∷ []) here.split.0) ∙ (ap (λ xs. xs ++ here.split.0) (sym c.in-Some.ensures.items) ∙ here.split.1) in
-    c.requires.marked (length left) trace (ap (λ xs. slice_get xs (length left)) (sym split) ∙ slice_get-seam left trace here.split.0)
-    ∙ sym (c.len.ensures ∙ c.pop_back.new.self.ok.0)
-
-pub returns-clause-returned : goal.returns-clause-returned
-returns-clause-returned g c = λ number below.
-    c.loop-trace.invariant.returned number
-    (none_left c.loop-trace.traces.len (length c.loop-trace.traces.items) number c.loop-trace.traces.ok.0 c.in_default.ensures.cases.0) below
+    record {
+      handed =
+          number_below left here.split.0 c.args.traces.items trace (g.P.Place.handed_traces c.loop-trace.place) c.len.result split (c.len.ensures ∙ c.pop_back.new.self.ok.0)
+          (c.requires.handed ∙ ap length (sym here.traces));
+      marked =
+          c.requires.marked (length left) trace (ap (λ xs. slice_get xs (length left)) (sym split) ∙ slice_get-seam left trace here.split.0)
+          ∙ sym (c.len.ensures ∙ c.pop_back.new.self.ok.0);
+    }
