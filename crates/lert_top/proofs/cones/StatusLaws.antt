@@ -1,5 +1,8 @@
 -- What statuses, counts of faults and bays exclude.
-use Rattle.std.proofs.Common.{◌≡◌, ℕ, ◌≤◌, List, Option, Some, arith}
+use Rattle.std.proofs.Common.{◌≡◌, ℕ, ◌^◌, ◌<◌, ◌≤◌, List, Option, Some, Result, Ok, Err, subst, arith, lit<}
+use Rattle.std.proofs.Math.Nat.{pow-le-pow_right}
+use Rattle.std.specs.Prelude.{IfErr, OnOk}
+use Rattle.lert_spec.specs.declared.numbers.Numbers.{Numbers}
 use Rattle.lert_bay.specs.Files.{Files}
 use Rattle.lert_io.specs.Fault.{HasRisen, IsFaultless}
 use Rattle.lert_ingest.specs.declared.status.Status.TheVariants.{Done, Usage, PlaceFault, OutOfMemory}
@@ -55,3 +58,17 @@ untold_or_not files bays cone told untold =
 -- fresh bays that tell it tell their files
 pub fresh_told : {B : Type 0} (files : B → Option Files) (bays : List B) → AreToldFresh files bays → AreTold files bays
 fresh_told files bays fresh = λ cone bay is. let held = fresh cone bay is in (held.0, held.1)
+
+-- what is so of a result, at its value
+pub err_at : {E : Type 0} (r : Result (Unit {0}) E) (e : E) (P : E → Type 0) → r ≡ Err e → IfErr r P → P e
+err_at r e P is shows = subst (λ x. IfErr x P) is shows
+
+pub ok_at : {E : Type 0} (r : Result (Unit {0}) E) (P : Type 0) → r ≡ Ok tt → OnOk r P → P
+ok_at r P is shows = subst (λ x. OnOk x P) is shows
+
+-- there are at most 256 cones
+pub few_cones : (s : Numbers) (number : ℕ) → s.cone_bits ≤ 8 → number ≡ 2 ^ s.cone_bits → number ≤ 256
+few_cones s number bits is = let power = pow-le-pow_right {n = 2} (lit< tt) {i = s.cone_bits} {j = 8} bits in omega (arith, is, power)
+
+pub few_numbers : (number : ℕ) → number ≤ 256 → number < 4294967296
+few_numbers number few = omega (arith, few)

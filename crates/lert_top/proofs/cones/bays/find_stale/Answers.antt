@@ -105,20 +105,14 @@ loop-cone-init g c = record {
   fresh_now = λ other below. absurd (omega (arith, below));
 }
 
-pub returns-clause-fresh : goal.returns-clause-fresh
-returns-clause-fresh g c =
-    looked_all g.B.Bay.files c.args.bays.now.items c.loop-cone.cone (omega (arith, c.loop-cone-test.false, c.loop-cone.auto.cone-end, c.len-cone-end.ensures)) c.loop-cone.invariant.fresh
-
-pub returns-clause-fresh_now : goal.returns-clause-fresh_now
-returns-clause-fresh_now g c =
-    looked_all g.B.Bay.files c.loop-cone.bays.items c.loop-cone.cone
-    (omega (arith, c.loop-cone-test.false, c.loop-cone.auto.cone-end, c.len-cone-end.ensures, c.loop-cone.invariant.later.number)) c.loop-cone.invariant.fresh_now
-
-pub returns-clause-room : goal.returns-clause-room
-returns-clause-room g c = c.loop-cone.invariant.room
-
-pub returns-clause-later : goal.returns-clause-later
-returns-clause-later g c = c.loop-cone.invariant.later
-
-pub returns-clause-kept : goal.returns-clause-kept
-returns-clause-kept g c = c.loop-cone.invariant.kept
+pub returns : goal.returns
+returns g c = record {
+  room = c.loop-cone.invariant.room;
+  later = c.loop-cone.invariant.later;
+  fresh = looked_all g.B.Bay.files c.args.bays.now.items c.loop-cone.cone (omega (arith, c.loop-cone-test.false, c.loop-cone.auto.cone-end, c.len-cone-end.ensures)) c.loop-cone.invariant.fresh;
+  fresh_now =
+      looked_all g.B.Bay.files c.loop-cone.bays.items c.loop-cone.cone
+      (omega (arith, c.loop-cone-test.false, c.loop-cone.auto.cone-end, c.len-cone-end.ensures, c.loop-cone.invariant.later.number)) c.loop-cone.invariant.fresh_now;
+  kept = c.loop-cone.invariant.kept;
+  unmade = tt;
+}

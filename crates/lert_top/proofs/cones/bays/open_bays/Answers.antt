@@ -57,14 +57,8 @@ loop-cone-preserved g c =
       falls = omega (arith, here.falls, c.open_bay.ensures.cause.never_falls);
     }
 
-pub returns-in_default-clause-traces : goal.returns-in_default-clause-traces
-returns-in_default-clause-traces g c = refl
-
-pub returns-in_default-clause-never_falls : goal.returns-in_default-clause-never_falls
-returns-in_default-clause-never_falls g c = omega arith
-
-pub returns-in_default-clause-refused : goal.returns-in_default-clause-refused
-returns-in_default-clause-refused g c = inl (refl, refl)
+pub returns-in_default : goal.returns-in_default
+returns-in_default g c = record { opened = tt; number = tt; room = tt; marked = tt; asked = tt; refused = inl (refl, refl); never_falls = omega arith; traces = refl }
 
 pub returns-in-Err-clause-traces : goal.returns-in-Err-clause-traces
 returns-in-Err-clause-traces g c = c.put_back_bays.ensures.traces ∙ (c.open_bay.ensures.traces ∙ c.loop-cone.invariant.traces)
@@ -72,23 +66,19 @@ returns-in-Err-clause-traces g c = c.put_back_bays.ensures.traces ∙ (c.open_ba
 pub returns-in-Err-clause-never_falls : goal.returns-in-Err-clause-never_falls
 returns-in-Err-clause-never_falls g c = omega (arith, c.loop-cone.invariant.falls, c.open_bay.ensures.cause.never_falls, c.put_back_bays.ensures.faults)
 
-pub returns-clause-opened : goal.returns-clause-opened
-returns-clause-opened g c = c.loop-cone.invariant.opened
-
-pub returns-clause-room : goal.returns-clause-room
-returns-clause-room g c = c.loop-cone.invariant.room
-
-pub returns-clause-marked : goal.returns-clause-marked
-returns-clause-marked g c = c.loop-cone.invariant.marked
-
-pub returns-clause-traces : goal.returns-clause-traces
-returns-clause-traces g c = c.loop-cone.invariant.traces
-
-pub returns-clause-never_falls : goal.returns-clause-never_falls
-returns-clause-never_falls g c = c.loop-cone.invariant.falls
-
-pub returns-clause-number : goal.returns-clause-number
-returns-clause-number g c = omega (arith, c.loop-cone.invariant.number, c.loop-cone-test.false, c.loop-cone.auto.cone-end)
+pub returns : goal.returns
+returns g c = record {
+  opened = c.loop-cone.invariant.opened;
+  number = omega (arith, c.loop-cone.invariant.number, c.loop-cone-test.false, c.loop-cone.auto.cone-end);
+  room = c.loop-cone.invariant.room;
+  marked = c.loop-cone.invariant.marked;
+  asked =
+      let end : c.loop-cone.cone ≡ c.args.cones = omega (arith, c.loop-cone-test.false, c.loop-cone.auto.cone-end) in
+      subst (λ cones. g.P.Place.asked c.loop-cone.place ≡ g.P.Place.asked c.args.place.now ++ bays_opened c.args.dir.now cones) end c.loop-cone.invariant.asked;
+  refused = tt;
+  never_falls = c.loop-cone.invariant.falls;
+  traces = c.loop-cone.invariant.traces;
+}
 
 pub put_back_bays-requires-clause-handed : goal.put_back_bays-requires-clause-handed
 put_back_bays-requires-clause-handed g c = λ lifetimes outlive. ap length (sym (c.in-Err.ensures.refused ∙ c.loop-cone.invariant.opened))
@@ -98,11 +88,6 @@ put_back_bays-requires-clause-marked g c = λ lifetimes outlive cone bay is. c.l
 
 pub put_back_bays-requires-clause-small : goal.put_back_bays-requires-clause-small
 put_back_bays-requires-clause-small g c = omega (arith, c.loop-cone.invariant.number, c.loop-cone-test.true, c.ranges.cones)
-
-pub returns-clause-asked : goal.returns-clause-asked
-returns-clause-asked g c =
-    let end : c.loop-cone.cone ≡ c.args.cones = omega (arith, c.loop-cone-test.false, c.loop-cone.auto.cone-end) in
-    subst (λ cones. g.P.Place.asked c.loop-cone.place ≡ g.P.Place.asked c.args.place.now ++ bays_opened c.args.dir.now cones) end c.loop-cone.invariant.asked
 
 pub push_back_reserved-requires : goal.push_back_reserved-requires
 push_back_reserved-requires g c = omega (arith, c.loop-cone.invariant.number, c.loop-cone.invariant.room, c.loop-cone-test.true, c.loop-cone.bays.ok.0)

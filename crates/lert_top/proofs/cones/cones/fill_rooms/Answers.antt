@@ -54,28 +54,20 @@ returns-in-Err-clause-unmade g c =
     (subst (λ xs. IsUnmade g.B.Bay.files g.B.Faulty.faults s bays xs (create_status c.loop-number.number fault)) (sym is)
     (subst (λ n. IsUnmade g.B.Bay.files g.B.Faulty.faults s bays (bays_of cones ++ back ∷ rest) (create_status n fault)) here.number unmade))
 
-pub returns-clause-new_cones : goal.returns-clause-new_cones
-returns-clause-new_cones g c = c.loop-number.invariant.new_cones
-
-pub returns-clause-number : goal.returns-clause-number
-returns-clause-number g c =
-    omega (arith, c.loop-number.invariant.number, c.loop-number-test.false, c.loop-number.auto.number-end, c.cones-number-end.ensures)
-
-pub returns-clause-emptied : goal.returns-clause-emptied
-returns-clause-emptied g c =
-    let here = c.loop-number.invariant in
-    let whole = ap length here.split.2 in
-    none_left c.loop-number.bays.items
-    (omega (arith, whole, length-append here.split.0 c.loop-number.bays.items, here.split.1, here.number, c.loop-number-test.false, c.cones-number-end.ensures, c.requires.number))
-
-pub returns-clause-room : goal.returns-clause-room
-returns-clause-room g c = c.loop-number.invariant.room
-
-pub returns-clause-later : goal.returns-clause-later
-returns-clause-later g c = c.loop-number.invariant.later
-
-pub returns-clause-unused : goal.returns-clause-unused
-returns-clause-unused g c = c.loop-number.invariant.unused
+pub returns : goal.returns
+returns g c = record {
+  new_cones = c.loop-number.invariant.new_cones;
+  number = omega (arith, c.loop-number.invariant.number, c.loop-number-test.false, c.loop-number.auto.number-end, c.cones-number-end.ensures);
+  emptied =
+      let here = c.loop-number.invariant in
+      let whole = ap length here.split.2 in
+      none_left c.loop-number.bays.items
+      (omega (arith, whole, length-append here.split.0 c.loop-number.bays.items, here.split.1, here.number, c.loop-number-test.false, c.cones-number-end.ensures, c.requires.number));
+  room = c.loop-number.invariant.room;
+  later = c.loop-number.invariant.later;
+  unused = c.loop-number.invariant.unused;
+  unmade = tt;
+}
 
 pub loop-number-preserved : goal.loop-number-preserved
 loop-number-preserved g c =

@@ -1,7 +1,7 @@
-use Rattle.std.proofs.Common.{◌≡◌, ℕ, ◌≤◌, List, Option, length, Result, Ok, Err, refl, ap, sym, ◌∙◌, subst, arith}
+use Rattle.std.proofs.Common.{◌≡◌, ℕ, ◌≤◌, List, Option, length, refl, ap, sym, ◌∙◌, subst, arith}
 use Rattle.std.proofs.lemmas.List.{length-map}
 use Rattle.lert_cone.specs.Stands.{Standing}
-use Rattle.std.specs.Prelude.{IfErr, OnOk}
+use Rattle.lert_top.proofs.cones.StatusLaws.{err_at, ok_at}
 use Rattle.lert_top.proofs.drills.DealtLaws.{dealt_keys}
 use Rattle.lert_top.proofs.drills.DrillLaws.{stopped_shows}
 use Rattle.lert_top.specs.drills.Dealt.{AreDealt}
@@ -10,13 +10,6 @@ use Rattle.lert_ingest.specs.Bays.{bays_of}
 use Rattle.lert_ingest.specs.Stops.{AreWeaving}
 use Rattle.lert_ingest.proofs.BayLaws.{told_later}
 use Rattle.lert_top.proofs.drills.cones.drill_cones.Goals as goal
-
--- what is so of a result, at its value
-err_at : {E : Type 0} (r : Result (Unit {0}) E) (e : E) (P : E → Type 0) → r ≡ Err e → IfErr r P → P e
-err_at r e P is shows = subst (λ x. IfErr x P) is shows
-
-ok_at : {E : Type 0} (r : Result (Unit {0}) E) (P : Type 0) → r ≡ Ok tt → OnOk r P → P
-ok_at r P is shows = subst (λ x. OnOk x P) is shows
 
 -- keys are dealt to four sources
 four_sources : {S : Type 0} (remaining : S → Option (List ℕ)) (seed events : ℕ) (sources : List S) → AreDealt remaining seed events sources → length sources ≡ 4

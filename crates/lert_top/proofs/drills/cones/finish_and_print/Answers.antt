@@ -1,7 +1,7 @@
-use Rattle.std.proofs.Common.{◌≡◌, ℕ, ◌^◌, ◌<◌, ◌≤◌, ◌++◌, List, length, map, Some, refl, ap, sym, ◌∙◌, subst, arith, lit<}
-use Rattle.std.proofs.Math.Nat.{pow-le-pow_right}
+use Rattle.std.proofs.Common.{◌≤◌, ◌++◌, List, length, map, Some, refl, ap, sym, ◌∙◌, subst}
 use Rattle.lert_spec.specs.declared.numbers.Numbers.{Numbers}
 use Rattle.lert_cone.specs.Stands.{Standing}
+use Rattle.lert_top.proofs.cones.StatusLaws.{few_cones, few_numbers}
 use Rattle.lert_top.specs.drills.Drilled.{drill_cut, drill_done, drill_memory}
 use Rattle.lert_top.specs.drills.Print.{drilled_as}
 use Rattle.lert_top.proofs.drills.DrillLaws.{finished_fits, lines_same}
@@ -10,13 +10,6 @@ use Rattle.lert_top.proofs.cones.EndLaws.{finished_printable}
 use Rattle.lert_text.specs.Drill.{drill_lines}
 use Rattle.lert_text.specs.Page.{IsCut}
 use Rattle.lert_top.proofs.drills.cones.finish_and_print.Goals as goal
-
--- there are at most 256 cones
-few_cones : (s : Numbers) (number : ℕ) → s.cone_bits ≤ 8 → number ≡ 2 ^ s.cone_bits → number ≤ 256
-few_cones s number bits is = let power = pow-le-pow_right {n = 2} (lit< tt) {i = s.cone_bits} {j = 8} bits in omega (arith, is, power)
-
-few_numbers : (number : ℕ) → number ≤ 256 → number < 4294967296
-few_numbers number few = omega (arith, few)
 
 pub finish_cones-requires-clause-few : goal.finish_cones-requires-clause-few
 finish_cones-requires-clause-few g c =

@@ -1,11 +1,11 @@
-use Rattle.std.proofs.Common.{◌≡◌, Result, Ok, Err, refl, sym, ◌∙◌, subst}
+use Rattle.std.proofs.Common.{refl, sym, ◌∙◌}
 use Rattle.std.proofs.lemmas.List.{length-map}
-use Rattle.std.specs.Prelude.{IfErr, OnOk}
 use Rattle.lert_cone.specs.Stands.{Standing}
 use Rattle.lert_ingest.specs.Bays.{bays_of}
 use Rattle.lert_ingest.proofs.BayLaws.{are_more, are_same}
 use Rattle.lert_ingest.proofs.Exactly.{exact_memory}
 use Rattle.lert_ingest.specs.Stops.{out_of_memory}
+use Rattle.lert_top.proofs.cones.StatusLaws.{err_at, ok_at}
 use Rattle.lert_top.proofs.cones.AskedLaws.{traces_same}
 use Rattle.lert_top.proofs.cones.StatusLaws.{no_memory_not_done}
 use Rattle.lert_top.proofs.runs.DoneLaws.{reading_not_done}
@@ -13,13 +13,6 @@ use Rattle.lert_top.specs.runs.Run.{ended, stopped}
 use Rattle.lert_top.proofs.runs.Ending.{ends_since}
 use Rattle.lert_top.proofs.runs.RunLaws.{exact_ended, exact_stopped}
 use Rattle.lert_top.proofs.runs.runs.run_cones.Goals as goal
-
--- what is so of a result, at its value
-err_at : {E : Type 0} (r : Result (Unit {0}) E) (e : E) (P : E → Type 0) → r ≡ Err e → IfErr r P → P e
-err_at r e P is shows = subst (λ x. IfErr x P) is shows
-
-ok_at : {E : Type 0} (r : Result (Unit {0}) E) (P : Type 0) → r ≡ Ok tt → OnOk r P → P
-ok_at r P is shows = subst (λ x. OnOk x P) is shows
 
 -- there was no memory, and nothing was read
 pub returns-in-Err : goal.returns-in-Err

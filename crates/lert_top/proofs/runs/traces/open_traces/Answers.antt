@@ -69,14 +69,8 @@ loop-number-preserved g c =
       falls = omega (arith, here.falls, c.open_trace.ensures.cause.never_falls);
     }
 
-pub returns-in_default-clause-bays : goal.returns-in_default-clause-bays
-returns-in_default-clause-bays g c = refl
-
-pub returns-in_default-clause-never_falls : goal.returns-in_default-clause-never_falls
-returns-in_default-clause-never_falls g c = omega arith
-
-pub returns-in_default-clause-refused : goal.returns-in_default-clause-refused
-returns-in_default-clause-refused g c = inl (refl, refl)
+pub returns-in_default : goal.returns-in_default
+returns-in_default g c = record { opened = tt; number = tt; marked = tt; asked = tt; refused = inl (refl, refl); never_falls = omega arith; bays = refl }
 
 pub returns-in-Err-clause-bays : goal.returns-in-Err-clause-bays
 returns-in-Err-clause-bays g c = c.put_back_traces.ensures.bays ∙ (c.open_trace.ensures.bays ∙ c.loop-number.invariant.bays)
