@@ -63,66 +63,44 @@ print_cones-printed-requires-clause-printable g c =
     c.in-Ok-reopen_cones.ensures.later)
 
 pub returns-in-Ok-printed : goal.returns-in-Ok-printed
-returns-in-Ok-printed g c = record {
-  later =
-      let cones = c.in-Ok-reopen_cones.cones.items in
-      let back = c.bring_back.ensures.bays ∙ (ap (λ xs. bays_of cones ++ xs) c.in-Ok-reopen_cones.ensures.emptied ∙ append-nil (bays_of cones)) in
-      subst (AreLater g.B.Bay.files g.B.Faulty.faults g.B.Faulty.mark c.args.bays.now.items) (sym back) c.in-Ok-reopen_cones.ensures.later;
-  journals =
-      let cones = c.in-Ok-reopen_cones.cones.items in
-      let back = c.bring_back.ensures.bays ∙ (ap (λ xs. bays_of cones ++ xs) c.in-Ok-reopen_cones.ensures.emptied ∙ append-nil (bays_of cones)) in
-      subst (AreJournalsSame g.B.Bay.files c.args.bays.now.items) (sym back) c.in-Ok-reopen_cones.ensures.journals;
-  stays_sound =
-      let cones = c.in-Ok-reopen_cones.cones.items in
-      let back = c.bring_back.ensures.bays ∙ (ap (λ xs. bays_of cones ++ xs) c.in-Ok-reopen_cones.ensures.emptied ∙ append-nil (bays_of cones)) in
-      subst (AreSoundStill g.B.Bay.files c.args.settings.now c.args.bays.now.items) (sym back) c.in-Ok-reopen_cones.ensures.stays_sound;
-  each_moment =
-      let cones = c.in-Ok-reopen_cones.cones.items in
-      let back = c.bring_back.ensures.bays ∙ (ap (λ xs. bays_of cones ++ xs) c.in-Ok-reopen_cones.ensures.emptied ∙ append-nil (bays_of cones)) in
-      subst (AreSpared (bays_in g) c.args.settings.now c.args.bays.now.items) (sym back) c.in-Ok-reopen_cones.ensures.each_moment;
-  shows =
-      let s = c.args.settings.now in
-      let bays = c.args.bays.now.items in
-      let cones = c.in-Ok-reopen_cones.cones.items in
-      let number : length cones ≡ length bays = omega (arith, c.in-Ok-reopen_cones.ensures.number, c.requires.number) in
-      let back = c.bring_back.ensures.bays ∙ (ap (λ xs. bays_of cones ++ xs) c.in-Ok-reopen_cones.ensures.emptied ∙ append-nil (bays_of cones)) in
-      printed (all_formed g.B.Bay.files g.B.Bay.leaves g.B.Faulty.faults g.B.Faulty.mark s bays cones c.in-Ok-reopen_cones.ensures.open number c.in-Ok-reopen_cones.ensures.later)
-      (map printed_as cones) (subst (λ (xs : List g.row.B.Denot). AreRecovered g.B.Bay.files s bays xs (map printed_as cones)) (sym back)
-      (open_recovered g.B.Bay.files g.B.Bay.leaves g.B.Faulty.faults g.B.Faulty.mark s bays cones c.in-Ok-reopen_cones.ensures.open number c.in-Ok-reopen_cones.ensures.later
-      c.requires.number)) (λ text had. c.in-Ok-printed.ensures.ok text had ∙ ap (λ (xs : List (Standing g.row.B.Denot)). Some (text ++ lines (map printed_as xs))) c.as_slice.ensures.value);
-}
+returns-in-Ok-printed g c =
+    let cones = c.in-Ok-reopen_cones.cones.items in
+    let back = c.bring_back.ensures.bays ∙ (ap (λ xs. bays_of cones ++ xs) c.in-Ok-reopen_cones.ensures.emptied ∙ append-nil (bays_of cones)) in
+    record {
+      later = subst (AreLater g.B.Bay.files g.B.Faulty.faults g.B.Faulty.mark c.args.bays.now.items) (sym back) c.in-Ok-reopen_cones.ensures.later;
+      journals = subst (AreJournalsSame g.B.Bay.files c.args.bays.now.items) (sym back) c.in-Ok-reopen_cones.ensures.journals;
+      stays_sound = subst (AreSoundStill g.B.Bay.files c.args.settings.now c.args.bays.now.items) (sym back) c.in-Ok-reopen_cones.ensures.stays_sound;
+      each_moment = subst (AreSpared (bays_in g) c.args.settings.now c.args.bays.now.items) (sym back) c.in-Ok-reopen_cones.ensures.each_moment;
+      shows =
+          let s = c.args.settings.now in
+          let bays = c.args.bays.now.items in
+          let number : length cones ≡ length bays = omega (arith, c.in-Ok-reopen_cones.ensures.number, c.requires.number) in
+          printed (all_formed g.B.Bay.files g.B.Bay.leaves g.B.Faulty.faults g.B.Faulty.mark s bays cones c.in-Ok-reopen_cones.ensures.open number c.in-Ok-reopen_cones.ensures.later)
+          (map printed_as cones) (subst (λ (xs : List g.row.B.Denot). AreRecovered g.B.Bay.files s bays xs (map printed_as cones)) (sym back)
+          (open_recovered g.B.Bay.files g.B.Bay.leaves g.B.Faulty.faults g.B.Faulty.mark s bays cones c.in-Ok-reopen_cones.ensures.open number c.in-Ok-reopen_cones.ensures.later
+          c.requires.number)) (λ text had. c.in-Ok-printed.ensures.ok text had ∙ ap (λ (xs : List (Standing g.row.B.Denot)). Some (text ++ lines (map printed_as xs))) c.as_slice.ensures.value);
+    }
 
 pub returns : goal.returns
-returns g c = record {
-  later =
-      let cones = c.in-Ok-reopen_cones.cones.items in
-      let back = c.bring_back.ensures.bays ∙ (ap (λ xs. bays_of cones ++ xs) c.in-Ok-reopen_cones.ensures.emptied ∙ append-nil (bays_of cones)) in
-      subst (AreLater g.B.Bay.files g.B.Faulty.faults g.B.Faulty.mark c.args.bays.now.items) (sym back) c.in-Ok-reopen_cones.ensures.later;
-  journals =
-      let cones = c.in-Ok-reopen_cones.cones.items in
-      let back = c.bring_back.ensures.bays ∙ (ap (λ xs. bays_of cones ++ xs) c.in-Ok-reopen_cones.ensures.emptied ∙ append-nil (bays_of cones)) in
-      subst (AreJournalsSame g.B.Bay.files c.args.bays.now.items) (sym back) c.in-Ok-reopen_cones.ensures.journals;
-  stays_sound =
-      let cones = c.in-Ok-reopen_cones.cones.items in
-      let back = c.bring_back.ensures.bays ∙ (ap (λ xs. bays_of cones ++ xs) c.in-Ok-reopen_cones.ensures.emptied ∙ append-nil (bays_of cones)) in
-      subst (AreSoundStill g.B.Bay.files c.args.settings.now c.args.bays.now.items) (sym back) c.in-Ok-reopen_cones.ensures.stays_sound;
-  each_moment =
-      let cones = c.in-Ok-reopen_cones.cones.items in
-      let back = c.bring_back.ensures.bays ∙ (ap (λ xs. bays_of cones ++ xs) c.in-Ok-reopen_cones.ensures.emptied ∙ append-nil (bays_of cones)) in
-      subst (AreSpared (bays_in g) c.args.settings.now c.args.bays.now.items) (sym back) c.in-Ok-reopen_cones.ensures.each_moment;
-  shows =
-      let s = c.args.settings.now in
-      let bays = c.args.bays.now.items in
-      let cones = c.in-Ok-reopen_cones.cones.items in
-      let number : length cones ≡ length bays = omega (arith, c.in-Ok-reopen_cones.ensures.number, c.requires.number) in
-      let back = c.bring_back.ensures.bays ∙ (ap (λ xs. bays_of cones ++ xs) c.in-Ok-reopen_cones.ensures.emptied ∙ append-nil (bays_of cones)) in
-      printed_partly (all_formed g.B.Bay.files g.B.Bay.leaves g.B.Faulty.faults g.B.Faulty.mark s bays cones c.in-Ok-reopen_cones.ensures.open number c.in-Ok-reopen_cones.ensures.later)
-      (map printed_as cones) (subst (λ (xs : List g.row.B.Denot). AreRecovered g.B.Bay.files s bays xs (map printed_as cones)) (sym back)
-      (open_recovered g.B.Bay.files g.B.Bay.leaves g.B.Faulty.faults g.B.Faulty.mark s bays cones c.in-Ok-reopen_cones.ensures.open number c.in-Ok-reopen_cones.ensures.later
-      c.requires.number)) (c.in-Err-printed.ensures.cause.failed refl)
-      (subst (λ (xs : List (Standing g.row.B.Denot)). IsCut (g.K.Sink.taken c.args.out.now) (g.K.Sink.taken c.print_cones-printed.new.out) (lines (map printed_as xs))) c.as_slice.ensures.value
-      c.in-Err-printed.ensures.cut);
-}
+returns g c =
+    let cones = c.in-Ok-reopen_cones.cones.items in
+    let back = c.bring_back.ensures.bays ∙ (ap (λ xs. bays_of cones ++ xs) c.in-Ok-reopen_cones.ensures.emptied ∙ append-nil (bays_of cones)) in
+    record {
+      later = subst (AreLater g.B.Bay.files g.B.Faulty.faults g.B.Faulty.mark c.args.bays.now.items) (sym back) c.in-Ok-reopen_cones.ensures.later;
+      journals = subst (AreJournalsSame g.B.Bay.files c.args.bays.now.items) (sym back) c.in-Ok-reopen_cones.ensures.journals;
+      stays_sound = subst (AreSoundStill g.B.Bay.files c.args.settings.now c.args.bays.now.items) (sym back) c.in-Ok-reopen_cones.ensures.stays_sound;
+      each_moment = subst (AreSpared (bays_in g) c.args.settings.now c.args.bays.now.items) (sym back) c.in-Ok-reopen_cones.ensures.each_moment;
+      shows =
+          let s = c.args.settings.now in
+          let bays = c.args.bays.now.items in
+          let number : length cones ≡ length bays = omega (arith, c.in-Ok-reopen_cones.ensures.number, c.requires.number) in
+          printed_partly (all_formed g.B.Bay.files g.B.Bay.leaves g.B.Faulty.faults g.B.Faulty.mark s bays cones c.in-Ok-reopen_cones.ensures.open number c.in-Ok-reopen_cones.ensures.later)
+          (map printed_as cones) (subst (λ (xs : List g.row.B.Denot). AreRecovered g.B.Bay.files s bays xs (map printed_as cones)) (sym back)
+          (open_recovered g.B.Bay.files g.B.Bay.leaves g.B.Faulty.faults g.B.Faulty.mark s bays cones c.in-Ok-reopen_cones.ensures.open number c.in-Ok-reopen_cones.ensures.later
+          c.requires.number)) (c.in-Err-printed.ensures.cause.failed refl)
+          (subst (λ (xs : List (Standing g.row.B.Denot)). IsCut (g.K.Sink.taken c.args.out.now) (g.K.Sink.taken c.print_cones-printed.new.out) (lines (map printed_as xs))) c.as_slice.ensures.value
+          c.in-Err-printed.ensures.cut);
+    }
 
 pub reopen_cones-requires : goal.reopen_cones-requires
 reopen_cones-requires g c = record { number = c.requires.number; room = c.requires.room }

@@ -23,103 +23,76 @@ lawful : (g : given.Over) → IsLawful (bays_in g)
 lawful g = record { as_read = g.met.B.Bay.as_read; since_now = g.met.B.Bay.since_now; only_now = g.met.B.Bay.only_now; since_earlier = g.met.B.Bay.since_earlier }
 
 pub returns-in-Err : goal.returns-in-Err
-returns-in-Err g c = record {
-  «open» = tt;
-  number = tt;
-  emptied = tt;
-  room = c.push_front_reserved.ensures.capacity ∙ (c.pop_front.ensures.capacity ∙ c.loop-number.invariant.room);
-  later =
-      let here = c.loop-number.invariant in
-      let bay = c.in-Some.bay in
-      let rest = c.pop_front.new.self.items in
-      let cones = c.loop-number.cones.items in
-      let bays = c.args.bays.now.items in
-      let items = c.in-Some.ensures.items in
-      let front = here.split.0 in
-      let split = ap (λ xs. front ++ xs) (sym items) ∙ here.split.2 in
-      let later = subst (λ xs. AreLater g.B.Bay.files g.B.Faulty.faults g.B.Faulty.mark bays (bays_of cones ++ xs)) items here.later in
-      let one = call_later g.B.Bay.files g.B.Faulty.faults g.B.Faulty.mark bay c.in-Err.refused.bay c.in-Err.ensures.kept.mark c.in-Err.ensures.kept.never_falls c.in-Err.ensures.reads in
-      subst (AreLater g.B.Bay.files g.B.Faulty.faults g.B.Faulty.mark bays) (ap (λ xs. bays_of cones ++ xs) (sym c.push_front_reserved.ensures.items))
-      (back_later g.B.Bay.files g.B.Faulty.faults g.B.Faulty.mark bays front bay rest cones split here.split.1 later c.in-Err.refused.bay one);
-  journals =
-      let here = c.loop-number.invariant in
-      let bays = c.args.bays.now.items in
-      let cones = c.loop-number.cones.items in
-      let rest = c.pop_front.new.self.items in
-      let back = c.in-Err.refused.bay in
-      let so_far = subst (λ xs. AreJournalsSame g.B.Bay.files bays (bays_of cones ++ xs)) c.in-Some.ensures.items here.journals in
-      subst (AreJournalsSame g.B.Bay.files bays) (ap (λ xs. bays_of cones ++ xs) (sym c.push_front_reserved.ensures.items))
-      (journals_back g.B.Bay.files bays cones c.in-Some.bay rest so_far back c.in-Err.ensures.reads);
-  stays_sound =
-      let here = c.loop-number.invariant in
-      let s = c.args.settings.now in
-      let bays = c.args.bays.now.items in
-      let bay = c.in-Some.bay in
-      let cones = c.loop-number.cones.items in
-      let room = c.in-Some-pop.room in
-      let back = c.in-Err.refused.bay in
-      let so_far = subst (λ xs. AreSoundStill g.B.Bay.files s bays (bays_of cones ++ xs)) c.in-Some.ensures.items here.stays_sound in
-      let popped = All-pop (IsNewRoom s) c.loop-number.rooms.items c.pop.new.self.items (Some room) c.in-Some-pop.ensures.items here.rooms in
-      let one = stays_by g.B.Bay.files room.settings c.loop-number.number bay back c.in-Err.ensures.reads c.in-Err.ensures.stays_sound in
-      let one_here = subst (λ (n : Numbers). IsSoundStill g.B.Bay.files n (length cones) bay back) popped.1.0
-      (subst (λ (n : ℕ). IsSoundStill g.B.Bay.files room.settings n bay back) (sym here.number) one) in
-      subst (AreSoundStill g.B.Bay.files s bays) (ap (λ xs. bays_of cones ++ xs) (sym c.push_front_reserved.ensures.items))
-      (sound_back g.B.Bay.files s bays cones bay c.pop_front.new.self.items so_far back one_here);
-  each_moment =
-      let here = c.loop-number.invariant in
-      let s = c.args.settings.now in
-      let first = c.args.bays.now.items in
-      let bay = c.in-Some.bay in
-      let cones = c.loop-number.cones.items in
-      let room = c.in-Some-pop.room in
-      let back = c.in-Err.refused.bay in
-      let items = c.in-Some.ensures.items in
-      let front = here.split.0 in
-      let rest = c.pop_front.new.self.items in
-      let later = subst (λ xs. AreLater g.B.Bay.files g.B.Faulty.faults g.B.Faulty.mark first (bays_of cones ++ xs)) items here.later in
-      let there = bay_there g.B.Bay.files g.B.Faulty.faults g.B.Faulty.mark first front bay rest cones (ap (λ xs. front ++ xs) (sym items) ∙ here.split.2) here.split.1 later in
-      let so_far = subst (λ xs. AreSpared (bays_in g) s first (bays_of cones ++ xs)) items here.throughout in
-      let popped = All-pop (IsNewRoom s) c.loop-number.rooms.items c.pop.new.self.items (Some room) c.in-Some-pop.ensures.items here.rooms in
-      let one = throughout_by (bays_in g) room.settings c.loop-number.number bay back _ c.in-Err.ensures.kept c.in-Err.ensures.reads c.in-Err.ensures.each_moment
-      c.in-Err.ensures.unharmed in
-      let one_here = subst (λ (n : Numbers). IsSpared (bays_in g) n (length cones) bay back) popped.1.0
-      (subst (λ (n : ℕ). IsSpared (bays_in g) room.settings n bay back) (sym here.number) one) in
-      subst (AreSpared (bays_in g) s first) (ap (λ xs. bays_of cones ++ xs) (sym c.push_front_reserved.ensures.items))
-      (throughout_back (bays_in g) s first cones bay rest there so_far back one_here);
-  unopened =
-      let here = c.loop-number.invariant in
-      let s = c.args.settings.now in
-      let bay = c.in-Some.bay in
-      let rest = c.pop_front.new.self.items in
-      let items = c.in-Some.ensures.items in
-      let front = here.split.0 in
-      let bays = c.args.bays.now.items in
-      let cones = c.loop-number.cones.items in
-      let fault = c.in-Err.refused.fault in
-      let back = c.in-Err.refused.bay in
-      let split = ap (λ xs. front ++ xs) (sym items) ∙ here.split.2 in
-      let later = subst (λ xs. AreLater g.B.Bay.files g.B.Faulty.faults g.B.Faulty.mark bays (bays_of cones ++ xs)) items here.later in
-      let there = bay_there g.B.Bay.files g.B.Faulty.faults g.B.Faulty.mark bays front bay rest cones split here.split.1 later in
-      let is = ap (λ xs. bays_of cones ++ xs) c.push_front_reserved.ensures.items in
-      let popped = All-pop (IsNewRoom s) c.loop-number.rooms.items c.pop.new.self.items (Some c.in-Some-pop.room) c.in-Some-pop.ensures.items here.rooms in
-      let why : WasRefused g.B.Bay.files c.in-Some-pop.room.settings c.loop-number.number bay back fault = record {
-        malformed = c.in-Err.ensures.malformed;
-        other_is = c.in-Err.ensures.other;
-        refuses = c.in-Err.ensures.refuses;
-        differs = c.in-Err.ensures.differs;
-        opens = c.in-Err.ensures.sound_opens;
-        unread = λ seen told file at leaves. (c.in-Err.ensures.unharmed.left seen told file at leaves).seen;
-        untouched = λ kept is. (c.in-Err.ensures.other_untouched kept is).seen;
-      } in
-      let why_here = subst (λ (n : Numbers). WasRefused g.B.Bay.files n (length cones) bay back fault) popped.1.0
-      (subst (λ (n : ℕ). WasRefused g.B.Bay.files c.in-Some-pop.room.settings n bay back fault) (sym here.number) why) in
-      let unopened = unopened_by g.B.Bay.files g.B.Bay.leaves g.B.Faulty.faults g.B.Faulty.mark s bays front bay rest cones there here.open_cones back fault why_here c.in-Err.ensures.kept.failed
-      (λ other behind. let sizes = length-map cones (λ (x : Standing g.row.B.Denot). x.bay) in
-      slice_get-behind (bays_of cones) front back bay rest other (sizes ∙ sym here.split.1) (omega (arith, behind, sizes)) ∙ ap (λ xs. slice_get xs other) split) in
-      subst (IsUnopened g.B.Bay.files g.B.Faulty.faults s bays (bays_of cones ++ c.push_front_reserved.new.self.items)) (sym c.status_of.ensures)
-      (subst (λ xs. IsUnopened g.B.Bay.files g.B.Faulty.faults s bays xs (reopen_status c.loop-number.number fault)) (sym is)
-      (subst (λ n. IsUnopened g.B.Bay.files g.B.Faulty.faults s bays (bays_of cones ++ back ∷ rest) (reopen_status n fault)) here.number unopened));
-}
+returns-in-Err g c =
+    let here = c.loop-number.invariant in
+    let bay = c.in-Some.bay in
+    let rest = c.pop_front.new.self.items in
+    let cones = c.loop-number.cones.items in
+    let bays = c.args.bays.now.items in
+    let items = c.in-Some.ensures.items in
+    let front = here.split.0 in
+    let split = ap (λ xs. front ++ xs) (sym items) ∙ here.split.2 in
+    let back = c.in-Err.refused.bay in
+    let s = c.args.settings.now in
+    let room = c.in-Some-pop.room in
+    record {
+      «open» = tt;
+      number = tt;
+      emptied = tt;
+      room = c.push_front_reserved.ensures.capacity ∙ (c.pop_front.ensures.capacity ∙ c.loop-number.invariant.room);
+      later =
+          let later = subst (λ xs. AreLater g.B.Bay.files g.B.Faulty.faults g.B.Faulty.mark bays (bays_of cones ++ xs)) items here.later in
+          let one = call_later g.B.Bay.files g.B.Faulty.faults g.B.Faulty.mark bay c.in-Err.refused.bay c.in-Err.ensures.kept.mark c.in-Err.ensures.kept.never_falls c.in-Err.ensures.reads in
+          subst (AreLater g.B.Bay.files g.B.Faulty.faults g.B.Faulty.mark bays) (ap (λ xs. bays_of cones ++ xs) (sym c.push_front_reserved.ensures.items))
+          (back_later g.B.Bay.files g.B.Faulty.faults g.B.Faulty.mark bays front bay rest cones split here.split.1 later c.in-Err.refused.bay one);
+      journals =
+          let so_far = subst (λ xs. AreJournalsSame g.B.Bay.files bays (bays_of cones ++ xs)) c.in-Some.ensures.items here.journals in
+          subst (AreJournalsSame g.B.Bay.files bays) (ap (λ xs. bays_of cones ++ xs) (sym c.push_front_reserved.ensures.items))
+          (journals_back g.B.Bay.files bays cones c.in-Some.bay rest so_far back c.in-Err.ensures.reads);
+      stays_sound =
+          let so_far = subst (λ xs. AreSoundStill g.B.Bay.files s bays (bays_of cones ++ xs)) c.in-Some.ensures.items here.stays_sound in
+          let popped = All-pop (IsNewRoom s) c.loop-number.rooms.items c.pop.new.self.items (Some room) c.in-Some-pop.ensures.items here.rooms in
+          let one = stays_by g.B.Bay.files room.settings c.loop-number.number bay back c.in-Err.ensures.reads c.in-Err.ensures.stays_sound in
+          let one_here = subst (λ (n : Numbers). IsSoundStill g.B.Bay.files n (length cones) bay back) popped.1.0
+          (subst (λ (n : ℕ). IsSoundStill g.B.Bay.files room.settings n bay back) (sym here.number) one) in
+          subst (AreSoundStill g.B.Bay.files s bays) (ap (λ xs. bays_of cones ++ xs) (sym c.push_front_reserved.ensures.items))
+          (sound_back g.B.Bay.files s bays cones bay c.pop_front.new.self.items so_far back one_here);
+      each_moment =
+          let first = c.args.bays.now.items in
+          let later = subst (λ xs. AreLater g.B.Bay.files g.B.Faulty.faults g.B.Faulty.mark first (bays_of cones ++ xs)) items here.later in
+          let there = bay_there g.B.Bay.files g.B.Faulty.faults g.B.Faulty.mark first front bay rest cones (ap (λ xs. front ++ xs) (sym items) ∙ here.split.2) here.split.1 later in
+          let so_far = subst (λ xs. AreSpared (bays_in g) s first (bays_of cones ++ xs)) items here.throughout in
+          let popped = All-pop (IsNewRoom s) c.loop-number.rooms.items c.pop.new.self.items (Some room) c.in-Some-pop.ensures.items here.rooms in
+          let one = throughout_by (bays_in g) room.settings c.loop-number.number bay back _ c.in-Err.ensures.kept c.in-Err.ensures.reads c.in-Err.ensures.each_moment
+          c.in-Err.ensures.unharmed in
+          let one_here = subst (λ (n : Numbers). IsSpared (bays_in g) n (length cones) bay back) popped.1.0
+          (subst (λ (n : ℕ). IsSpared (bays_in g) room.settings n bay back) (sym here.number) one) in
+          subst (AreSpared (bays_in g) s first) (ap (λ xs. bays_of cones ++ xs) (sym c.push_front_reserved.ensures.items))
+          (throughout_back (bays_in g) s first cones bay rest there so_far back one_here);
+      unopened =
+          let fault = c.in-Err.refused.fault in
+          let later = subst (λ xs. AreLater g.B.Bay.files g.B.Faulty.faults g.B.Faulty.mark bays (bays_of cones ++ xs)) items here.later in
+          let there = bay_there g.B.Bay.files g.B.Faulty.faults g.B.Faulty.mark bays front bay rest cones split here.split.1 later in
+          let is = ap (λ xs. bays_of cones ++ xs) c.push_front_reserved.ensures.items in
+          let popped = All-pop (IsNewRoom s) c.loop-number.rooms.items c.pop.new.self.items (Some c.in-Some-pop.room) c.in-Some-pop.ensures.items here.rooms in
+          let why : WasRefused g.B.Bay.files c.in-Some-pop.room.settings c.loop-number.number bay back fault = record {
+            malformed = c.in-Err.ensures.malformed;
+            other_is = c.in-Err.ensures.other;
+            refuses = c.in-Err.ensures.refuses;
+            differs = c.in-Err.ensures.differs;
+            opens = c.in-Err.ensures.sound_opens;
+            unread = λ seen told file at leaves. (c.in-Err.ensures.unharmed.left seen told file at leaves).seen;
+            untouched = λ kept is. (c.in-Err.ensures.other_untouched kept is).seen;
+          } in
+          let why_here = subst (λ (n : Numbers). WasRefused g.B.Bay.files n (length cones) bay back fault) popped.1.0
+          (subst (λ (n : ℕ). WasRefused g.B.Bay.files c.in-Some-pop.room.settings n bay back fault) (sym here.number) why) in
+          let unopened = unopened_by g.B.Bay.files g.B.Bay.leaves g.B.Faulty.faults g.B.Faulty.mark s bays front bay rest cones there here.open_cones back fault why_here c.in-Err.ensures.kept.failed
+          (λ other behind. let sizes = length-map cones (λ (x : Standing g.row.B.Denot). x.bay) in
+          slice_get-behind (bays_of cones) front back bay rest other (sizes ∙ sym here.split.1) (omega (arith, behind, sizes)) ∙ ap (λ xs. slice_get xs other) split) in
+          subst (IsUnopened g.B.Bay.files g.B.Faulty.faults s bays (bays_of cones ++ c.push_front_reserved.new.self.items)) (sym c.status_of.ensures)
+          (subst (λ xs. IsUnopened g.B.Bay.files g.B.Faulty.faults s bays xs (reopen_status c.loop-number.number fault)) (sym is)
+          (subst (λ n. IsUnopened g.B.Bay.files g.B.Faulty.faults s bays (bays_of cones ++ back ∷ rest) (reopen_status n fault)) here.number unopened));
+    }
 
 pub returns : goal.returns
 returns g c = record {
