@@ -17,9 +17,11 @@ use Rattle.lert_recover.proofs.MomentLaws.{stays_none}
 use Rattle.lert_recover.proofs.UnharmedLaws.{unharmed_none}
 use Rattle.lert_spec.specs.declared.numbers.Numbers.{Numbers}
 use Rattle.lert_ingest.specs.Bays.{EachBay, bays_of}
-use Rattle.lert_ingest.proofs.BayLaws.{bays_of-push, set-seam, slice_get-seam, slice_get-set_other}
+use Rattle.lert_ingest.proofs.BayLaws.{are_same, bays_of-push, set-seam, slice_get-seam, slice_get-set_other}
 use Rattle.lert_ingest.proofs.EachLaws.{each_same}
-use Rattle.lert_top.specs.recovery.Moments.{AreReturnedSpared, AreSpared, IsSpared}
+use Rattle.lert_top.specs.recovery.Moments.{AreReread, AreReturnedSpared, AreSpared, IsSpared}
+use Rattle.lert_top.proofs.recovery.JournalLaws.{journals_same}
+use Rattle.lert_top.proofs.recovery.SoundLaws.{sound_same}
 
 -- a bay over which a cone was opened, or wasn't
 pub throughout_by : {B : Type 0} (bays : Bays B) (s : Numbers) (cone : ℕ) (bay back : B) (Failed : Type 0) → CallsBay bays bay back Failed →
@@ -55,8 +57,16 @@ module _ {B : Type 0} (bays : Bays B) (lawful : IsLawful bays) (s : Numbers) whe
     unharmed = unharmed_none bays s cone bay lawful;
   }
 
-  pub throughout_same : (first : List B) → AreSpared bays s first first
+  throughout_same : (first : List B) → AreSpared bays s first first
   throughout_same first = each_same (IsSpared bays s) still first
+
+  pub reread_same : (first : List B) → AreReread bays s first first
+  reread_same first = record {
+    later = are_same bays.files bays.faults bays.mark first;
+    journals = journals_same bays.files first;
+    stays_sound = sound_same bays.files s first;
+    each_moment = throughout_same first;
+  }
 
 module _ {B : Type 0} (bays : Bays B) (s : Numbers) (first : List B) (cones : List (Standing B)) (bay : B) (rest : List B) (there : slice_get first (length cones) ≡ Some bay)
     (so_far : AreSpared bays s first (bays_of cones ++ bay ∷ rest)) where

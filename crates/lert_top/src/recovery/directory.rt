@@ -6,8 +6,8 @@ ghost use Rattle.lert_io.specs.Fault.{HasRisen};
 ghost use Rattle.lert_top.specs.cones.Asked.{IsAskedForBays};
 ghost use Rattle.lert_place.specs.Openings.{AreReturned, AreReturnedSame, bays_granted};
 ghost use Rattle.lert_ingest.specs.Bays.{AreLater};
-ghost use Rattle.lert_top.specs.recovery.Moments.{AreReturnedSpared, AreSpared};
-ghost use Rattle.lert_top.specs.recovery.Recovered.{AreJournalsSame, AreSoundStill, HasRecovered, RecoveryShows};
+ghost use Rattle.lert_top.specs.recovery.Moments.{AreReread, AreReturnedSpared};
+ghost use Rattle.lert_top.specs.recovery.Recovered.{HasRecovered, RecoveryShows};
 
 use crate::cones::{bring_back, open_bays, print_cones, put_back_bays};
 use crate::recovery::reopened_cones::reopen_cones;
@@ -68,10 +68,7 @@ fn recover_bays<B: Bay, K: Sink>(
 ) -> Status
     requires number { length bays.old.items ≡ 2 ^ settings.now.cone_bits }
     requires room { length bays.old.items ≤ deque_capacity bays.old }
-    ensures later { AreLater B.files B.faults B.mark bays.old.items bays.new.items }
-    ensures journals { AreJournalsSame B.files bays.old.items bays.new.items }
-    ensures stays_sound { AreSoundStill B.files settings.now bays.old.items bays.new.items }
-    ensures each_moment { AreSpared B.Bay settings.now bays.old.items bays.new.items }
+    ensures reread { AreReread B.Bay settings.now bays.old.items bays.new.items }
     ensures shows { RecoveryShows K.taken K.faults B.files B.faults settings.now out.old out.new bays.old.items bays.new.items result }
 {
     // Its clause says that the numbers are valid.

@@ -2,10 +2,10 @@
 
 ghost use Rattle.std.specs.Prelude.{◌≡◌, ℕ, ◌+◌, ◌^◌, ◌<◌, ◌≤◌, ◌++◌, [], ◌∷◌, All, length, slice_get, Some, IfOk, IfErr, OnOk, OnErr, vec_capacity};
 ghost use Rattle.std.specs.VecDeque.{deque_capacity};
-ghost use Rattle.lert_ingest.specs.Bays.{AreLater, bays_of};
+ghost use Rattle.lert_ingest.specs.Bays.{bays_of};
 ghost use Rattle.lert_ingest.specs.Cones.{IsNewRoom};
-ghost use Rattle.lert_top.specs.recovery.Moments.{AreSpared};
-ghost use Rattle.lert_top.specs.recovery.Recovered.{AreJournalsSame, AreOpenOver, AreSoundStill, IsUnopened, reopen_status};
+ghost use Rattle.lert_top.specs.recovery.Moments.{AreReread};
+ghost use Rattle.lert_top.specs.recovery.Recovered.{AreOpenOver, IsUnopened, reopen_status};
 
 use crate::cones::{bring_back, make_rooms_alone};
 use lert_base::Settings;
@@ -30,14 +30,8 @@ pub fn reopen_cones<B: Bay>(
     ensures number { IfOk result (λ cones. length cones.items ≡ 2 ^ settings.now.cone_bits) }
     ensures emptied { OnOk result (bays.new.items ≡ []) }
     ensures room { deque_capacity bays.new ≡ deque_capacity bays.old }
-    ensures later { IfOk result (λ cones. AreLater B.files B.faults B.mark bays.old.items (bays_of cones.items)) }
-    ensures kept { OnErr result (AreLater B.files B.faults B.mark bays.old.items bays.new.items) }
-    ensures journals { IfOk result (λ cones. AreJournalsSame B.files bays.old.items (bays_of cones.items)) }
-    ensures journals_kept { OnErr result (AreJournalsSame B.files bays.old.items bays.new.items) }
-    ensures stays_sound { IfOk result (λ cones. AreSoundStill B.files settings.now bays.old.items (bays_of cones.items)) }
-    ensures stays_sound_kept { OnErr result (AreSoundStill B.files settings.now bays.old.items bays.new.items) }
-    ensures each_moment { IfOk result (λ cones. AreSpared B.Bay settings.now bays.old.items (bays_of cones.items)) }
-    ensures each_moment_kept { OnErr result (AreSpared B.Bay settings.now bays.old.items bays.new.items) }
+    ensures reread { IfOk result (λ cones. AreReread B.Bay settings.now bays.old.items (bays_of cones.items)) }
+    ensures reread_kept { OnErr result (AreReread B.Bay settings.now bays.old.items bays.new.items) }
     ensures unopened { IfErr result (IsUnopened B.files B.faults settings.now bays.old.items bays.new.items) }
 {
     let mut rooms = make_rooms_alone(alloc, settings, settings.cones())?;
@@ -71,10 +65,7 @@ fn reopen_rooms<B: Bay>(
     ensures number { OnOk result (length cones.new.items ≡ 2 ^ settings.now.cone_bits) }
     ensures emptied { OnOk result (bays.new.items ≡ []) }
     ensures room { deque_capacity bays.new ≡ deque_capacity bays.old }
-    ensures later { AreLater B.files B.faults B.mark bays.old.items (bays_of cones.new.items ++ bays.new.items) }
-    ensures journals { AreJournalsSame B.files bays.old.items (bays_of cones.new.items ++ bays.new.items) }
-    ensures stays_sound { AreSoundStill B.files settings.now bays.old.items (bays_of cones.new.items ++ bays.new.items) }
-    ensures each_moment { AreSpared B.Bay settings.now bays.old.items (bays_of cones.new.items ++ bays.new.items) }
+    ensures reread { AreReread B.Bay settings.now bays.old.items (bays_of cones.new.items ++ bays.new.items) }
     ensures unopened { IfErr result (IsUnopened B.files B.faults settings.now bays.old.items (bays_of cones.new.items ++ bays.new.items)) }
 {
     for number in 0..settings.cones() {

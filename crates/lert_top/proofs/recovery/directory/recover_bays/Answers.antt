@@ -3,18 +3,15 @@ use Rattle.std.proofs.Math.Pow.{pow_mono}
 use Rattle.lert_cone.specs.Stands.{Standing}
 use Rattle.lert_spec.specs.declared.numbers.Numbers.{Numbers}
 use Rattle.lert_spec.specs.Lines.{lines}
-use Rattle.lert_ingest.specs.Bays.{AreLater, bays_of}
-use Rattle.lert_ingest.proofs.BayLaws.{are_same}
+use Rattle.lert_ingest.specs.Bays.{bays_of}
 use Rattle.lert_text.specs.Page.{IsCut}
 use Rattle.lert_top.specs.cones.Print.{ArePrintable, printed_as}
-use Rattle.lert_top.specs.recovery.Recovered.{AreJournalsSame, AreRecovered, AreSoundStill, printed, printed_partly, unopened, unopened_memory}
-use Rattle.lert_top.proofs.recovery.JournalLaws.{journals_same}
+use Rattle.lert_top.specs.recovery.Recovered.{AreRecovered, printed, printed_partly, unopened, unopened_memory}
 use Rattle.lert_top.proofs.recovery.RecoverLaws.{all_formed, open_printable, open_recovered}
-use Rattle.lert_top.proofs.recovery.SoundLaws.{sound_same}
 use Rattle.lert_bay.specs.Kept.{Bays}
 use Rattle.lert_bay.proofs.KeptLaws.{IsLawful}
-use Rattle.lert_top.specs.recovery.Moments.{AreSpared}
-use Rattle.lert_top.proofs.recovery.MomentLaws.{throughout_same}
+use Rattle.lert_top.specs.recovery.Moments.{AreReread}
+use Rattle.lert_top.proofs.recovery.MomentLaws.{reread_same}
 use Rattle.lert_top.proofs.recovery.directory.recover_bays.Given as given
 use Rattle.lert_top.proofs.recovery.directory.recover_bays.Goals as goal
 
@@ -37,10 +34,7 @@ few_bits known bits same few = omega (arith, same, few)
 
 pub returns-in-Err-reopen_cones : goal.returns-in-Err-reopen_cones
 returns-in-Err-reopen_cones g c = record {
-  later = c.in-Err-reopen_cones.ensures.kept;
-  journals = c.in-Err-reopen_cones.ensures.journals_kept;
-  stays_sound = c.in-Err-reopen_cones.ensures.stays_sound_kept;
-  each_moment = c.in-Err-reopen_cones.ensures.each_moment_kept;
+  reread = c.in-Err-reopen_cones.ensures.reread_kept;
   shows = unopened c.in-Err-reopen_cones.ensures.unopened refl;
 }
 
@@ -60,24 +54,21 @@ print_cones-printed-requires-clause-printable g c =
     let number : length cones ≡ length c.args.bays.now.items = omega (arith, c.in-Ok-reopen_cones.ensures.number, c.requires.number) in
     subst (ArePrintable c.args.settings.now) (sym c.as_slice.ensures.value)
     (open_printable g.B.Bay.files g.B.Bay.leaves g.B.Faulty.faults g.B.Faulty.mark c.args.settings.now c.args.bays.now.items cones c.in-Ok-reopen_cones.ensures.open number
-    c.in-Ok-reopen_cones.ensures.later)
+    c.in-Ok-reopen_cones.ensures.reread.later)
 
 pub returns-in-Ok-printed : goal.returns-in-Ok-printed
 returns-in-Ok-printed g c =
     let cones = c.in-Ok-reopen_cones.cones.items in
     let back = c.bring_back.ensures.bays ∙ (ap (λ xs. bays_of cones ++ xs) c.in-Ok-reopen_cones.ensures.emptied ∙ append-nil (bays_of cones)) in
     record {
-      later = subst (AreLater g.B.Bay.files g.B.Faulty.faults g.B.Faulty.mark c.args.bays.now.items) (sym back) c.in-Ok-reopen_cones.ensures.later;
-      journals = subst (AreJournalsSame g.B.Bay.files c.args.bays.now.items) (sym back) c.in-Ok-reopen_cones.ensures.journals;
-      stays_sound = subst (AreSoundStill g.B.Bay.files c.args.settings.now c.args.bays.now.items) (sym back) c.in-Ok-reopen_cones.ensures.stays_sound;
-      each_moment = subst (AreSpared (bays_in g) c.args.settings.now c.args.bays.now.items) (sym back) c.in-Ok-reopen_cones.ensures.each_moment;
+      reread = subst (AreReread (bays_in g) c.args.settings.now c.args.bays.now.items) (sym back) c.in-Ok-reopen_cones.ensures.reread;
       shows =
           let s = c.args.settings.now in
           let bays = c.args.bays.now.items in
           let number : length cones ≡ length bays = omega (arith, c.in-Ok-reopen_cones.ensures.number, c.requires.number) in
-          printed (all_formed g.B.Bay.files g.B.Bay.leaves g.B.Faulty.faults g.B.Faulty.mark s bays cones c.in-Ok-reopen_cones.ensures.open number c.in-Ok-reopen_cones.ensures.later)
+          printed (all_formed g.B.Bay.files g.B.Bay.leaves g.B.Faulty.faults g.B.Faulty.mark s bays cones c.in-Ok-reopen_cones.ensures.open number c.in-Ok-reopen_cones.ensures.reread.later)
           (map printed_as cones) (subst (λ (xs : List g.row.B.Denot). AreRecovered g.B.Bay.files s bays xs (map printed_as cones)) (sym back)
-          (open_recovered g.B.Bay.files g.B.Bay.leaves g.B.Faulty.faults g.B.Faulty.mark s bays cones c.in-Ok-reopen_cones.ensures.open number c.in-Ok-reopen_cones.ensures.later
+          (open_recovered g.B.Bay.files g.B.Bay.leaves g.B.Faulty.faults g.B.Faulty.mark s bays cones c.in-Ok-reopen_cones.ensures.open number c.in-Ok-reopen_cones.ensures.reread.later
           c.requires.number)) (λ text had. c.in-Ok-printed.ensures.ok text had ∙ ap (λ (xs : List (Standing g.row.B.Denot)). Some (text ++ lines (map printed_as xs))) c.as_slice.ensures.value);
     }
 
@@ -86,17 +77,14 @@ returns g c =
     let cones = c.in-Ok-reopen_cones.cones.items in
     let back = c.bring_back.ensures.bays ∙ (ap (λ xs. bays_of cones ++ xs) c.in-Ok-reopen_cones.ensures.emptied ∙ append-nil (bays_of cones)) in
     record {
-      later = subst (AreLater g.B.Bay.files g.B.Faulty.faults g.B.Faulty.mark c.args.bays.now.items) (sym back) c.in-Ok-reopen_cones.ensures.later;
-      journals = subst (AreJournalsSame g.B.Bay.files c.args.bays.now.items) (sym back) c.in-Ok-reopen_cones.ensures.journals;
-      stays_sound = subst (AreSoundStill g.B.Bay.files c.args.settings.now c.args.bays.now.items) (sym back) c.in-Ok-reopen_cones.ensures.stays_sound;
-      each_moment = subst (AreSpared (bays_in g) c.args.settings.now c.args.bays.now.items) (sym back) c.in-Ok-reopen_cones.ensures.each_moment;
+      reread = subst (AreReread (bays_in g) c.args.settings.now c.args.bays.now.items) (sym back) c.in-Ok-reopen_cones.ensures.reread;
       shows =
           let s = c.args.settings.now in
           let bays = c.args.bays.now.items in
           let number : length cones ≡ length bays = omega (arith, c.in-Ok-reopen_cones.ensures.number, c.requires.number) in
-          printed_partly (all_formed g.B.Bay.files g.B.Bay.leaves g.B.Faulty.faults g.B.Faulty.mark s bays cones c.in-Ok-reopen_cones.ensures.open number c.in-Ok-reopen_cones.ensures.later)
+          printed_partly (all_formed g.B.Bay.files g.B.Bay.leaves g.B.Faulty.faults g.B.Faulty.mark s bays cones c.in-Ok-reopen_cones.ensures.open number c.in-Ok-reopen_cones.ensures.reread.later)
           (map printed_as cones) (subst (λ (xs : List g.row.B.Denot). AreRecovered g.B.Bay.files s bays xs (map printed_as cones)) (sym back)
-          (open_recovered g.B.Bay.files g.B.Bay.leaves g.B.Faulty.faults g.B.Faulty.mark s bays cones c.in-Ok-reopen_cones.ensures.open number c.in-Ok-reopen_cones.ensures.later
+          (open_recovered g.B.Bay.files g.B.Bay.leaves g.B.Faulty.faults g.B.Faulty.mark s bays cones c.in-Ok-reopen_cones.ensures.open number c.in-Ok-reopen_cones.ensures.reread.later
           c.requires.number)) (c.in-Err-printed.ensures.cause.failed refl)
           (subst (λ (xs : List (Standing g.row.B.Denot)). IsCut (g.K.Sink.taken c.args.out.now) (g.K.Sink.taken c.print_cones-printed.new.out) (lines (map printed_as xs))) c.as_slice.ensures.value
           c.in-Err-printed.ensures.cut);
@@ -107,10 +95,7 @@ reopen_cones-requires g c = record { number = c.requires.number; room = c.requir
 
 pub returns-in-Err : goal.returns-in-Err
 returns-in-Err g c = record {
-  later = are_same g.B.Bay.files g.B.Faulty.faults g.B.Faulty.mark c.args.bays.now.items;
-  journals = journals_same g.B.Bay.files c.args.bays.now.items;
-  stays_sound = sound_same g.B.Bay.files c.args.settings.now c.args.bays.now.items;
-  each_moment = throughout_same (bays_in g) (lawful g) c.args.settings.now c.args.bays.now.items;
+  reread = reread_same (bays_in g) (lawful g) c.args.settings.now c.args.bays.now.items;
   shows = unopened (unopened_memory refl) refl;
 }
 

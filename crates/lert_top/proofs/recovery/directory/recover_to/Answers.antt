@@ -105,7 +105,7 @@ returns g c = record {
       c.recover_bays-status.ensures.shows is);
   returned =
       all_back g.P.Bay.Bay.files g.P.Bay.Faulty.faults g.P.Bay.Faulty.mark c.in-Ok.bays.items c.recover_bays-status.new.bays.items _ _ (c.put_back_bays.ensures.bays ∙ c.in-Ok.ensures.opened)
-      c.recover_bays-status.ensures.later c.in-Ok.ensures.marked
+      c.recover_bays-status.ensures.reread.later c.in-Ok.ensures.marked
       c.put_back_bays.ensures.returned;
   recovered = λ differs.
       let same = c.put_back_bays.ensures.bays ∙ c.in-Ok.ensures.opened in
@@ -115,20 +115,20 @@ returns g c = record {
       let status = c.recover_bays-status.result in (
         now,
         c.put_back_bays.ensures.returned,
-        subst (λ (xs : List g.row.P-Bay.Denot). AreLater g.P.Bay.Bay.files g.P.Bay.Faulty.faults g.P.Bay.Faulty.mark xs now) (sym same) c.recover_bays-status.ensures.later,
+        subst (λ (xs : List g.row.P-Bay.Denot). AreLater g.P.Bay.Bay.files g.P.Bay.Faulty.faults g.P.Bay.Faulty.mark xs now) (sym same) c.recover_bays-status.ensures.reread.later,
         subst (λ (xs : List g.row.P-Bay.Denot). HasRecovered {K = g.row.K.Denot} {B = g.row.P-Bay.Denot} g.K.Sink.taken g.K.Faulty.faults g.P.Bay.Bay.files g.P.Bay.Faulty.faults s c.args.out.now
             c.recover_bays-status.new.out xs now status) (sym same)
             (has_recovered {K = g.row.K.Denot} {B = g.row.P-Bay.Denot} g.K.Sink.taken g.K.Faulty.faults g.P.Bay.Bay.files g.P.Bay.Faulty.faults s c.args.out.now c.recover_bays-status.new.out first
             now status c.recover_bays-status.ensures.shows
-            (λ other. c.in-Ok.ensures.number ∙ c.cones.ensures) c.recover_bays-status.ensures.journals c.recover_bays-status.ensures.stays_sound),
+            (λ other. c.in-Ok.ensures.number ∙ c.cones.ensures) c.recover_bays-status.ensures.reread.journals c.recover_bays-status.ensures.reread.stays_sound),
       );
   each_moment = λ differs.
       let same = c.put_back_bays.ensures.bays ∙ c.in-Ok.ensures.opened in
       let first = c.in-Ok.bays.items in
       let now = c.recover_bays-status.new.bays.items in
       returned_sound (bays_in g) c.args.settings.now (g.P.Place.handed_bays c.put_back_bays.new.place) now (g.P.Place.returned_bay c.put_back_bays.new.place)
-      (c.recover_bays-status.ensures.later.number ∙ ap length (sym same)) c.put_back_bays.ensures.returned
-      (subst (λ (xs : List g.row.P-Bay.Denot). AreSpared (bays_in g) c.args.settings.now xs now) (sym same) c.recover_bays-status.ensures.each_moment);
+      (c.recover_bays-status.ensures.reread.later.number ∙ ap length (sym same)) c.put_back_bays.ensures.returned
+      (subst (λ (xs : List g.row.P-Bay.Denot). AreSpared (bays_in g) c.args.settings.now xs now) (sym same) c.recover_bays-status.ensures.reread.each_moment);
   no_usage = λ rule is.
       recovery_not_usage {K = g.row.K.Denot} {B = g.row.P-Bay.Denot} g.K.Sink.taken g.K.Faulty.faults g.P.Bay.Bay.files g.P.Bay.Faulty.faults c.args.settings.now c.args.out.now
       c.recover_bays-status.new.out c.in-Ok.bays.items c.recover_bays-status.new.bays.items rule c.recover_bays-status.result
@@ -138,14 +138,14 @@ returns g c = record {
 
 pub put_back_bays-requires-clause-marked : goal.put_back_bays-requires-clause-marked
 put_back_bays-requires-clause-marked g c = λ lifetimes outlive cone bay is.
-    still_marked g.P.Bay.Bay.files g.P.Bay.Faulty.faults g.P.Bay.Faulty.mark c.in-Ok.bays.items c.recover_bays-status.new.bays.items c.recover_bays-status.ensures.later c.in-Ok.ensures.marked cone
+    still_marked g.P.Bay.Bay.files g.P.Bay.Faulty.faults g.P.Bay.Faulty.mark c.in-Ok.bays.items c.recover_bays-status.new.bays.items c.recover_bays-status.ensures.reread.later c.in-Ok.ensures.marked cone
     bay is
 
 pub recover_bays-status-requires : goal.recover_bays-status-requires
 recover_bays-status-requires g c = record { number = c.in-Ok.ensures.number ∙ c.cones.ensures; room = omega (arith, c.in-Ok.ensures.number, c.in-Ok.ensures.room) }
 
 pub put_back_bays-requires-clause-handed : goal.put_back_bays-requires-clause-handed
-put_back_bays-requires-clause-handed g c = λ lifetimes outlive. c.recover_bays-status.ensures.later.number ∙ ap length (sym c.in-Ok.ensures.opened)
+put_back_bays-requires-clause-handed g c = λ lifetimes outlive. c.recover_bays-status.ensures.reread.later.number ∙ ap length (sym c.in-Ok.ensures.opened)
 
 pub open_bays-requires-clause-none : goal.open_bays-requires-clause-none
 open_bays-requires-clause-none g c = λ lifetimes outlive.

@@ -4,17 +4,17 @@ use Rattle.std.proofs.lemmas.List.Elements.{All-pop}
 use Rattle.std.proofs.lemmas.Option.{same_Some, slice_get_within}
 use Rattle.lert_cone.specs.Stands.{Standing}
 use Rattle.lert_spec.specs.declared.numbers.Numbers.{Numbers}
-use Rattle.lert_ingest.specs.Bays.{AreLater, bays_of}
+use Rattle.lert_ingest.specs.Bays.{bays_of}
 use Rattle.lert_ingest.specs.Cones.{IsNewRoom}
-use Rattle.lert_top.specs.recovery.Recovered.{AreJournalsSame, AreSoundStill, IsOpenOver, IsUnopened, IsSoundStill, reopen_status}
-use Rattle.lert_ingest.proofs.BayLaws.{are_same, slice_get-behind}
+use Rattle.lert_top.specs.recovery.Recovered.{IsOpenOver, IsUnopened, IsSoundStill, reopen_status}
+use Rattle.lert_ingest.proofs.BayLaws.{slice_get-behind}
 use Rattle.lert_top.proofs.cones.ConeLaws.{back_later, bay_there, call_later, each-push, made_later, none_left}
-use Rattle.lert_top.proofs.recovery.JournalLaws.{journals_back, journals_made, journals_same}
+use Rattle.lert_top.proofs.recovery.JournalLaws.{journals_back, journals_made}
 use Rattle.lert_top.proofs.recovery.RecoverLaws.{WasRefused, open_over, unopened_by}
-use Rattle.lert_top.proofs.recovery.SoundLaws.{sound_back, sound_made, sound_same, stays_by, stays_open}
+use Rattle.lert_top.proofs.recovery.SoundLaws.{sound_back, sound_made, stays_by, stays_open}
 use Rattle.lert_bay.proofs.KeptLaws.{IsLawful}
-use Rattle.lert_top.specs.recovery.Moments.{AreSpared, IsSpared}
-use Rattle.lert_top.proofs.recovery.MomentLaws.{throughout_back, throughout_by, throughout_made, throughout_same}
+use Rattle.lert_top.specs.recovery.Moments.{AreReread, IsSpared}
+use Rattle.lert_top.proofs.recovery.MomentLaws.{reread_same, throughout_back, throughout_by, throughout_made}
 use Rattle.lert_top.proofs.recovery.reopened_cones.reopen_rooms.Given as given
 use Rattle.lert_top.proofs.recovery.reopened_cones.reopen_rooms.Invariants.{bays as bays_in}
 use Rattle.lert_top.proofs.recovery.reopened_cones.reopen_rooms.Goals as goal
@@ -35,46 +35,28 @@ returns-in-Err g c =
     let back = c.in-Err.refused.bay in
     let s = c.args.settings.now in
     let room = c.in-Some-pop.room in
+    let popped = All-pop (IsNewRoom s) c.loop-number.rooms.items c.pop.new.self.items (Some room) c.in-Some-pop.ensures.items here.rooms in
+    let so_far = subst (λ xs. AreReread (bays_in g) s bays (bays_of cones ++ xs)) items here.reread in
+    let there = bay_there g.B.Bay.files g.B.Faulty.faults g.B.Faulty.mark bays front bay rest cones split here.split.1 so_far.later in
     record {
       «open» = tt;
       number = tt;
       emptied = tt;
-      room = c.push_front_reserved.ensures.capacity ∙ (c.pop_front.ensures.capacity ∙ c.loop-number.invariant.room);
-      later =
-          let later = subst (λ xs. AreLater g.B.Bay.files g.B.Faulty.faults g.B.Faulty.mark bays (bays_of cones ++ xs)) items here.later in
-          let one = call_later g.B.Bay.files g.B.Faulty.faults g.B.Faulty.mark bay c.in-Err.refused.bay c.in-Err.ensures.kept.mark c.in-Err.ensures.kept.never_falls c.in-Err.ensures.reads in
-          subst (AreLater g.B.Bay.files g.B.Faulty.faults g.B.Faulty.mark bays) (ap (λ xs. bays_of cones ++ xs) (sym c.push_front_reserved.ensures.items))
-          (back_later g.B.Bay.files g.B.Faulty.faults g.B.Faulty.mark bays front bay rest cones split here.split.1 later c.in-Err.refused.bay one);
-      journals =
-          let so_far = subst (λ xs. AreJournalsSame g.B.Bay.files bays (bays_of cones ++ xs)) c.in-Some.ensures.items here.journals in
-          subst (AreJournalsSame g.B.Bay.files bays) (ap (λ xs. bays_of cones ++ xs) (sym c.push_front_reserved.ensures.items))
-          (journals_back g.B.Bay.files bays cones c.in-Some.bay rest so_far back c.in-Err.ensures.reads);
-      stays_sound =
-          let so_far = subst (λ xs. AreSoundStill g.B.Bay.files s bays (bays_of cones ++ xs)) c.in-Some.ensures.items here.stays_sound in
-          let popped = All-pop (IsNewRoom s) c.loop-number.rooms.items c.pop.new.self.items (Some room) c.in-Some-pop.ensures.items here.rooms in
-          let one = stays_by g.B.Bay.files room.settings c.loop-number.number bay back c.in-Err.ensures.reads c.in-Err.ensures.stays_sound in
-          let one_here = subst (λ (n : Numbers). IsSoundStill g.B.Bay.files n (length cones) bay back) popped.1.0
-          (subst (λ (n : ℕ). IsSoundStill g.B.Bay.files room.settings n bay back) (sym here.number) one) in
-          subst (AreSoundStill g.B.Bay.files s bays) (ap (λ xs. bays_of cones ++ xs) (sym c.push_front_reserved.ensures.items))
-          (sound_back g.B.Bay.files s bays cones bay c.pop_front.new.self.items so_far back one_here);
-      each_moment =
-          let first = c.args.bays.now.items in
-          let later = subst (λ xs. AreLater g.B.Bay.files g.B.Faulty.faults g.B.Faulty.mark first (bays_of cones ++ xs)) items here.later in
-          let there = bay_there g.B.Bay.files g.B.Faulty.faults g.B.Faulty.mark first front bay rest cones (ap (λ xs. front ++ xs) (sym items) ∙ here.split.2) here.split.1 later in
-          let so_far = subst (λ xs. AreSpared (bays_in g) s first (bays_of cones ++ xs)) items here.throughout in
-          let popped = All-pop (IsNewRoom s) c.loop-number.rooms.items c.pop.new.self.items (Some room) c.in-Some-pop.ensures.items here.rooms in
-          let one = throughout_by (bays_in g) room.settings c.loop-number.number bay back _ c.in-Err.ensures.kept c.in-Err.ensures.reads c.in-Err.ensures.each_moment
-          c.in-Err.ensures.unharmed in
-          let one_here = subst (λ (n : Numbers). IsSpared (bays_in g) n (length cones) bay back) popped.1.0
-          (subst (λ (n : ℕ). IsSpared (bays_in g) room.settings n bay back) (sym here.number) one) in
-          subst (AreSpared (bays_in g) s first) (ap (λ xs. bays_of cones ++ xs) (sym c.push_front_reserved.ensures.items))
-          (throughout_back (bays_in g) s first cones bay rest there so_far back one_here);
+      room = c.push_front_reserved.ensures.capacity ∙ (c.pop_front.ensures.capacity ∙ here.room);
+      reread = subst (AreReread (bays_in g) s bays) (ap (λ xs. bays_of cones ++ xs) (sym c.push_front_reserved.ensures.items)) (record {
+        later = back_later g.B.Bay.files g.B.Faulty.faults g.B.Faulty.mark bays front bay rest cones split here.split.1 so_far.later back
+            (call_later g.B.Bay.files g.B.Faulty.faults g.B.Faulty.mark bay back c.in-Err.ensures.kept.mark c.in-Err.ensures.kept.never_falls c.in-Err.ensures.reads);
+        journals = journals_back g.B.Bay.files bays cones bay rest so_far.journals back c.in-Err.ensures.reads;
+        stays_sound = sound_back g.B.Bay.files s bays cones bay rest so_far.stays_sound back (subst (λ (n : Numbers). IsSoundStill g.B.Bay.files n (length cones) bay back) popped.1.0
+            (subst (λ (n : ℕ). IsSoundStill g.B.Bay.files room.settings n bay back) (sym here.number)
+            (stays_by g.B.Bay.files room.settings c.loop-number.number bay back c.in-Err.ensures.reads c.in-Err.ensures.stays_sound)));
+        each_moment = throughout_back (bays_in g) s bays cones bay rest there so_far.each_moment back (subst (λ (n : Numbers). IsSpared (bays_in g) n (length cones) bay back) popped.1.0
+            (subst (λ (n : ℕ). IsSpared (bays_in g) room.settings n bay back) (sym here.number)
+            (throughout_by (bays_in g) room.settings c.loop-number.number bay back _ c.in-Err.ensures.kept c.in-Err.ensures.reads c.in-Err.ensures.each_moment c.in-Err.ensures.unharmed)));
+      });
       unopened =
           let fault = c.in-Err.refused.fault in
-          let later = subst (λ xs. AreLater g.B.Bay.files g.B.Faulty.faults g.B.Faulty.mark bays (bays_of cones ++ xs)) items here.later in
-          let there = bay_there g.B.Bay.files g.B.Faulty.faults g.B.Faulty.mark bays front bay rest cones split here.split.1 later in
           let is = ap (λ xs. bays_of cones ++ xs) c.push_front_reserved.ensures.items in
-          let popped = All-pop (IsNewRoom s) c.loop-number.rooms.items c.pop.new.self.items (Some c.in-Some-pop.room) c.in-Some-pop.ensures.items here.rooms in
           let why : WasRefused g.B.Bay.files c.in-Some-pop.room.settings c.loop-number.number bay back fault = record {
             malformed = c.in-Err.ensures.malformed;
             other_is = c.in-Err.ensures.other;
@@ -104,10 +86,7 @@ returns g c = record {
       none_left c.loop-number.bays.items
       (omega (arith, whole, length-append here.split.0 c.loop-number.bays.items, here.split.1, here.number, c.loop-number-test.false, c.cones-number-end.ensures, c.requires.number));
   room = c.loop-number.invariant.room;
-  later = c.loop-number.invariant.later;
-  journals = c.loop-number.invariant.journals;
-  stays_sound = c.loop-number.invariant.stays_sound;
-  each_moment = c.loop-number.invariant.throughout;
+  reread = c.loop-number.invariant.reread;
   unopened = tt;
 }
 
@@ -124,8 +103,8 @@ loop-number-preserved g c =
     let front = here.split.0 in
     let bays = c.args.bays.now.items in
     let split = ap (λ xs. front ++ xs) (sym items) ∙ here.split.2 in
-    let later = subst (λ xs. AreLater g.B.Bay.files g.B.Faulty.faults g.B.Faulty.mark bays (bays_of cones ++ xs)) items here.later in
-    let there = bay_there g.B.Bay.files g.B.Faulty.faults g.B.Faulty.mark bays front bay rest cones split here.split.1 later in
+    let so_far = subst (λ xs. AreReread (bays_in g) s bays (bays_of cones ++ xs)) items here.reread in
+    let there = bay_there g.B.Bay.files g.B.Faulty.faults g.B.Faulty.mark bays front bay rest cones split here.split.1 so_far.later in
     let one = call_later g.B.Bay.files g.B.Faulty.faults g.B.Faulty.mark bay cone.bay c.in-Ok.ensures.kept.mark c.in-Ok.ensures.kept.never_falls c.in-Ok.ensures.reads in
     let pushed = c.push_reserved.ensures.items in
     let popped = All-pop (IsNewRoom s) c.loop-number.rooms.items c.pop.new.self.items (Some room) c.in-Some-pop.ensures.items here.rooms in
@@ -142,20 +121,16 @@ loop-number-preserved g c =
       rooms_left = omega (arith, fewer, here.rooms_left);
       rooms = popped.0;
       split = (front ++ bay ∷ [], omega (arith, length-append front (bay ∷ []), number, here.split.1), append_assoc front (bay ∷ []) rest ∙ split);
-      later = subst (λ xs. AreLater g.B.Bay.files g.B.Faulty.faults g.B.Faulty.mark bays (bays_of xs ++ rest)) (sym pushed)
-          (made_later g.B.Bay.files g.B.Faulty.faults g.B.Faulty.mark bays front bay rest cones split here.split.1 later cone one);
-      journals = subst (λ xs. AreJournalsSame g.B.Bay.files bays (bays_of xs ++ rest)) (sym pushed)
-          (journals_made g.B.Bay.files bays cones bay rest (subst (λ xs. AreJournalsSame g.B.Bay.files bays (bays_of cones ++ xs)) items here.journals) cone c.in-Ok.ensures.reads);
-      stays_sound = subst (λ xs. AreSoundStill g.B.Bay.files s bays (bays_of xs ++ rest)) (sym pushed)
-          (sound_made g.B.Bay.files s bays cones bay rest (subst (λ xs. AreSoundStill g.B.Bay.files s bays (bays_of cones ++ xs)) items here.stays_sound) cone
-          (stays_open g.B.Bay.files g.B.Bay.leaves g.B.Faulty.faults s (length cones) bay cone opened_here c.in-Ok.ensures.reads));
-      throughout =
-          let so_far = subst (λ xs. AreSpared (bays_in g) s bays (bays_of cones ++ xs)) items here.throughout in
-          let moments = throughout_by (bays_in g) room.settings c.loop-number.number bay cone.bay ⊥ c.in-Ok.ensures.kept c.in-Ok.ensures.reads c.in-Ok.ensures.each_moment
-          c.in-Ok.ensures.unharmed in
-          let moments_here = subst (λ (n : Numbers). IsSpared (bays_in g) n (length cones) bay cone.bay) popped.1.0
-          (subst (λ (n : ℕ). IsSpared (bays_in g) room.settings n bay cone.bay) (sym here.number) moments) in
-          subst (λ xs. AreSpared (bays_in g) s bays (bays_of xs ++ rest)) (sym pushed) (throughout_made (bays_in g) s bays cones bay rest there so_far cone moments_here);
+      reread = subst (λ xs. AreReread (bays_in g) s bays (bays_of xs ++ rest)) (sym pushed) (record {
+        later = made_later g.B.Bay.files g.B.Faulty.faults g.B.Faulty.mark bays front bay rest cones split here.split.1 so_far.later cone one;
+        journals = journals_made g.B.Bay.files bays cones bay rest so_far.journals cone c.in-Ok.ensures.reads;
+        stays_sound = sound_made g.B.Bay.files s bays cones bay rest so_far.stays_sound cone
+            (stays_open g.B.Bay.files g.B.Bay.leaves g.B.Faulty.faults s (length cones) bay cone opened_here c.in-Ok.ensures.reads);
+        each_moment = throughout_made (bays_in g) s bays cones bay rest there so_far.each_moment cone
+            (subst (λ (n : Numbers). IsSpared (bays_in g) n (length cones) bay cone.bay) popped.1.0
+            (subst (λ (n : ℕ). IsSpared (bays_in g) room.settings n bay cone.bay) (sym here.number)
+            (throughout_by (bays_in g) room.settings c.loop-number.number bay cone.bay ⊥ c.in-Ok.ensures.kept c.in-Ok.ensures.reads c.in-Ok.ensures.each_moment c.in-Ok.ensures.unharmed)));
+      });
       open_cones = λ place found is.
           each-push (λ (k : ℕ) (x : Standing g.row.B.Denot). (held : g.row.B.Denot) → slice_get bays k ≡ Some held → IsOpenOver g.B.Bay.files g.B.Bay.leaves g.B.Faulty.faults s k held x)
           cones cone here.open_cones
@@ -173,13 +148,8 @@ loop-number-init g c =
       rooms_left = omega (arith, c.requires.rooms_number);
       rooms = c.requires.rooms;
       split = ([], sym (ap length c.requires.none), refl);
-      later = subst (λ (xs : List (Standing g.row.B.Denot)). AreLater g.B.Bay.files g.B.Faulty.faults g.B.Faulty.mark bays (bays_of xs ++ bays)) (sym c.requires.none)
-          (are_same g.B.Bay.files g.B.Faulty.faults g.B.Faulty.mark bays);
-      journals = subst (λ (xs : List (Standing g.row.B.Denot)). AreJournalsSame g.B.Bay.files bays (bays_of xs ++ bays)) (sym c.requires.none) (journals_same g.B.Bay.files bays);
-      stays_sound = subst (λ (xs : List (Standing g.row.B.Denot)). AreSoundStill g.B.Bay.files c.args.settings.now bays (bays_of xs ++ bays)) (sym c.requires.none)
-          (sound_same g.B.Bay.files c.args.settings.now bays);
-      throughout = subst (λ (xs : List (Standing g.row.B.Denot)). AreSpared (bays_in g) c.args.settings.now bays (bays_of xs ++ bays)) (sym c.requires.none)
-          (throughout_same (bays_in g) (lawful g) c.args.settings.now bays);
+      reread = subst (λ (xs : List (Standing g.row.B.Denot)). AreReread (bays_in g) c.args.settings.now bays (bays_of xs ++ bays)) (sym c.requires.none)
+          (reread_same (bays_in g) (lawful g) c.args.settings.now bays);
       open_cones = λ place cone is _ _. absurd (omega (arith, slice_get_within c.args.cones.now.items place cone is, ap length c.requires.none));
       room = refl;
       cones_room = c.requires.cones_room;

@@ -2,10 +2,10 @@ use Rattle.std.proofs.Common.{◌≡◌, ◌+◌, ◌^◌, ◌≤◌, List, ◌+
 use Rattle.std.specs.Prelude.{All, vec_capacity}
 use Rattle.std.specs.VecDeque.{deque_capacity}
 use Rattle.lert_bay.specs.Kept.{Bays}
-use Rattle.lert_ingest.specs.Bays.{AreLater, bays_of}
+use Rattle.lert_ingest.specs.Bays.{bays_of}
 use Rattle.lert_ingest.specs.Cones.{IsNewRoom}
-use Rattle.lert_top.specs.recovery.Moments.{AreSpared}
-use Rattle.lert_top.specs.recovery.Recovered.{AreJournalsSame, AreOpenOver, AreSoundStill}
+use Rattle.lert_top.specs.recovery.Moments.{AreReread}
+use Rattle.lert_top.specs.recovery.Recovered.{AreOpenOver}
 use Rattle.lert_top.proofs.recovery.reopened_cones.reopen_rooms.Given as goal
 
 abbrev pub bays : (g : goal.Over) → Bays g.row.B.Denot
@@ -26,10 +26,7 @@ invariant-loop-number g l = record {
   rooms_left : length l.rooms.items + l.number ≡ 2 ^ l.settings.cone_bits;
   rooms : All (IsNewRoom l.settings) l.rooms.items;
   split : (front : List g.row.B.Denot) × (length front ≡ length l.cones.items) × (front ++ l.bays.items ≡ l.fn.bays.items);
-  later : AreLater g.B.Bay.files g.B.Faulty.faults g.B.Faulty.mark l.fn.bays.items (bays_of l.cones.items ++ l.bays.items);
-  journals : AreJournalsSame g.B.Bay.files l.fn.bays.items (bays_of l.cones.items ++ l.bays.items);
-  stays_sound : AreSoundStill g.B.Bay.files l.settings l.fn.bays.items (bays_of l.cones.items ++ l.bays.items);
-  throughout : AreSpared (bays g) l.settings l.fn.bays.items (bays_of l.cones.items ++ l.bays.items);
+  reread : AreReread (bays g) l.settings l.fn.bays.items (bays_of l.cones.items ++ l.bays.items);
   open_cones : AreOpenOver g.B.Bay.files g.B.Bay.leaves g.B.Faulty.faults l.settings l.fn.bays.items l.cones.items;
   room : deque_capacity l.bays ≡ deque_capacity l.fn.bays;
   cones_room : 2 ^ l.settings.cone_bits ≤ vec_capacity l.cones;
