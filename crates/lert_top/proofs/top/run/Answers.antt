@@ -119,7 +119,7 @@ returns-in-Run g c = record {
         (g.P.Place.handed_traces c.run_line.new.place) backs (g.P.Place.returned_trace c.run_line.new.place)
         (g.P.Place.handed_bays c.run_line.new.place) bays (g.P.Place.returned_bay c.run_line.new.place)
         × (c.run_line.result ≢ OutOfMemory → length (g.P.Place.handed_traces c.run_line.new.place) ≡ length t)
-        × HasRun {S = g.row.P-Trace.Denot} {K = g.row.K.Denot} {B = g.row.P-Bay.Denot} g.P.Trace.Source.remaining g.P.Trace.Faulty.faults g.K.Sink.taken g.K.Faulty.faults
+        × HasRun g.P.Trace.Source.remaining g.P.Trace.Faulty.faults g.K.Sink.taken g.K.Faulty.faults
         g.P.Bay.Bay.files g.P.Bay.Faulty.faults s w (g.P.Place.handed_traces c.run_line.new.place) backs c.args.out.now c.run_line.new.out
         (g.P.Place.handed_bays c.run_line.new.place) bays c.run_line.result
 
@@ -155,7 +155,7 @@ returns-in-Recover g c = record {
       along_recover (command c.args.words.now) c.in-Ok.line c.in-Ok.ensures.line (λ s d. c.recover_to.result ≢ PlaceFault → (backs : List g.row.P-Bay.Denot)
       × ((cone : ℕ) → cone < length backs → g.P.Place.returned_bay c.recover_to.new.place cone ≡ slice_get backs cone)
       × AreLater g.P.Bay.Bay.files g.P.Bay.Faulty.faults g.P.Bay.Faulty.mark (g.P.Place.handed_bays c.recover_to.new.place) backs
-      × HasRecovered {K = g.row.K.Denot} {B = g.row.P-Bay.Denot} g.K.Sink.taken g.K.Faulty.faults g.P.Bay.Bay.files g.P.Bay.Faulty.faults s c.args.out.now
+      × HasRecovered g.K.Sink.taken g.K.Faulty.faults g.P.Bay.Bay.files g.P.Bay.Faulty.faults s c.args.out.now
       c.recover_to.new.out (g.P.Place.handed_bays c.recover_to.new.place) backs c.recover_to.result)
       c.in-Recover.settings settings c.in-Recover.dir dir c.in-Recover.is spelled c.recover_to.ensures.recovered;
   each_moment = λ settings dir spelled sound.
@@ -183,7 +183,7 @@ returns-in-Drill g c = record {
   generated = λ seed events spelled sound. in_drill g c (Gen seed events) spelled refl;
   drilled = λ settings workers seed events spelled sound.
       along_drill (command c.args.words.now) c.in-Ok.line c.in-Ok.ensures.line
-      (λ s w a n. (c.args.place.now ≡ c.args.place.now) × DrillShows {K = g.row.K.Denot} g.K.Sink.taken g.K.Faulty.faults s a n c.args.out.now c.drill.new.out c.drill.result)
+      (λ s w a n. (c.args.place.now ≡ c.args.place.now) × DrillShows g.K.Sink.taken g.K.Faulty.faults s a n c.args.out.now c.drill.new.out c.drill.result)
       c.in-Drill.settings settings c.in-Drill.workers workers c.in-Drill.seed seed c.in-Drill.events events c.in-Drill.is spelled (refl, c.drill.ensures.shows);
 }
 
@@ -303,8 +303,7 @@ returns-in-Err-OutOfMemory g c =
             [],
             λ cone within. below_none cone within,
             later_none (g.P.Place.handed_bays place) no_bays g.P.Bay.Bay.files g.P.Bay.Faulty.faults g.P.Bay.Faulty.mark,
-            recovered_none (g.P.Place.handed_bays place) no_bays g.P.Bay.Bay.files g.P.Bay.Faulty.faults g.P.Bay.Faulty.mark
-                g.K.Sink.taken g.K.Faulty.faults settings c.args.out.now,
+            recovered_none (g.P.Place.handed_bays place) no_bays g.P.Bay.Bay.files g.P.Bay.Faulty.faults g.P.Bay.Faulty.mark g.K.Sink.taken g.K.Faulty.faults settings c.args.out.now,
           );
       each_moment = λ settings dir spelled sound differs.
           let place = c.args.place.now in

@@ -36,11 +36,11 @@ ingest-sources-requires-clause-most g c = λ lifetimes outlive. c.requires.most
 
 pub ingest-sources-requires-clause-some : goal.ingest-sources-requires-clause-some
 ingest-sources-requires-clause-some g c = λ lifetimes outlive. four_some (length c.args.sources.items)
-    (four_sources {S = g.row.S.Denot} g.S.Source.remaining c.requires.dealt.0 c.requires.dealt.1.0 c.args.sources.items c.requires.dealt.1.1)
+    (four_sources g.S.Source.remaining c.requires.dealt.0 c.requires.dealt.1.0 c.args.sources.items c.requires.dealt.1.1)
 
 pub ingest-sources-requires-clause-few : goal.ingest-sources-requires-clause-few
 ingest-sources-requires-clause-few g c = λ lifetimes outlive. four_few (length c.args.sources.items)
-    (four_sources {S = g.row.S.Denot} g.S.Source.remaining c.requires.dealt.0 c.requires.dealt.1.0 c.args.sources.items c.requires.dealt.1.1)
+    (four_sources g.S.Source.remaining c.requires.dealt.0 c.requires.dealt.1.0 c.args.sources.items c.requires.dealt.1.1)
 
 pub ingest-sources-requires-clause-number : goal.ingest-sources-requires-clause-number
 ingest-sources-requires-clause-number g c = λ lifetimes outlive. c.requires.number
@@ -74,6 +74,6 @@ returns g c = record {
 pub returns-in-Err-clause-shows : goal.returns-in-Err-clause-shows
 returns-in-Err-clause-shows g c = λ seed events are.
     subst (DrillShows g.K.Sink.taken g.K.Faulty.faults c.args.settings.now seed events c.args.out.now c.args.out.now) (sym c.status_of-status.ensures)
-    (stopped_shows {S = g.row.S.Denot} {K = g.row.K.Denot} {B = g.row.B.Denot} g.S.Source.remaining g.S.Faulty.faults g.K.Sink.taken g.K.Faulty.faults g.B.Bay.files g.B.Faulty.faults
+    (stopped_shows g.S.Source.remaining g.S.Faulty.faults g.K.Sink.taken g.K.Faulty.faults g.B.Bay.files g.B.Faulty.faults
     c.args.settings.now c.args.workers seed events c.args.sources.items c.ingest-sources.result.0.items c.args.out.now (bays_of c.args.cones.items)
     (bays_of c.ingest-sources.result.1.items) are c.in-Err.stopped (err_at c.ingest-sources.result.2 c.in-Err.stopped _ c.in-Err.is c.ingest-sources.ensures.stopped))

@@ -63,10 +63,9 @@ returns-in-Err g c = record {
               λ cone below. absurd (omega (arith, below)),
               subst (λ (xs : List g.row.P-Bay.Denot). AreLater g.P.Bay.Bay.files g.P.Bay.Faulty.faults g.P.Bay.Faulty.mark xs []) (sym same)
                   (are_same g.P.Bay.Bay.files g.P.Bay.Faulty.faults g.P.Bay.Faulty.mark []),
-              subst (λ (xs : List g.row.P-Bay.Denot). HasRecovered {K = g.row.K.Denot} {B = g.row.P-Bay.Denot} g.K.Sink.taken g.K.Faulty.faults g.P.Bay.Bay.files g.P.Bay.Faulty.faults s out out xs
-                  [] c.in-Err.status) (sym same)
-                  (subst (λ (st : Status). HasRecovered {K = g.row.K.Denot} {B = g.row.P-Bay.Denot} g.K.Sink.taken g.K.Faulty.faults g.P.Bay.Bay.files g.P.Bay.Faulty.faults s out out [] [] st)
-                  (sym none.0) (has_recovered {K = g.row.K.Denot} {B = g.row.P-Bay.Denot} g.K.Sink.taken g.K.Faulty.faults g.P.Bay.Bay.files g.P.Bay.Faulty.faults s
+              subst (λ (xs : List g.row.P-Bay.Denot). HasRecovered g.K.Sink.taken g.K.Faulty.faults g.P.Bay.Bay.files g.P.Bay.Faulty.faults s out out xs
+                  [] c.in-Err.status) (sym same) (subst (λ (st : Status). HasRecovered g.K.Sink.taken g.K.Faulty.faults g.P.Bay.Bay.files g.P.Bay.Faulty.faults s out out [] [] st)
+                  (sym none.0) (has_recovered g.K.Sink.taken g.K.Faulty.faults g.P.Bay.Bay.files g.P.Bay.Faulty.faults s
                   out out [] [] OutOfMemory (unopened (unopened_memory refl) refl) (λ other. absurd (other refl)) (journals_same g.P.Bay.Bay.files []) (sound_same g.P.Bay.Bay.files s []))),
             )
         | inr bay ↦ absurd (differs bay.0)
@@ -95,18 +94,16 @@ returns g c = record {
         number = c.cones.result;
         within = omega (arith, c.cones.ensures);
         asked_is = c.put_back_bays.ensures.asked ∙ c.in-Ok.ensures.asked;
-        no_fault = recovery_not_place_fault {K = g.row.K.Denot} {B = g.row.P-Bay.Denot} g.K.Sink.taken g.K.Faulty.faults g.P.Bay.Bay.files g.P.Bay.Faulty.faults c.args.settings.now c.args.out.now
+        no_fault = recovery_not_place_fault g.K.Sink.taken g.K.Faulty.faults g.P.Bay.Bay.files g.P.Bay.Faulty.faults c.args.settings.now c.args.out.now
             c.recover_bays-status.new.out c.in-Ok.bays.items c.recover_bays-status.new.bays.items c.recover_bays-status.result shows;
         all = λ is. c.cones.ensures;
       });
   place_fault = λ is.
-      absurd (recovery_not_place_fault {K = g.row.K.Denot} {B = g.row.P-Bay.Denot} g.K.Sink.taken g.K.Faulty.faults g.P.Bay.Bay.files g.P.Bay.Faulty.faults c.args.settings.now c.args.out.now
-      c.recover_bays-status.new.out c.in-Ok.bays.items c.recover_bays-status.new.bays.items c.recover_bays-status.result
-      c.recover_bays-status.ensures.shows is);
+      absurd (recovery_not_place_fault g.K.Sink.taken g.K.Faulty.faults g.P.Bay.Bay.files g.P.Bay.Faulty.faults c.args.settings.now c.args.out.now
+      c.recover_bays-status.new.out c.in-Ok.bays.items c.recover_bays-status.new.bays.items c.recover_bays-status.result c.recover_bays-status.ensures.shows is);
   returned =
       all_back g.P.Bay.Bay.files g.P.Bay.Faulty.faults g.P.Bay.Faulty.mark c.in-Ok.bays.items c.recover_bays-status.new.bays.items _ _ (c.put_back_bays.ensures.bays ∙ c.in-Ok.ensures.opened)
-      c.recover_bays-status.ensures.reread.later c.in-Ok.ensures.marked
-      c.put_back_bays.ensures.returned;
+      c.recover_bays-status.ensures.reread.later c.in-Ok.ensures.marked c.put_back_bays.ensures.returned;
   recovered = λ differs.
       let same = c.put_back_bays.ensures.bays ∙ c.in-Ok.ensures.opened in
       let first = c.in-Ok.bays.items in
@@ -116,9 +113,9 @@ returns g c = record {
         now,
         c.put_back_bays.ensures.returned,
         subst (λ (xs : List g.row.P-Bay.Denot). AreLater g.P.Bay.Bay.files g.P.Bay.Faulty.faults g.P.Bay.Faulty.mark xs now) (sym same) c.recover_bays-status.ensures.reread.later,
-        subst (λ (xs : List g.row.P-Bay.Denot). HasRecovered {K = g.row.K.Denot} {B = g.row.P-Bay.Denot} g.K.Sink.taken g.K.Faulty.faults g.P.Bay.Bay.files g.P.Bay.Faulty.faults s c.args.out.now
+        subst (λ (xs : List g.row.P-Bay.Denot). HasRecovered g.K.Sink.taken g.K.Faulty.faults g.P.Bay.Bay.files g.P.Bay.Faulty.faults s c.args.out.now
             c.recover_bays-status.new.out xs now status) (sym same)
-            (has_recovered {K = g.row.K.Denot} {B = g.row.P-Bay.Denot} g.K.Sink.taken g.K.Faulty.faults g.P.Bay.Bay.files g.P.Bay.Faulty.faults s c.args.out.now c.recover_bays-status.new.out first
+            (has_recovered g.K.Sink.taken g.K.Faulty.faults g.P.Bay.Bay.files g.P.Bay.Faulty.faults s c.args.out.now c.recover_bays-status.new.out first
             now status c.recover_bays-status.ensures.shows
             (λ other. c.in-Ok.ensures.number ∙ c.cones.ensures) c.recover_bays-status.ensures.reread.journals c.recover_bays-status.ensures.reread.stays_sound),
       );
@@ -130,9 +127,8 @@ returns g c = record {
       (c.recover_bays-status.ensures.reread.later.number ∙ ap length (sym same)) c.put_back_bays.ensures.returned
       (subst (λ (xs : List g.row.P-Bay.Denot). AreSpared (bays_in g) c.args.settings.now xs now) (sym same) c.recover_bays-status.ensures.reread.each_moment);
   no_usage = λ rule is.
-      recovery_not_usage {K = g.row.K.Denot} {B = g.row.P-Bay.Denot} g.K.Sink.taken g.K.Faulty.faults g.P.Bay.Bay.files g.P.Bay.Faulty.faults c.args.settings.now c.args.out.now
-      c.recover_bays-status.new.out c.in-Ok.bays.items c.recover_bays-status.new.bays.items rule c.recover_bays-status.result
-      c.recover_bays-status.ensures.shows is;
+      recovery_not_usage g.K.Sink.taken g.K.Faulty.faults g.P.Bay.Bay.files g.P.Bay.Faulty.faults c.args.settings.now c.args.out.now
+      c.recover_bays-status.new.out c.in-Ok.bays.items c.recover_bays-status.new.bays.items rule c.recover_bays-status.result c.recover_bays-status.ensures.shows is;
   traces = c.put_back_bays.ensures.traces ∙ c.open_bays.ensures.traces;
 }
 

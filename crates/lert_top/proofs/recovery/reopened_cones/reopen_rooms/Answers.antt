@@ -126,8 +126,7 @@ loop-number-preserved g c =
         journals = journals_made g.B.Bay.files bays cones bay rest so_far.journals cone c.in-Ok.ensures.reads;
         stays_sound = sound_made g.B.Bay.files s bays cones bay rest so_far.stays_sound cone
             (stays_open g.B.Bay.files g.B.Bay.leaves g.B.Faulty.faults s (length cones) bay cone opened_here c.in-Ok.ensures.reads);
-        each_moment = throughout_made (bays_in g) s bays cones bay rest there so_far.each_moment cone
-            (subst (λ (n : Numbers). IsSpared (bays_in g) n (length cones) bay cone.bay) popped.1.0
+        each_moment = throughout_made (bays_in g) s bays cones bay rest there so_far.each_moment cone (subst (λ (n : Numbers). IsSpared (bays_in g) n (length cones) bay cone.bay) popped.1.0
             (subst (λ (n : ℕ). IsSpared (bays_in g) room.settings n bay cone.bay) (sym here.number)
             (throughout_by (bays_in g) room.settings c.loop-number.number bay cone.bay ⊥ c.in-Ok.ensures.kept c.in-Ok.ensures.reads c.in-Ok.ensures.each_moment c.in-Ok.ensures.unharmed)));
       });

@@ -72,9 +72,9 @@ returns g c =
           let s = c.args.settings.now in
           let later = are_more g.B.Bay.files g.B.Faulty.faults g.B.Faulty.mark first then made c.find_stale.ensures.later c.in-Ok.ensures.later in
           let unused = unused_more g.B.Bay.files s first then made c.in-Ok.ensures.later.number (kept_unused g.B.Bay.files s first then c.find_stale.ensures.kept) c.in-Ok.ensures.unused in
-          subst (λ (xs : List g.row.B.Denot). RunShows {S = g.row.S.Denot} {K = g.row.K.Denot} {B = g.row.B.Denot} g.S.Source.remaining g.S.Faulty.faults g.K.Sink.taken g.K.Faulty.faults g.B.Bay.files g.B.Faulty.faults
+          subst (λ (xs : List g.row.B.Denot). RunShows g.S.Source.remaining g.S.Faulty.faults g.K.Sink.taken g.K.Faulty.faults g.B.Bay.files g.B.Faulty.faults
           c.args.settings.now c.args.workers c.args.traces.items c.run_cones-cones.result.1.items c.args.out.now c.run_cones-cones.new.out first xs c.run_cones-cones.result.2) (sym back)
-          (shows_since {S = g.row.S.Denot} {K = g.row.K.Denot} {B = g.row.B.Denot} g.S.Source.remaining g.S.Faulty.faults g.K.Sink.taken g.K.Faulty.faults g.B.Bay.files g.B.Faulty.faults
+          (shows_since g.S.Source.remaining g.S.Faulty.faults g.K.Sink.taken g.K.Faulty.faults g.B.Bay.files g.B.Faulty.faults
           c.args.settings.now c.args.workers g.B.Faulty.mark c.args.traces.items c.run_cones-cones.result.1.items c.args.out.now c.run_cones-cones.new.out
           first made now later c.run_cones-cones.ensures.later c.in_default.ensures.fresh unused c.run_cones-cones.ensures.shows);
       exact = λ fresh.
@@ -84,12 +84,12 @@ returns g c =
           let now = bays_of c.run_cones-cones.result.0.items in
           let back = c.bring_back.ensures.bays ∙ (ap (λ xs. now ++ xs) c.in-Ok.ensures.emptied ∙ append-nil now) in
           let later = are_more g.B.Bay.files g.B.Faulty.faults g.B.Faulty.mark first then made c.find_stale.ensures.later c.in-Ok.ensures.later in
-          subst (λ (xs : List g.row.B.Denot). IsExact {S = g.row.S.Denot} {B = g.row.B.Denot} g.S.Source.remaining g.S.Faulty.faults g.B.Bay.files g.B.Faulty.faults
+          subst (λ (xs : List g.row.B.Denot). IsExact g.S.Source.remaining g.S.Faulty.faults g.B.Bay.files g.B.Faulty.faults
           c.args.settings.now c.args.workers c.args.traces.items c.run_cones-cones.result.1.items first xs (IsDone g.K.Faulty.faults c.args.out.now c.run_cones-cones.new.out
           c.run_cones-cones.result.2) (λ status. c.run_cones-cones.result.2 ≡ status)) (sym back)
           (exact_turned g.S.Source.remaining g.S.Faulty.faults g.B.Bay.files g.B.Faulty.faults c.args.settings.now c.args.traces.items c.run_cones-cones.result.1.items
           c.args.workers c.args.workers made now first now _ _ _ _ (λ texts are. (
-            telling_since {S = g.row.S.Denot} {K = g.row.K.Denot} {B = g.row.B.Denot} g.S.Source.remaining g.S.Faulty.faults g.K.Sink.taken g.K.Faulty.faults g.B.Bay.files g.B.Faulty.faults
+            telling_since g.S.Source.remaining g.S.Faulty.faults g.K.Sink.taken g.K.Faulty.faults g.B.Bay.files g.B.Faulty.faults
                 c.args.settings.now c.args.workers g.B.Faulty.mark c.args.traces.items c.run_cones-cones.result.1.items c.args.out.now c.run_cones-cones.new.out
                 first made now later c.run_cones-cones.ensures.later texts are,
             λ ok. ok,

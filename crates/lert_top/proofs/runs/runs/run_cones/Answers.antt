@@ -51,12 +51,11 @@ returns-in-Err-read g c = record {
   traces_later = c.ingest-traces.ensures.traces_later;
   shows = stopped (err_at c.ingest-traces.result.2 c.in-Err-read.status _ c.in-Err-read.is c.ingest-traces.ensures.stopped) refl;
   exact =
-      exact_stopped {S = g.row.S.Denot} {K = g.row.K.Denot} {B = g.row.B.Denot} g.S.Source.remaining g.S.Faulty.faults g.K.Sink.taken g.K.Faulty.faults g.B.Bay.files
-      g.B.Faulty.faults c.args.settings.now c.args.workers
+      exact_stopped g.S.Source.remaining g.S.Faulty.faults g.K.Sink.taken g.K.Faulty.faults g.B.Bay.files g.B.Faulty.faults c.args.settings.now c.args.workers
       c.args.traces.items c.ingest-traces.result.0.items c.args.out.now c.args.out.now (bays_of c.args.cones.items) (bays_of c.ingest-traces.result.1.items)
       c.ingest-traces.result.2 c.in-Err-read.status c.in-Err-read.is c.ingest-traces.ensures.exact;
   closed = λ is.
-      absurd (reading_not_done {S = g.row.S.Denot} {B = g.row.B.Denot} g.S.Source.remaining g.S.Faulty.faults g.B.Bay.files g.B.Faulty.faults c.args.settings.now c.args.workers
+      absurd (reading_not_done g.S.Source.remaining g.S.Faulty.faults g.B.Bay.files g.B.Faulty.faults c.args.settings.now c.args.workers
       c.args.traces.items c.ingest-traces.result.0.items (bays_of c.args.cones.items) (bays_of c.ingest-traces.result.1.items) c.in-Err-read.status
       (err_at c.ingest-traces.result.2 c.in-Err-read.status _ c.in-Err-read.is c.ingest-traces.ensures.stopped) is);
 }
@@ -80,8 +79,7 @@ returns g c = record {
   traces_later = c.ingest-traces.ensures.traces_later;
   shows =
       let read = ok_at c.ingest-traces.result.2 _ c.in_default.is c.ingest-traces.ensures.read in
-      ended read.traces read.keys read.read read.fits
-      (ends_since {S = g.row.S.Denot} {K = g.row.K.Denot} {B = g.row.B.Denot} g.S.Source.remaining g.S.Faulty.faults g.K.Sink.taken g.K.Faulty.faults g.B.Bay.files g.B.Faulty.faults
+      ended read.traces read.keys read.read read.fits (ends_since g.S.Source.remaining g.S.Faulty.faults g.K.Sink.taken g.K.Faulty.faults g.B.Bay.files g.B.Faulty.faults
       c.args.settings.now c.args.workers g.B.Faulty.mark c.args.traces.items c.ingest-traces.result.0.items c.args.out.now c.finish_and_print-status.new.out
       (bays_of c.args.cones.items) (bays_of c.ingest-traces.result.1.items) (bays_of c.finish_and_print-status.new.cones.items)
       c.ingest-traces.ensures.later c.finish_and_print-status.ensures.later read.traces (c.finish_and_print-status.ensures.shows c.args.workers read.traces read.weaving));
@@ -90,10 +88,10 @@ returns g c = record {
       let first = bays_of c.args.cones.items in
       let then = bays_of c.ingest-traces.result.1.items in
       let now = bays_of c.finish_and_print-status.new.cones.items in
-      exact_ended {S = g.row.S.Denot} {K = g.row.K.Denot} {B = g.row.B.Denot} g.S.Source.remaining g.S.Faulty.faults g.K.Sink.taken g.K.Faulty.faults g.B.Bay.files g.B.Faulty.faults
+      exact_ended g.S.Source.remaining g.S.Faulty.faults g.K.Sink.taken g.K.Faulty.faults g.B.Bay.files g.B.Faulty.faults
       c.args.settings.now c.args.workers c.args.traces.items c.ingest-traces.result.0.items c.args.out.now c.finish_and_print-status.new.out first now g.B.Faulty.mark then read.traces
       c.ingest-traces.ensures.later c.finish_and_print-status.ensures.later c.ingest-traces.result.2 c.in_default.is c.ingest-traces.ensures.exact c.finish_and_print-status.result
-      (ends_since {S = g.row.S.Denot} {K = g.row.K.Denot} {B = g.row.B.Denot} g.S.Source.remaining g.S.Faulty.faults g.K.Sink.taken g.K.Faulty.faults g.B.Bay.files g.B.Faulty.faults
+      (ends_since g.S.Source.remaining g.S.Faulty.faults g.K.Sink.taken g.K.Faulty.faults g.B.Bay.files g.B.Faulty.faults
       c.args.settings.now c.args.workers g.B.Faulty.mark c.args.traces.items c.ingest-traces.result.0.items c.args.out.now c.finish_and_print-status.new.out
       first then now c.ingest-traces.ensures.later c.finish_and_print-status.ensures.later read.traces (c.finish_and_print-status.ensures.shows c.args.workers read.traces read.weaving));
   closed = c.finish_and_print-status.ensures.closed;

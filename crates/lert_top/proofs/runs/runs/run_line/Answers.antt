@@ -72,12 +72,10 @@ returns-in-Err g c = record {
                 bays_back = λ cone below. absurd (omega (arith, below));
               },
               λ other. absurd (other none.0),
-              subst (λ (st : Status). HasRun {S = g.row.P-Trace.Denot} {K = g.row.K.Denot} {B = g.row.P-Bay.Denot} g.P.Trace.Source.remaining g.P.Trace.Faulty.faults g.K.Sink.taken
-                  g.K.Faulty.faults
+              subst (λ (st : Status). HasRun g.P.Trace.Source.remaining g.P.Trace.Faulty.faults g.K.Sink.taken g.K.Faulty.faults
                   g.P.Bay.Bay.files g.P.Bay.Faulty.faults c.args.settings.now c.args.job.workers
                   (g.P.Place.handed_traces c.open_traces.new.place) [] c.args.out.now c.args.out.now (g.P.Place.handed_bays c.open_traces.new.place) [] st) (sym none.0)
-                  (run_none {S = g.row.P-Trace.Denot} {K = g.row.K.Denot} {B = g.row.P-Bay.Denot} g.P.Trace.Source.remaining g.P.Trace.Faulty.faults g.K.Sink.taken g.K.Faulty.faults
-                  g.P.Bay.Bay.files g.P.Bay.Faulty.faults c.args.settings.now c.args.job.workers
+                  (run_none g.P.Trace.Source.remaining g.P.Trace.Faulty.faults g.K.Sink.taken g.K.Faulty.faults g.P.Bay.Bay.files g.P.Bay.Faulty.faults c.args.settings.now c.args.job.workers
                   (g.P.Place.handed_traces c.open_traces.new.place) [] c.args.out.now c.args.out.now (g.P.Place.handed_bays c.open_traces.new.place) [] (sym traces) refl refl),
             )
         | inr name ↦ absurd (differs name.0)
@@ -149,12 +147,10 @@ returns g c = record {
           bays_back = λ cone below. c.put_back_traces.ensures.returned_bays cone ∙ ran.1 cone below;
         },
         λ other. ap length handed ∙ c.in-Ok.ensures.number,
-        subst (λ (xs : List g.row.P-Trace.Denot). HasRun {S = g.row.P-Trace.Denot} {K = g.row.K.Denot} {B = g.row.P-Bay.Denot} g.P.Trace.Source.remaining g.P.Trace.Faulty.faults
-            g.K.Sink.taken g.K.Faulty.faults
+        subst (λ (xs : List g.row.P-Trace.Denot). HasRun g.P.Trace.Source.remaining g.P.Trace.Faulty.faults g.K.Sink.taken g.K.Faulty.faults
             g.P.Bay.Bay.files g.P.Bay.Faulty.faults c.args.settings.now c.args.job.workers
             xs back c.args.out.now c.run_traces-opened.new.out (g.P.Place.handed_bays c.put_back_traces.new.place) ran.0 c.run_traces-opened.result.1) (sym handed)
-            (subst (λ (xs : List g.row.P-Bay.Denot). HasRun {S = g.row.P-Trace.Denot} {K = g.row.K.Denot} {B = g.row.P-Bay.Denot} g.P.Trace.Source.remaining g.P.Trace.Faulty.faults
-            g.K.Sink.taken g.K.Faulty.faults
+            (subst (λ (xs : List g.row.P-Bay.Denot). HasRun g.P.Trace.Source.remaining g.P.Trace.Faulty.faults g.K.Sink.taken g.K.Faulty.faults
             g.P.Bay.Bay.files g.P.Bay.Faulty.faults c.args.settings.now c.args.job.workers
             c.in-Ok.opened.items back c.args.out.now c.run_traces-opened.new.out xs ran.0 c.run_traces-opened.result.1) (sym bays) ran.3),
       );

@@ -42,13 +42,11 @@ returns-in-Err g c = record {
               λ cone below. absurd (omega (arith, below)),
               subst (λ (xs : List g.row.P-Bay.Denot). AreLater g.P.Bay.Bay.files g.P.Bay.Faulty.faults g.P.Bay.Faulty.mark xs []) (sym same)
                   (are_same g.P.Bay.Bay.files g.P.Bay.Faulty.faults g.P.Bay.Faulty.mark []),
-              subst (λ (xs : List g.row.P-Bay.Denot). HasRun {S = g.row.P-Trace.Denot} {K = g.row.K.Denot} {B = g.row.P-Bay.Denot} g.P.Trace.Source.remaining g.P.Trace.Faulty.faults
-                  g.K.Sink.taken g.K.Faulty.faults
+              subst (λ (xs : List g.row.P-Bay.Denot). HasRun g.P.Trace.Source.remaining g.P.Trace.Faulty.faults g.K.Sink.taken g.K.Faulty.faults
                   g.P.Bay.Bay.files g.P.Bay.Faulty.faults c.args.settings.now c.args.workers traces traces out out xs [] c.in-Err.status) (sym same)
-                  (subst (λ (st : Status). HasRun {S = g.row.P-Trace.Denot} {K = g.row.K.Denot} {B = g.row.P-Bay.Denot} g.P.Trace.Source.remaining g.P.Trace.Faulty.faults
-                  g.K.Sink.taken g.K.Faulty.faults
+                  (subst (λ (st : Status). HasRun g.P.Trace.Source.remaining g.P.Trace.Faulty.faults g.K.Sink.taken g.K.Faulty.faults
                   g.P.Bay.Bay.files g.P.Bay.Faulty.faults c.args.settings.now c.args.workers traces traces out out [] [] st) (sym none.0)
-                  (run_none {S = g.row.P-Trace.Denot} {K = g.row.K.Denot} {B = g.row.P-Bay.Denot} g.P.Trace.Source.remaining g.P.Trace.Faulty.faults g.K.Sink.taken g.K.Faulty.faults
+                  (run_none g.P.Trace.Source.remaining g.P.Trace.Faulty.faults g.K.Sink.taken g.K.Faulty.faults
                   g.P.Bay.Bay.files g.P.Bay.Faulty.faults c.args.settings.now c.args.workers traces traces out out [] [] refl refl refl)),
             )
         | inr bay ↦ absurd (differs bay.0)
@@ -74,7 +72,7 @@ returns-clause-asked g c =
       number = c.cones.result;
       within = omega (arith, c.cones.ensures);
       asked_is = c.put_back_bays.ensures.asked ∙ c.in-Ok.ensures.asked;
-      no_fault = not_place_fault {S = g.row.P-Trace.Denot} {K = g.row.K.Denot} {B = g.row.P-Bay.Denot} g.P.Trace.Source.remaining g.P.Trace.Faulty.faults g.K.Sink.taken g.K.Faulty.faults
+      no_fault = not_place_fault g.P.Trace.Source.remaining g.P.Trace.Faulty.faults g.K.Sink.taken g.K.Faulty.faults
           g.P.Bay.Bay.files g.P.Bay.Faulty.faults c.args.settings.now c.args.workers
           c.args.traces.items c.run_bays-traces.result.0.items c.args.out.now c.run_bays-traces.new.out c.in-Ok.bays.items c.run_bays-traces.new.bays.items c.run_bays-traces.result.1
           c.run_bays-traces.ensures.shows;
@@ -83,23 +81,20 @@ returns-clause-asked g c =
 
 pub returns-clause-place_fault : goal.returns-clause-place_fault
 returns-clause-place_fault g c = λ is.
-    absurd (not_place_fault {S = g.row.P-Trace.Denot} {K = g.row.K.Denot} {B = g.row.P-Bay.Denot} g.P.Trace.Source.remaining g.P.Trace.Faulty.faults g.K.Sink.taken g.K.Faulty.faults
-    g.P.Bay.Bay.files g.P.Bay.Faulty.faults c.args.settings.now c.args.workers
+    absurd (not_place_fault g.P.Trace.Source.remaining g.P.Trace.Faulty.faults g.K.Sink.taken g.K.Faulty.faults g.P.Bay.Bay.files g.P.Bay.Faulty.faults c.args.settings.now c.args.workers
     c.args.traces.items c.run_bays-traces.result.0.items c.args.out.now c.run_bays-traces.new.out c.in-Ok.bays.items c.run_bays-traces.new.bays.items c.run_bays-traces.result.1
     c.run_bays-traces.ensures.shows is)
 
 pub returns-clause-no_usage : goal.returns-clause-no_usage
 returns-clause-no_usage g c = λ rule is.
-    not_usage {S = g.row.P-Trace.Denot} {K = g.row.K.Denot} {B = g.row.P-Bay.Denot} g.P.Trace.Source.remaining g.P.Trace.Faulty.faults g.K.Sink.taken g.K.Faulty.faults
-    g.P.Bay.Bay.files g.P.Bay.Faulty.faults c.args.settings.now c.args.workers
+    not_usage g.P.Trace.Source.remaining g.P.Trace.Faulty.faults g.K.Sink.taken g.K.Faulty.faults g.P.Bay.Bay.files g.P.Bay.Faulty.faults c.args.settings.now c.args.workers
     c.args.traces.items c.run_bays-traces.result.0.items c.args.out.now c.run_bays-traces.new.out c.in-Ok.bays.items c.run_bays-traces.new.bays.items rule c.run_bays-traces.result.1
     c.run_bays-traces.ensures.shows is
 
 pub returns-clause-returned : goal.returns-clause-returned
 returns-clause-returned g c =
     all_back g.P.Bay.Bay.files g.P.Bay.Faulty.faults g.P.Bay.Faulty.mark c.in-Ok.bays.items c.run_bays-traces.new.bays.items _ _ (c.put_back_bays.ensures.bays ∙ c.in-Ok.ensures.opened)
-    c.run_bays-traces.ensures.later c.in-Ok.ensures.marked
-    c.put_back_bays.ensures.returned
+    c.run_bays-traces.ensures.later c.in-Ok.ensures.marked c.put_back_bays.ensures.returned
 
 pub returns-clause-ran : goal.returns-clause-ran
 returns-clause-ran g c = λ differs.
@@ -110,12 +105,10 @@ returns-clause-ran g c = λ differs.
       now,
       c.put_back_bays.ensures.returned,
       subst (λ (xs : List g.row.P-Bay.Denot). AreLater g.P.Bay.Bay.files g.P.Bay.Faulty.faults g.P.Bay.Faulty.mark xs now) (sym same) c.run_bays-traces.ensures.later,
-      subst (λ (xs : List g.row.P-Bay.Denot). HasRun {S = g.row.P-Trace.Denot} {K = g.row.K.Denot} {B = g.row.P-Bay.Denot} g.P.Trace.Source.remaining g.P.Trace.Faulty.faults
-          g.K.Sink.taken g.K.Faulty.faults
+      subst (λ (xs : List g.row.P-Bay.Denot). HasRun g.P.Trace.Source.remaining g.P.Trace.Faulty.faults g.K.Sink.taken g.K.Faulty.faults
           g.P.Bay.Bay.files g.P.Bay.Faulty.faults c.args.settings.now c.args.workers
           c.args.traces.items c.run_bays-traces.result.0.items c.args.out.now c.run_bays-traces.new.out xs now status) (sym same)
-          (HasRun-shows {S = g.row.P-Trace.Denot} {K = g.row.K.Denot} {B = g.row.P-Bay.Denot} g.P.Trace.Source.remaining g.P.Trace.Faulty.faults g.K.Sink.taken g.K.Faulty.faults
-          g.P.Bay.Bay.files g.P.Bay.Faulty.faults c.args.settings.now c.args.workers
+          (HasRun-shows g.P.Trace.Source.remaining g.P.Trace.Faulty.faults g.K.Sink.taken g.K.Faulty.faults g.P.Bay.Bay.files g.P.Bay.Faulty.faults c.args.settings.now c.args.workers
           c.args.traces.items c.run_bays-traces.result.0.items c.args.out.now c.run_bays-traces.new.out first now status c.run_bays-traces.ensures.shows
           (λ other. c.in-Ok.ensures.number ∙ c.cones.ensures) c.run_bays-traces.ensures.exact),
     )
