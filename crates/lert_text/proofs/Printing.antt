@@ -66,8 +66,7 @@ module _ (text head : List ℕ) (reports : List Report) (i : ℕ) where
       ≡ text ++ (head ++ flat_map report_line (take (i + 1) reports))
   reports-more d below =
       append_assoc text (head ++ flat_map report_line (take i reports)) (report_line (get_or reports i d))
-      ∙ ap (λ xs. text ++ xs)
-      (flat_map_more report_line head (take i reports) (get_or reports i d)
+      ∙ ap (λ xs. text ++ xs) (flat_map_more report_line head (take i reports) (get_or reports i d)
       ∙ ap (λ rs. head ++ flat_map report_line rs) (sym (take_more reports i d below)))
 
   -- the lines of all others
@@ -75,10 +74,8 @@ module _ (text head : List ℕ) (reports : List Report) (i : ℕ) where
       ≡ text ++ (head ++ flat_map report_line reports)
   reports-rest =
       append_assoc text (head ++ flat_map report_line (take i reports)) (flat_map report_line (drop i reports))
-      ∙ ap (λ xs. text ++ xs)
-      (append_assoc head (flat_map report_line (take i reports)) (flat_map report_line (drop i reports))
-      ∙ ap (λ xs. head ++ xs)
-      (sym (flat_map-append report_line (take i reports) (drop i reports))
+      ∙ ap (λ xs. text ++ xs) (append_assoc head (flat_map report_line (take i reports)) (flat_map report_line (drop i reports))
+      ∙ ap (λ xs. head ++ xs) (sym (flat_map-append report_line (take i reports) (drop i reports))
       ∙ ap (flat_map report_line) (take-append-drop i reports)))
 
 -- nothing was printed yet

@@ -100,8 +100,7 @@ close-requires-in-Err-give_traces-clause-whole g c =
 
 pub returns-in-Err-give_traces : goal.returns-in-Err-give_traces
 returns-in-Err-give_traces g c = untouched g.S.Source.remaining g.S.Faulty.faults g.S.Faulty.mark g.B.Bay.files g.B.Bay.leaves g.B.Faulty.faults g.B.Faulty.mark c.args.settings.now
-    c.args.workers
-    c.args.traces.items c.pour.result.items (firsts_of c.args.fleet) c.close-in-Err-give_traces.result.items
+    c.args.workers c.args.traces.items c.pour.result.items (firsts_of c.args.fleet) c.close-in-Err-give_traces.result.items
     (back_again c.in-Err-give_traces.given c.args.traces.items c.deref_mut.result.now c.give_traces.new.crew c.take_traces-back.new.crew c.take_traces-back.result.items
     c.give_traces.new.traces.items c.pour.result.items
     (let e = ap (λ xs. length xs) c.deref_mut.ensures.value in let f = (c.line_up-crew.ensures.number ∙ c.in-Ok.ensures.number) in let l = c.requires.least in omega (arith, e, f, l))
@@ -123,8 +122,7 @@ returns-in-Err-give_traces g c = untouched g.S.Source.remaining g.S.Faulty.fault
     ∙ (front_is c.give_traces.new.crew _ c.line_up-crew.result.len (c.give_traces.auto.crew ∙ c.deref_mut.ensures.len)))
     c.take_traces-back.ensures.taken) (ready_quiet c.args.fleet c.args.settings.now c.args.workers c.in-Err-give_traces.given
     c.args.traces.items c.give_traces.new.crew (ready_now c.args.fleet c.args.settings.now c.args.workers c.in-Err-give_traces.given c.args.traces.items
-    c.line_up-crew.result.items c.deref_mut.result.now c.give_traces.new.crew c.deref_mut.ensures.value
-    c.line_up-crew.ensures.in_line c.in-Err-give_traces.ensures.some_given)))))
+    c.line_up-crew.result.items c.deref_mut.result.now c.give_traces.new.crew c.deref_mut.ensures.value c.line_up-crew.ensures.in_line c.in-Err-give_traces.ensures.some_given)))))
 
 pub read_all-traces-requires-clause-may : goal.read_all-traces-requires-clause-may
 read_all-traces-requires-clause-may g c = λ κs h. may_run g.S.Source.remaining g.S.Faulty.faults g.S.Faulty.mark g.B.Bay.files g.B.Bay.leaves g.B.Faulty.faults g.B.Faulty.mark _ (record {
@@ -135,8 +133,7 @@ read_all-traces-requires-clause-may g c = λ κs h. may_run g.S.Source.remaining
       λ cone stopped running. false≢true (sym (ap is_stopped running) ∙ stopped);
   over_is = λ _. refl;
   refuses = λ _ _ _ _ why. (why.fault_is, why.too_many);
-}) c.args.fleet
-    c.args.settings.now c.args.workers c.len-count.result c.args.traces.items c.deref_mut-2.result.now
+}) c.args.fleet c.args.settings.now c.args.workers c.len-count.result c.args.traces.items c.deref_mut-2.result.now
     (ap (λ xs. length xs) (c.deref_mut-2.ensures.value ∙ (front_is c.give_traces.new.crew _ c.line_up-crew.result.len (c.give_traces.auto.crew ∙ c.deref_mut.ensures.len)))
     ∙ (c.in_default.ensures.given.number ∙ (ap (λ xs. length xs) c.deref_mut.ensures.value ∙ (c.line_up-crew.ensures.number ∙ c.in-Ok.ensures.number))))
     (let k : c.len-count.result ≡ length c.args.traces.items = (let n = c.len-count.ensures in let o = c.args.traces.ok in omega (arith, n, o)) in k)
@@ -188,8 +185,7 @@ returns g c = answered g.S.Source.remaining g.S.Faulty.faults g.S.Faulty.mark g.
       λ cone stopped running. false≢true (sym (ap is_stopped running) ∙ stopped);
   over_is = λ _. refl;
   refuses = λ _ _ _ _ why. (why.fault_is, why.too_many);
-}) c.args.fleet
-    c.args.settings.now c.args.workers c.len-count.result c.args.traces.items c.deref_mut-2.result.now
+}) c.args.fleet c.args.settings.now c.args.workers c.len-count.result c.args.traces.items c.deref_mut-2.result.now
     (ap (λ xs. length xs) (c.deref_mut-2.ensures.value ∙ (front_is c.give_traces.new.crew _ c.line_up-crew.result.len (c.give_traces.auto.crew ∙ c.deref_mut.ensures.len)))
     ∙ (c.in_default.ensures.given.number ∙ (ap (λ xs. length xs) c.deref_mut.ensures.value ∙ (c.line_up-crew.ensures.number ∙ c.in-Ok.ensures.number))))
     (let k : c.len-count.result ≡ length c.args.traces.items = (let n = c.len-count.ensures in let o = c.args.traces.ok in omega (arith, n, o)) in k)

@@ -13,15 +13,13 @@ pub join-requires-clause-belongs : goal.join-requires-clause-belongs
 join-requires-clause-belongs g c = (
   c.loop-worker.invariant.belongs,
   (is_behind c.args.fleet.now c.pop.new.self.items c.loop-worker.crew.items c.in-Some.worker c.in-Some.ensures.items _ c.loop-worker.pass c.loop-worker.invariant.leaving
-      c.loop-worker.invariant.total
-      c.into_pass.result c.into_pass.ensures).belongs,
+      c.loop-worker.invariant.total c.into_pass.result c.into_pass.ensures).belongs,
 )
 
 pub join-requires-clause-meets : goal.join-requires-clause-meets
 join-requires-clause-meets g c =
     (is_behind c.args.fleet.now c.pop.new.self.items c.loop-worker.crew.items c.in-Some.worker c.in-Some.ensures.items _ c.loop-worker.pass c.loop-worker.invariant.leaving
-    c.loop-worker.invariant.total
-    c.into_pass.result c.into_pass.ensures).lo_is
+    c.loop-worker.invariant.total c.into_pass.result c.into_pass.ensures).lo_is
 
 pub loop-worker-preserved : goal.loop-worker-preserved
 loop-worker-preserved g c = record {
@@ -30,8 +28,7 @@ loop-worker-preserved g c = record {
   total = new_total c.args.fleet.now c.pop.new.self.items c.loop-worker.crew.items c.in-Some.worker c.in-Some.ensures.items (c.args.pass.hi + length c.args.crew.items) c.loop-worker.pass
       c.loop-worker.invariant.leaving c.loop-worker.invariant.total c.into_pass.result c.into_pass.ensures c.join.new.pass c.join.ensures.joined;
   leaving = still_leaving c.args.fleet.now c.pop.new.self.items c.loop-worker.crew.items c.in-Some.worker c.in-Some.ensures.items (c.args.pass.hi + length c.args.crew.items)
-      c.loop-worker.pass
-      c.loop-worker.invariant.leaving c.loop-worker.invariant.total c.into_pass.result c.into_pass.ensures c.join.new.pass c.join.ensures.joined;
+      c.loop-worker.pass c.loop-worker.invariant.leaving c.loop-worker.invariant.total c.into_pass.result c.into_pass.ensures c.join.new.pass c.join.ensures.joined;
   quiet = λ one all. still_quiet c.args.fleet.now c.pop.new.self.items c.loop-worker.crew.items c.in-Some.worker c.in-Some.ensures.items (c.args.pass.hi + length c.args.crew.items)
       c.loop-worker.pass
       c.loop-worker.invariant.leaving c.loop-worker.invariant.total c.into_pass.result c.into_pass.ensures c.join.new.pass c.join.ensures.joined (c.loop-worker.invariant.quiet one all);

@@ -3,8 +3,7 @@ use Rattle.lert_ingest.proofs.hiring.dismiss_all.Goals as goal
 
 pub into_pass-requires : goal.into_pass-requires
 into_pass-requires g c = record {
-  none_left = (first_done c.args.fleet.now c.args.crew.items c.pop.new.self.items c.reverse.new.self.items c.in-Some.first c.reverse.ensures.items c.in-Some.ensures.items
-      c.requires.done).0;
+  none_left = (first_done c.args.fleet.now c.args.crew.items c.pop.new.self.items c.reverse.new.self.items c.in-Some.first c.reverse.ensures.items c.in-Some.ensures.items c.requires.done).0;
 }
 
 pub dismiss-requires-clause-belongs : goal.dismiss-requires-clause-belongs

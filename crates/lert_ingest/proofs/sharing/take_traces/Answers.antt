@@ -11,8 +11,7 @@ pub loop-trace-preserved : goal.loop-trace-preserved
 loop-trace-preserved g c = record {
   part = subst (ArePartTaken _ c.args.crew.now c.take_one.new.crew) (sym c.push_back_reserved.ensures.items)
       (part_more c.args.count c.args.crew.now c.loop-trace.crew c.loop-trace.traces.items c.requires.shared c.loop-trace.trace c.loop-trace-test.true c.loop-trace.invariant.part
-      c.requires.some
-      c.take_one.new.crew c.take_one.result c.take_one.ensures);
+      c.requires.some c.take_one.new.crew c.take_one.result c.take_one.ensures);
   capacity = c.push_back_reserved.ensures.capacity ∙ c.loop-trace.invariant.capacity;
 }
 
