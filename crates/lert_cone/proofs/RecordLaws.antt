@@ -1,29 +1,17 @@
 -- The text of a record, as it is appended.
-use Rattle.std.proofs.Common.{◌≡◌, ℕ, ◌+◌, ◌-◌, ◌*◌, ◌≤◌, List, [], ◌∷◌, ◌++◌, length, take, drop, Result, Err, refl, sym, ap, subst, ◌∙◌}
-use Rattle.std.proofs.Common.{arith, length-drop, length-append}
-use Rattle.std.proofs.lemmas.List.{take_all}
-use Rattle.std.proofs.lemmas.Nat.{mul-le}
+use Rattle.std.proofs.Common.{◌≡◌, ℕ, ◌+◌, ◌-◌, ◌*◌, ◌≤◌, List, [], ◌∷◌, ◌++◌, length, take, drop, Result, Err, refl, sym, ap, subst, ◌∙◌, arith, length-drop, length-append}
+use Rattle.std.proofs.{lemmas.List.take_all, lemmas.Nat.mul-le}
 use Rattle.lert_gatelog.specs.Gated.{appendix, IsAppendix}
 use Rattle.lert_gatelog.proofs.GatedLaws.{length_appendix}
-use Rattle.lert_levels.specs.declared.rows.bin_at.BinAt.{BinAt}
-use Rattle.lert_levels.specs.rows.Rows.{AreRows, directory_text}
+use Rattle.lert_levels.specs.{declared.rows.bin_at.BinAt.BinAt, rows.Rows.{AreRows, directory_text}}
 use Rattle.lert_levels.proofs.rows.MoveLaws.{directory_short}
-use Rattle.lert_reports.specs.declared.log.LogKind.{LogKind}
-use Rattle.lert_reports.specs.LogText.{log_payload}
+use Rattle.lert_reports.specs.{declared.log.LogKind.LogKind, LogText.log_payload, Log.most_record}
 use Rattle.lert_reports.proofs.LogLaws.{log_payload_length}
-use Rattle.lert_reports.specs.Log.{most_record}
-use Rattle.lert_spec.specs.declared.numbers.Numbers.{Numbers}
-use Rattle.lert_spec.specs.Limits.{IsValid}
-use Rattle.lert_spec.specs.declared.report.Report.{Report}
+use Rattle.lert_spec.specs.{declared.numbers.Numbers.Numbers, Limits.IsValid, declared.report.Report.Report}
 use Rattle.std.specs.Result.{IsErrAnd}
-use Rattle.lert_cone.specs.declared.journal_places.JournalPlace.{JournalPlace}
-use Rattle.lert_cone.specs.Appends.{AppendsRecord}
-use Rattle.lert_bay.specs.Kept.{Bays}
-use Rattle.lert_cone.specs.InStep.{IsLogging}
-use Rattle.lert_cone.specs.Listing.{Listing}
-use Rattle.lert_cone.specs.JournalPlaces.{oldest_place}
-use Rattle.lert_cone.specs.Tally.{Tallied}
+use Rattle.lert_cone.specs.{declared.journal_places.JournalPlace.JournalPlace, Appends.AppendsRecord, InStep.IsLogging, Listing.Listing, JournalPlaces.oldest_place, Tally.Tallied}
 use Rattle.lert_cone.specs.Record.{LogPlace, payload_at, payload_len}
+use Rattle.lert_bay.specs.Kept.{Bays}
 use Rattle.lert_cone.proofs.TakeLaws.{handed_on}
 
 pub payload_is_at : (log : LogPlace) (kind : LogKind) (n0 : ℕ) (directory : List ℕ) (reports : List Report) → log_payload kind n0
