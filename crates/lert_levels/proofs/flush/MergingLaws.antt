@@ -1,15 +1,15 @@
 -- A merge of bins of which some land.
-use Rattle.std.proofs.Common.{ℕ, ◌≡◌, ◌<◌, ◌≤◌, true, Option, Some, None, MatchOption, List, [], ◌∷◌, ◌++◌, length, get_or, set, refl, ap, sym, ◌∙◌, subst, arith}
+use Rattle.std.proofs.Common.{ℕ, ◌≡◌, ◌<◌, ◌≤◌, true, Option, Some, None, MatchOption, List, [], length, get_or, refl, ap, sym, ◌∙◌, subst, arith}
 use Rattle.std.{specs.Prelude.{IfSome, IsErrOf, Ok, Err}, proofs.lemmas.Bool.eq-eqb, proofs.lemmas.Option.none-some}
 use Rattle.lert_bay.{specs.declared.bay.TheConstants.FRAMES, specs.Files.IfTold, specs.Kept.Bays, proofs.KeptLaws.{IsLawful, reads_none}}
 use Rattle.lert_levels.{specs.landing.Landed.taken, specs.landing.Landings.IsOutside, specs.landing.Summed.sums_of, specs.landing.Whole.{AreUpTo, Takes}}
 use Rattle.lert_levels.{specs.declared.landing.landing.Landing.Landing, specs.declared.landing.sum.Sum.Sum, proofs.landing.SummedLaws.IsTable-sums_of, specs.rows.Landing.LeavesRest}
-use Rattle.lert_levels.{proofs.rows.LandLaws.turns_fewer, specs.flush.Merged.{is_of, picked, with_piece, IsUnread}, specs.flush.Staying.NoneFailed, specs.flush.Writing.LandingsWrite}
+use Rattle.lert_levels.{proofs.rows.LandLaws.turns_fewer, specs.flush.Merged.{is_of, picked, with_piece, IsUnread}, specs.flush.Writing.LandingsWrite}
 use Rattle.lert_levels.{proofs.flush.GatheringLaws.{IsGathering, HasGiven, nothing, gathering_none, gathering_more, gathering_on, more, part_are, tables_by}, proofs.flush.PartLaws.none_landed}
 use Rattle.lert_levels.{proofs.flush.WholeLaws.told_before, proofs.flush.SteadyLaws.{AreSteady, sure_stepped, comes_same, sure_written, apart_same, writes_read, writes_on, writes_as}}
-use Rattle.lert_merge.{specs.order.Ordering.{Ordering, HasTaken, Tells, AreOver, IsNext, IsNotBelow, IsBelow, AreKnown, AreWhole, AreSame, part_in}, proofs.StepLemmas.StepSays}
+use Rattle.lert_merge.{specs.order.Ordering.{Ordering}, proofs.StepLemmas.StepSays}
 use Rattle.lert_merge.specs.declared.order.streams.Streams.{Ghosts as StreamsOf}
-use Rattle.lert_spec.{specs.declared.piece.Piece.Piece, specs.Table.{plus, AreGiven, IsTable}}
+use Rattle.lert_spec.{specs.declared.piece.Piece.Piece, specs.Table.{plus, IsTable}}
 use Rattle.lert_base.specs.declared.pieces.PieceFault.TheVariants as fault
 
 -- what was taken so far, by the totals and by the landings

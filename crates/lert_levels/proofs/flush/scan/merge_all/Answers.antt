@@ -1,6 +1,5 @@
-use Rattle.std.{proofs.Common.{◌≡◌, ◌∙◌, [], Ok, get_or, ap, sym, arith}, specs.Prelude.IsErrOf, proofs.lemmas.Result.err_from_is_err_and}
-use Rattle.lert_base.specs.declared.pieces.PieceFault.TheVariants.{Failed}
-use Rattle.lert_levels.{specs.landing.Summed.sums_of, specs.flush.Staying.NoneFailed, proofs.flush.BoundLaws.{came_fits, all_fit, left_less}}
+use Rattle.std.{proofs.Common.{◌∙◌, [], Ok, get_or, ap, sym, arith}, proofs.lemmas.Result.err_from_is_err_and}
+use Rattle.lert_levels.{specs.landing.Summed.sums_of, proofs.flush.BoundLaws.{came_fits, all_fit, left_less}}
 use Rattle.lert_levels.proofs.flush.GatheringLaws.{nothing, more, gathering_none, gathering_more, breaks_back, sound_by, taken_all, up_so_far}
 use Rattle.lert_levels.{proofs.flush.MergingLaws.{given_at, none_at, never_failed, table_of}, proofs.flush.SteadyLaws.reads_failed}
 use Rattle.lert_frames.{proofs.CallLaws.{reads_then, reads_same, reads_turned}, specs.Calls.bays_of}

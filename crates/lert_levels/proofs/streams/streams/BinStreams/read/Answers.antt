@@ -1,4 +1,4 @@
-use Rattle.std.proofs.Common.{◌≤◌, sym, ap, subst}
+use Rattle.std.proofs.Common.{◌≤◌, sym, subst}
 use Rattle.lert_spec.{specs.declared.numbers.Numbers.Numbers, specs.Edges.span}
 use Rattle.lert_levels.proofs.streams.BeginLaws.{begins, begun_kept, free_of, spare_is}
 use Rattle.lert_levels.proofs.streams.BegunLaws.{begun_count, begun_coming, begun_breaking, begun_given, begun_limit, begun_width, begun_others, begun_widths, begun_sure, begun_reads}
