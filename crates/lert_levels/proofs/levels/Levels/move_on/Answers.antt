@@ -22,11 +22,13 @@ are_rows g c =
 
 pub lay_directory-requires : goal.lay_directory-requires
 lay_directory-requires g c =
-    room_for c.self.inside.settings c.self.inside.rows.items c.self.inside.directory.items _ c.self.inside.reader c.self.invariant.0 _ c.deref.result.now c.deref.ensures.value (are_rows g (goal.at.lay_directory-requires g c).After-deref)
+    room_for c.self.inside.settings c.self.inside.rows.items c.self.inside.directory.items _ c.self.inside.reader c.self.invariant.0 _ c.deref.result.now c.deref.ensures.value
+    (are_rows g (goal.at.lay_directory-requires g c).After-deref)
 
 pub invariant_of-self : goal.invariant_of-self
 invariant_of-self g c = (
-  kept_on c.self.inside.settings c.self.inside.rows.items c.self.inside.directory.items _ c.self.inside.reader c.self.invariant.0 _ c.deref.result.now c.deref.ensures.value (are_rows g (goal.at.invariant_of-self g c).After-deref)
+  kept_on c.self.inside.settings c.self.inside.rows.items c.self.inside.directory.items _ c.self.inside.reader c.self.invariant.0 _ c.deref.result.now c.deref.ensures.value
+      (are_rows g (goal.at.invariant_of-self g c).After-deref)
       c.lay_directory.new.directory.items _ c.lay_directory.ensures.text c.lay_directory.ensures.capacity,
   c.self.invariant.1,
   c.self.invariant.2,
