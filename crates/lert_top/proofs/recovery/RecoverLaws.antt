@@ -25,7 +25,8 @@ use Rattle.lert_spec.specs.declared.numbers.Numbers.{Numbers}
 use Rattle.lert_ingest.specs.Bays.{AreLater, AreUntouched, IfHeld, bays_of}
 use Rattle.lert_top.specs.cones.Print.{state_of}
 use Rattle.lert_top.specs.cones.Print.{ArePrintable, printed_as}
-use Rattle.lert_top.specs.recovery.Recovered.{AreCounted, AreOpenOver, AreRecovered, IsOpenOver, IsRecovered, IsUnopened, unopened_failed, unopened_spoiled, unopened_other, LowerAreFormed, OfBay, printed_for, reopen_status}
+use Rattle.lert_top.specs.recovery.Recovered.{AreCounted, AreOpenOver, AreRecovered, IsOpenOver, IsRecovered, IsUnopened, LowerAreFormed, OfBay, printed_for, reopen_status}
+use Rattle.lert_top.specs.recovery.Recovered.{unopened_failed, unopened_spoiled, unopened_other}
 use Rattle.lert_ingest.proofs.BayLaws.{bay_at, bay_is, slice_get-seam, slice_get-some}
 use Rattle.lert_top.proofs.cones.EndLaws.{printed_at}
 

@@ -134,8 +134,8 @@ returns g c = record {
 
 pub put_back_bays-requires-clause-marked : goal.put_back_bays-requires-clause-marked
 put_back_bays-requires-clause-marked g c = λ lifetimes outlive cone bay is.
-    still_marked g.P.Bay.Bay.files g.P.Bay.Faulty.faults g.P.Bay.Faulty.mark c.in-Ok.bays.items c.recover_bays-status.new.bays.items c.recover_bays-status.ensures.reread.later c.in-Ok.ensures.marked cone
-    bay is
+    still_marked g.P.Bay.Bay.files g.P.Bay.Faulty.faults g.P.Bay.Faulty.mark c.in-Ok.bays.items c.recover_bays-status.new.bays.items c.recover_bays-status.ensures.reread.later
+    c.in-Ok.ensures.marked cone bay is
 
 pub recover_bays-status-requires : goal.recover_bays-status-requires
 recover_bays-status-requires g c = record { number = c.in-Ok.ensures.number ∙ c.cones.ensures; room = omega (arith, c.in-Ok.ensures.number, c.in-Ok.ensures.room) }
