@@ -2,8 +2,10 @@
 use Rattle.std.specs.Prelude.{◌≡◌, ℕ, ◌≤◌, Option}
 use Rattle.lert_bay.specs.Files.{Files}
 use Rattle.lert_bay.specs.Images.{KeepsImages, Lasts}
+use Rattle.lert_bay.specs.declared.bay.Bay.{Ghosts as Told}
 use Rattle.lert_bay.specs.declared.bay.TheConstants.{JOURNAL}
 use Rattle.lert_io.specs.Fault.{HasRisen}
+use Rattle.lert_io.specs.declared.faulty.Faulty.{Ghosts as Counted}
 
 -- what bays of a type are seen by: the count of faults of each and its mark, its files, its images, its moment, its images
 -- since a time, and how many bytes reads have handed out of each file
@@ -16,6 +18,18 @@ Bays B = record {
   moment : B → ℕ;
   left_since : B → ℕ → Files → Type 0;
   handed_out : B → ℕ → ℕ;
+}
+
+-- and these, from the ghost members of their traits
+abbrev pub seen_by : {B : Type 0} → Counted B → Told B → Bays B
+seen_by counted told = record {
+  faults = counted.faults;
+  mark = counted.mark;
+  files = told.files;
+  leaves = told.leaves;
+  moment = told.moment;
+  left_since = told.left_since;
+  handed_out = told.handed_out;
 }
 
 -- Whatever the calls answer: time goes on, the count of faults doesn't fall, and rose where one of them is said to have failed,

@@ -3,7 +3,6 @@ pub mod AdmitsPacket
 pub mod AdoptLaws
 pub mod AdoptStands
 pub mod AppendLaws
-pub mod Bays
 pub mod BeginLaws
 pub mod BinLaws
 pub mod BreaksOff

@@ -1,4 +1,3 @@
-pub mod Bays
 pub mod AgreedLaws
 mod Examples
 pub mod GateLaws

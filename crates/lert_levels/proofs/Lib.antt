@@ -1,4 +1,3 @@
-pub mod Bays
 pub mod PartLaws
 pub mod PickLaws
 pub mod ArrivalLaws

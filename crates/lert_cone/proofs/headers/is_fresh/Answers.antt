@@ -1,13 +1,12 @@
 use Rattle.std.proofs.{Common.{◌≡◌, ◌∙◌, false, true, ap, refl, sym}, lemmas.Bool.false≢true}
 use Rattle.std.specs.Result.{is_err}
-use Rattle.lert_bay.specs.Kept.{OnlyReads}
-use Rattle.lert_cone.proofs.Bays.{Bays, bays_of}
+use Rattle.lert_bay.specs.Kept.{OnlyReads, Bays, seen_by}
 use Rattle.lert_bay.proofs.KeptLaws.{IsLawful, reads_as, reads_on}
 use Rattle.lert_cone.proofs.headers.is_fresh.Given as given
 use Rattle.lert_cone.proofs.headers.is_fresh.Goals as goal
 
 abbrev bays : (g : given.Over) → Bays g.row.B.Denot
-bays g = bays_of g.B.Faulty g.B.Bay
+bays g = seen_by g.B.Faulty g.B.Bay
 
 lawful : (g : given.Over) → IsLawful (bays g)
 lawful g = record { as_read = g.met.B.Bay.as_read; since_now = g.met.B.Bay.since_now; only_now = g.met.B.Bay.only_now; since_earlier = g.met.B.Bay.since_earlier }

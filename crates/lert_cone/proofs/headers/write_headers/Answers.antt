@@ -1,12 +1,13 @@
+use Rattle.lert_bay.specs.Kept.{Bays, seen_by}
 use Rattle.std.proofs.{Common.{◌∙◌, ◌++◌, ◌∷◌, [], ap, arith, refl}, lemmas.Result.err_from_is_err_and, lemmas.Bool.false≢true}
 use Rattle.std.specs.Prelude.{is_err}
-use Rattle.lert_cone.proofs.{Bays.{Bays, bays_of}, Refusals.{frames_stay, frames_stay_on}, SoundLaws.{turns_back, begun_new}}
+use Rattle.lert_cone.proofs.{Refusals.{frames_stay, frames_stay_on}, SoundLaws.{turns_back, begun_new}}
 use Rattle.lert_bay.proofs.KeptLaws.{IsLawful, keeps_as, keeps_on}
 use Rattle.lert_cone.proofs.headers.write_headers.Given as given
 use Rattle.lert_cone.proofs.headers.write_headers.Goals as goal
 
 abbrev bays : (g : given.Over) → Bays g.row.B.Denot
-bays g = bays_of g.B.Faulty g.B.Bay
+bays g = seen_by g.B.Faulty g.B.Bay
 
 lawful : (g : given.Over) → IsLawful (bays g)
 lawful g = record { as_read = g.met.B.Bay.as_read; since_now = g.met.B.Bay.since_now; only_now = g.met.B.Bay.only_now; since_earlier = g.met.B.Bay.since_earlier }

@@ -1,9 +1,10 @@
-use Rattle.lert_cone.proofs.{Bays.bays_of, EndTaken.{end_refused, can_log_end, close_failed, end_taken}}
+use Rattle.lert_bay.specs.Kept.{seen_by}
+use Rattle.lert_cone.proofs.{EndTaken.{end_refused, can_log_end, close_failed, end_taken}}
 use Rattle.lert_bay.proofs.KeptLaws.{IsLawful}
 use Rattle.lert_cone.proofs.keys.finish.Given as given
 use Rattle.lert_cone.proofs.keys.finish.Goals as goal
 
-lawful : (g : given.Over) → IsLawful (bays_of g.B.Faulty g.B.Bay)
+lawful : (g : given.Over) → IsLawful (seen_by g.B.Faulty g.B.Bay)
 lawful g = record { as_read = g.met.B.Bay.as_read; since_now = g.met.B.Bay.since_now; only_now = g.met.B.Bay.only_now; since_earlier = g.met.B.Bay.since_earlier }
 
 pub finish-requires-clause-still : goal.finish-requires-clause-still

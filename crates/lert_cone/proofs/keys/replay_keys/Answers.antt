@@ -1,13 +1,14 @@
+use Rattle.lert_bay.specs.Kept.{seen_by}
 use Rattle.std.proofs.{Common.{◌≡◌, ◌∙◌, ℕ, ◌-◌, ◌≤◌, List, All, length, min, ap, sym, subst, arith, length-append}, lemmas.Bool.{eqb-false, eqb-true}}
 use Rattle.std.proofs.lemmas.List.Elements.{All-take}
 use Rattle.lert_spec.specs.{Mix.cone_of, declared.numbers.Numbers.Numbers, Edges.capacity}
-use Rattle.lert_cone.proofs.{Bays.bays_of, KeysReplayed.{all_again, can_take_ahead, others_ahead}}
+use Rattle.lert_cone.proofs.{KeysReplayed.{all_again, can_take_ahead, others_ahead}}
 use Rattle.lert_cone.specs.{Listing.Listing}
 use Rattle.lert_bay.proofs.KeptLaws.{IsLawful}
 use Rattle.lert_cone.proofs.keys.replay_keys.Given as given
 use Rattle.lert_cone.proofs.keys.replay_keys.Goals as goal
 
-lawful : (g : given.Over) → IsLawful (bays_of g.B.Faulty g.B.Bay)
+lawful : (g : given.Over) → IsLawful (seen_by g.B.Faulty g.B.Bay)
 lawful g = record { as_read = g.met.B.Bay.as_read; since_now = g.met.B.Bay.since_now; only_now = g.met.B.Bay.only_now; since_earlier = g.met.B.Bay.since_earlier }
 
 pub count_again-requires-clause-own : goal.count_again-requires-clause-own

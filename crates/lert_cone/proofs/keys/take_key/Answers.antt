@@ -1,12 +1,13 @@
+use Rattle.lert_bay.specs.Kept.{seen_by}
 use Rattle.std.proofs.Common.{ℕ, [], ◌∷◌, length, ap, arith, length-append, subst, sym, ◌∙◌, ◌≤◌}
 use Rattle.lert_spec.specs.{declared.numbers.Numbers.Numbers, Edges.capacity}
 use Rattle.lert_cone.specs.{Listing.Listing}
-use Rattle.lert_cone.proofs.{KeyTaken.{key_refused, key_between, can_log_then, record_failed, key_flushed}, Bays.bays_of}
+use Rattle.lert_cone.proofs.{KeyTaken.{key_refused, key_between, can_log_then, record_failed, key_flushed}}
 use Rattle.lert_bay.proofs.KeptLaws.{IsLawful}
 use Rattle.lert_cone.proofs.keys.take_key.Given as given
 use Rattle.lert_cone.proofs.keys.take_key.Goals as goal
 
-lawful : (g : given.Over) → IsLawful (bays_of g.B.Faulty g.B.Bay)
+lawful : (g : given.Over) → IsLawful (seen_by g.B.Faulty g.B.Bay)
 lawful g = record { as_read = g.met.B.Bay.as_read; since_now = g.met.B.Bay.since_now; only_now = g.met.B.Bay.only_now; since_earlier = g.met.B.Bay.since_earlier }
 
 pub take-requires-clause-still : goal.take-requires-clause-still

@@ -1,9 +1,10 @@
-use Rattle.lert_cone.proofs.{Bays.bays_of, KeysTaken.{takes_none, next_can, next_takes, next_refused, all_taken}}
+use Rattle.lert_bay.specs.Kept.{seen_by}
+use Rattle.lert_cone.proofs.{KeysTaken.{takes_none, next_can, next_takes, next_refused, all_taken}}
 use Rattle.lert_bay.proofs.KeptLaws.{IsLawful}
 use Rattle.lert_cone.proofs.keys.take_keys.Given as given
 use Rattle.lert_cone.proofs.keys.take_keys.Goals as goal
 
-lawful : (g : given.Over) → IsLawful (bays_of g.B.Faulty g.B.Bay)
+lawful : (g : given.Over) → IsLawful (seen_by g.B.Faulty g.B.Bay)
 lawful g = record { as_read = g.met.B.Bay.as_read; since_now = g.met.B.Bay.since_now; only_now = g.met.B.Bay.only_now; since_earlier = g.met.B.Bay.since_earlier }
 
 pub loop-key-init : goal.loop-key-init

@@ -1,11 +1,12 @@
+use Rattle.lert_bay.specs.Kept.{seen_by}
 use Rattle.std.proofs.Common.{◌+◌, ℕ, ap, subst, sym, arith}
 use Rattle.lert_gatelog.specs.Gated.{IsClosed}
-use Rattle.lert_cone.proofs.{Bays.bays_of, PacketTaken.{packet_refused, can_take_then, packet_taken}}
+use Rattle.lert_cone.proofs.{PacketTaken.{packet_refused, can_take_then, packet_taken}}
 use Rattle.lert_bay.proofs.KeptLaws.{IsLawful}
 use Rattle.lert_cone.proofs.keys.take_packet.Given as given
 use Rattle.lert_cone.proofs.keys.take_packet.Goals as goal
 
-lawful : (g : given.Over) → IsLawful (bays_of g.B.Faulty g.B.Bay)
+lawful : (g : given.Over) → IsLawful (seen_by g.B.Faulty g.B.Bay)
 lawful g = record { as_read = g.met.B.Bay.as_read; since_now = g.met.B.Bay.since_now; only_now = g.met.B.Bay.only_now; since_earlier = g.met.B.Bay.since_earlier }
 
 pub append_entry-requires-clause-some : goal.append_entry-requires-clause-some

@@ -1,12 +1,13 @@
+use Rattle.lert_bay.specs.Kept.{Bays, seen_by}
 use Rattle.std.proofs.Common.{◌∙◌, length, ap, arith}
 use Rattle.lert_reports.specs.Stored.{Stored}
 use Rattle.lert_spec.specs.{declared.numbers.Numbers.Numbers, declared.report.Report.Report}
-use Rattle.lert_cone.proofs.{RecordLaws.{record_fits, same_record}, Bays.{Bays, bays_of}}
+use Rattle.lert_cone.proofs.{RecordLaws.{record_fits, same_record}}
 use Rattle.lert_cone.proofs.keys.write_record.Given as given
 use Rattle.lert_cone.proofs.keys.write_record.Goals as goal
 
 abbrev bays : (g : given.Over) → Bays g.row.B.Denot
-bays g = bays_of g.B.Faulty g.B.Bay
+bays g = seen_by g.B.Faulty g.B.Bay
 
 pub returns-clause-few : goal.returns-clause-few
 returns-clause-few g c =

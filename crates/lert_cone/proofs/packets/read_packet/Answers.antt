@@ -1,8 +1,9 @@
+use Rattle.lert_bay.specs.Kept.{Bays, seen_by}
 use Rattle.std.proofs.{Common.{◌≡◌, ◌∙◌, ℕ, ◌+◌, ◌*◌, ◌<◌, ◌≤◌, ◌^◌, All, Bool, List, true, false, ap, arith, inl, inr, length, Err, IsErrOf, subst, sym}, lemmas.Bool.{false≢true, true≢false}}
 use Rattle.std.proofs.lemmas.Result.{err_from_is_err_and}
 use Rattle.lert_base.specs.{Entries.packet_of, Packet.Packet}
 use Rattle.lert_bay.specs.Files.{Files}
-use Rattle.lert_cone.proofs.{Bays.{Bays, bays_of}, ReadCosts.{ended_cost, found_cost, journal_up_to, same_cost}, Refusals.{no_fault, one_fault}}
+use Rattle.lert_cone.proofs.{ReadCosts.{ended_cost, found_cost, journal_up_to, same_cost}, Refusals.{no_fault, one_fault}}
 use Rattle.lert_bay.proofs.KeptLaws.{IsLawful, reading_as}
 use Rattle.lert_gatelog.specs.{declared.fault.LogFault.LogFault, declared.fault.LogFault.TheVariants.{Failed, Malformed}, Gated.{IsClosed, IsOpen, Log}}
 use Rattle.lert_journal.specs.{Journal.{HoldsPacket, LeavesAt}, Payload.{IsJournaled, payload_of}}
@@ -12,7 +13,7 @@ use Rattle.lert_cone.proofs.packets.read_packet.Given as given
 use Rattle.lert_cone.proofs.packets.read_packet.Goals as goal
 
 abbrev bays : (g : given.Over) → Bays g.row.B.Denot
-bays g = bays_of g.B.Faulty g.B.Bay
+bays g = seen_by g.B.Faulty g.B.Bay
 
 lawful : (g : given.Over) → IsLawful (bays g)
 lawful g = record {

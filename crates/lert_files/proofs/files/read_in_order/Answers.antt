@@ -1,8 +1,9 @@
+use Rattle.lert_bay.specs.Kept.{Bays, seen_by}
 use Rattle.std.proofs.{Common.{ℕ, ◌≤◌, Err, refl, ap, sym, ◌∙◌, subst, arith}, lemmas.Result.err_from_is_err_and}
 use Rattle.lert_levels.specs.{rows.Checked.EachStands, OnDisk.OnDisk, rows.Named.IsDirectory, rows.Rows.{IsAt, AreRows}}
 use Rattle.lert_spec.specs.{declared.numbers.Numbers.Numbers, Edges.capacity}
 use Rattle.lert_bay.specs.declared.bay.TheConstants.{JOURNAL, FRAMES}
-use Rattle.lert_files.proofs.{Bays.{Bays, bays_of}, GateLaws.{err_is, not_err, same_fault}, OpenedLaws.{check_failed, check_refused, header_refused, log_refused, opened_of}}
+use Rattle.lert_files.proofs.{GateLaws.{err_is, not_err, same_fault}, OpenedLaws.{check_failed, check_refused, header_refused, log_refused, opened_of}}
 use Rattle.lert_files.proofs.QuietLaws.{quiet_as, quiet_on, quiet_reading, quiet_reads}
 use Rattle.lert_bay.proofs.KeptLaws.{IsLawful, reading_as, reads_as}
 use Rattle.lert_files.specs.Opened.{By_call}
@@ -10,7 +11,7 @@ use Rattle.lert_files.proofs.files.read_in_order.Given as given
 use Rattle.lert_files.proofs.files.read_in_order.Goals as goal
 
 abbrev bays : (g : given.Over) → Bays g.row.B.Denot
-bays g = bays_of g.B.Faulty g.B.Bay
+bays g = seen_by g.B.Faulty g.B.Bay
 
 lawful : (g : given.Over) → IsLawful (bays g)
 lawful g = record { as_read = g.met.B.Bay.as_read; since_now = g.met.B.Bay.since_now; only_now = g.met.B.Bay.only_now; since_earlier = g.met.B.Bay.since_earlier }

@@ -1,11 +1,12 @@
+use Rattle.lert_bay.specs.Kept.{seen_by}
 use Rattle.std.proofs.Common.{refl, ◌∙◌}
 use Rattle.lert_bay.specs.declared.bay.TheConstants.{JOURNAL, LOG, FRAMES}
-use Rattle.lert_files.proofs.{Bays.bays_of, QuietLaws.{all_durable, quiet_on, quiet_sync}}
+use Rattle.lert_files.proofs.{QuietLaws.{all_durable, quiet_on, quiet_sync}}
 use Rattle.lert_bay.proofs.KeptLaws.{IsLawful}
 use Rattle.lert_files.proofs.files.sync_files.Given as given
 use Rattle.lert_files.proofs.files.sync_files.Goals as goal
 
-lawful : (g : given.Over) → IsLawful (bays_of g.B.Faulty g.B.Bay)
+lawful : (g : given.Over) → IsLawful (seen_by g.B.Faulty g.B.Bay)
 lawful g = record { as_read = g.met.B.Bay.as_read; since_now = g.met.B.Bay.since_now; only_now = g.met.B.Bay.only_now; since_earlier = g.met.B.Bay.since_earlier }
 
 pub returns-clause-durable : goal.returns-clause-durable

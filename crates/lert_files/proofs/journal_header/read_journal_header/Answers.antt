@@ -1,13 +1,14 @@
+use Rattle.lert_bay.specs.Kept.{Bays, seen_by}
 use Rattle.std.proofs.{Common.{◌≡◌, Some, Ok, min, length, refl, ◌∙◌, arith, subst, inl, inr}, lemmas.Result.{err_from_is_err_and, IfErr-weaker}}
 use Rattle.lert_bay.specs.{declared.bay.TheConstants.JOURNAL, Files.Files}
 use Rattle.lert_spec.specs.Limits.{IsValid}
-use Rattle.lert_files.proofs.{Bays.{Bays, bays_of}, HeadLaws.{told, headed_back, left_back, other_back, read_front}}
+use Rattle.lert_files.proofs.{HeadLaws.{told, headed_back, left_back, other_back, read_front}}
 use Rattle.lert_bay.proofs.{HandedLaws.{up_to_on, up_to_room, up_to_same}, KeptLaws.{IsLawful, reading_call, reading_on}}
 use Rattle.lert_files.proofs.journal_header.read_journal_header.Given as given
 use Rattle.lert_files.proofs.journal_header.read_journal_header.Goals as goal
 
 abbrev bays : (g : given.Over) → Bays g.row.B.Denot
-bays g = bays_of g.B.Faulty g.B.Bay
+bays g = seen_by g.B.Faulty g.B.Bay
 
 lawful : (g : given.Over) → IsLawful (bays g)
 lawful g = record { as_read = g.met.B.Bay.as_read; since_now = g.met.B.Bay.since_now; only_now = g.met.B.Bay.only_now; since_earlier = g.met.B.Bay.since_earlier }

@@ -1,13 +1,13 @@
 use Rattle.std.proofs.Common.{◌≡◌, ◌+◌, ◌-◌, ◌*◌, ◌≤◌, Some, List}
 use Rattle.lert_bay.specs.{declared.bay.TheConstants.LOG, Files.Files, Settled.part, Kept.OnlyReads}
-use Rattle.lert_files.proofs.Bays.{Bays, bays_of}
+use Rattle.lert_bay.specs.Kept.{Bays, seen_by}
 use Rattle.lert_spec.specs.Edges.{capacity}
 use Rattle.lert_reports.specs.{Log.{log_header, most_record, HasLogUpTo}, LogText.LogRecord}
 use Rattle.lert_files.specs.Read.{steps, HasRead}
 use Rattle.lert_files.proofs.log.read_records.Given as goal
 
 abbrev pub bays : (g : goal.Over) → Bays g.row.B.Denot
-bays g = bays_of g.B.Faulty g.B.Bay
+bays g = seen_by g.B.Faulty g.B.Bay
 
 -- what was read so far is that of some records, which stand up to this gate where the file is told
 abbrev pub invariant-records : goal.invariant-records

@@ -1,14 +1,15 @@
+use Rattle.lert_bay.specs.Kept.{Bays, seen_by}
 use Rattle.std.proofs.{Common.{◌≡◌, Some, Err, List, ℕ, refl, ap, ◌∙◌, subst}, lemmas.Result.{err_from_is_err_and, IfOk-weaker}}
 use Rattle.lert_bay.specs.{declared.bay.TheConstants.LOG, Files.Files, Settled.part}
 use Rattle.lert_spec.specs.Limits.{IsValid}
 use Rattle.lert_reports.specs.{Log.{log_header, HasLog, In_header}, LogText.LogRecord}
-use Rattle.lert_files.proofs.{Bays.{Bays, bays_of}, GateLaws.same_fault, PointLaws.{directs, points}, WholeLaws.{header_back, header_refuses, left_back, log_refused, up_to, whole_back}}
+use Rattle.lert_files.proofs.{GateLaws.same_fault, PointLaws.{directs, points}, WholeLaws.{header_back, header_refuses, left_back, log_refused, up_to, whole_back}}
 use Rattle.lert_bay.proofs.KeptLaws.{IsLawful, reads_as, reads_on}
 use Rattle.lert_files.proofs.log.read_whole_log.Given as given
 use Rattle.lert_files.proofs.log.read_whole_log.Goals as goal
 
 abbrev bays : (g : given.Over) → Bays g.row.B.Denot
-bays g = bays_of g.B.Faulty g.B.Bay
+bays g = seen_by g.B.Faulty g.B.Bay
 
 lawful : (g : given.Over) → IsLawful (bays g)
 lawful g = record { as_read = g.met.B.Bay.as_read; since_now = g.met.B.Bay.since_now; only_now = g.met.B.Bay.only_now; since_earlier = g.met.B.Bay.since_earlier }

@@ -1,6 +1,7 @@
+use Rattle.lert_bay.specs.Kept.{Bays, seen_by}
 use Rattle.std.proofs.Common.{◌≡◌, min, length, refl, ap, sym, ◌∙◌, arith}
 use Rattle.lert_bay.specs.declared.bay.TheConstants.{JOURNAL, LOG}
-use Rattle.lert_files.proofs.{Bays.{Bays, bays_of}, AgreedLaws.{agreed_front, agreed_all}, GateLaws.{malformed_or_failed, not_err, same_place}, HeadLaws.read_front}
+use Rattle.lert_files.proofs.{AgreedLaws.{agreed_front, agreed_all}, GateLaws.{malformed_or_failed, not_err, same_place}, HeadLaws.read_front}
 use Rattle.lert_bay.proofs.KeptLaws.{IsLawful, apart_from_log, reads_call}
 use Rattle.lert_reports.specs.Log.{log_header}
 use Rattle.lert_spec.specs.Trace.{agreed}
@@ -8,7 +9,7 @@ use Rattle.lert_files.proofs.log_header.read_log_header.Given as given
 use Rattle.lert_files.proofs.log_header.read_log_header.Goals as goal
 
 abbrev bays : (g : given.Over) → Bays g.row.B.Denot
-bays g = bays_of g.B.Faulty g.B.Bay
+bays g = seen_by g.B.Faulty g.B.Bay
 
 lawful : (g : given.Over) → IsLawful (bays g)
 lawful g = record { as_read = g.met.B.Bay.as_read; since_now = g.met.B.Bay.since_now; only_now = g.met.B.Bay.only_now; since_earlier = g.met.B.Bay.since_earlier }

@@ -1,14 +1,15 @@
+use Rattle.lert_bay.specs.Kept.{Bays, seen_by}
 use Rattle.std.proofs.{Common.{ℕ, ◌≡◌, ◌+◌, true, false, length, take, refl, ap, sym, ◌∙◌, subst, arith, inr}, lemmas.Bool.true≢false, lemmas.List.length-take-le, lemmas.Result.err_from_is_err_and}
 use Rattle.lert_gatelog.specs.Gated.{IsOpen, Log}
 use Rattle.lert_reports.specs.{Log.{most_record, HasLogUpTo}, LogText.log_payload_of}
 use Rattle.lert_bay.specs.declared.bay.TheConstants.{LOG}
-use Rattle.lert_files.proofs.{Bays.{Bays, bays_of}, GateLaws.{same_place, same_fault, not_err, malformed_or_failed, gate_leaves, payload_leaves}, StepLaws.up_more}
+use Rattle.lert_files.proofs.{GateLaws.{same_place, same_fault, not_err, malformed_or_failed, gate_leaves, payload_leaves}, StepLaws.up_more}
 use Rattle.lert_bay.proofs.KeptLaws.{IsLawful, reads_as}
 use Rattle.lert_files.proofs.log_record.read_log_record.Given as given
 use Rattle.lert_files.proofs.log_record.read_log_record.Goals as goal
 
 abbrev bays : (g : given.Over) → Bays g.row.B.Denot
-bays g = bays_of g.B.Faulty g.B.Bay
+bays g = seen_by g.B.Faulty g.B.Bay
 
 lawful : (g : given.Over) → IsLawful (bays g)
 lawful g = record { as_read = g.met.B.Bay.as_read; since_now = g.met.B.Bay.since_now; only_now = g.met.B.Bay.only_now; since_earlier = g.met.B.Bay.since_earlier }

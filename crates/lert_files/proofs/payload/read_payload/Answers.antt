@@ -1,14 +1,15 @@
+use Rattle.lert_bay.specs.Kept.{Bays, seen_by}
 use Rattle.std.proofs.Common.{◌≡◌, ◌≤◌, ℕ, Err, take, refl, ap, sym, ◌∙◌, subst, inl, inr}
 use Rattle.lert_gatelog.specs.Gated.{IsOpen, IsClosed, BreaksAt}
 use Rattle.lert_bay.specs.declared.bay.TheConstants.{LOG}
-use Rattle.lert_files.proofs.{Bays.{Bays, bays_of}, GateLaws.{failed_or_malformed, gate_left, malformed_or_failed, not_err, same_place}, QuietLaws.log_reads}
+use Rattle.lert_files.proofs.{GateLaws.{failed_or_malformed, gate_left, malformed_or_failed, not_err, same_place}, QuietLaws.log_reads}
 use Rattle.lert_bay.proofs.KeptLaws.{IsLawful, reads_as}
 use Rattle.lert_files.specs.Read.{GateLeavesAt}
 use Rattle.lert_files.proofs.payload.read_payload.Given as given
 use Rattle.lert_files.proofs.payload.read_payload.Goals as goal
 
 abbrev bays : (g : given.Over) → Bays g.row.B.Denot
-bays g = bays_of g.B.Faulty g.B.Bay
+bays g = seen_by g.B.Faulty g.B.Bay
 
 lawful : (g : given.Over) → IsLawful (bays g)
 lawful g = record { as_read = g.met.B.Bay.as_read; since_now = g.met.B.Bay.since_now; only_now = g.met.B.Bay.only_now; since_earlier = g.met.B.Bay.since_earlier }

@@ -1,7 +1,8 @@
+use Rattle.lert_bay.specs.Kept.{seen_by}
 use Rattle.std.{proofs.Common.{◌≡◌, ℕ, ◌+◌, ◌≤◌, ◌∙◌, ◌++◌, List, ap, sym, subst, refl, inr, arith}, proofs.lemmas.Result.err_from_is_err_and}
 use Rattle.lert_bay.{specs.declared.bay.TheConstants.FRAMES, specs.Settled.part}
 use Rattle.lert_frames.{specs.Outlet.IsOut, proofs.CallLaws.{writes_none, writes_on, writes_as, writes_wider, told_then, no_shorter}, proofs.OutletLaws.out_all}
-use Rattle.lert_frames.{proofs.PartLaws.{part_is, part_join}, proofs.WithinLaws.part_within, specs.Calls.bays_of}
+use Rattle.lert_frames.{proofs.PartLaws.{part_is, part_join}, proofs.WithinLaws.part_within}
 use Rattle.lert_frames.proofs.moving.move_down.Goals as goal
 
 pub returns-in_err-move_part : goal.returns-in_err-move_part
@@ -56,7 +57,7 @@ loop-moved-init g c =
       empty = omega (arith, e.place, e.at);
       place = omega (arith, e.at);
       size = e.size ∙ c.requires.size;
-      writes = writes_none (bays_of g.B.Faulty g.B.Bay) g.met.B.Bay.only_now (λ never. never);
+      writes = writes_none (seen_by g.B.Faulty g.B.Bay) g.met.B.Bay.only_now (λ never. never);
       out = λ seen told later told_later within.
           let none = part_is (seen FRAMES) c.args.from 0 (c.args.from + 0) refl in
           subst (λ (bytes : List ℕ). IsOut c.args.to bytes (later FRAMES) c.start.new.self) (sym none) (e.out (later FRAMES));

@@ -1,10 +1,11 @@
+use Rattle.lert_bay.specs.Kept.{seen_by}
 use Rattle.std.{proofs.Common.{◌≡◌, ◌+◌, ◌∙◌, length, take, drop, refl, sym, ap, arith}, proofs.lemmas.Bool.false≢true}
 use Rattle.lert_bay.{specs.declared.bay.TheConstants.{JOURNAL, FRAMES}, proofs.KeptLaws.{IsLawful, apart_from_frames, reads_call}}
-use Rattle.lert_frames.{proofs.OutletLaws.laid_behind, proofs.PartLaws.part_is, specs.Calls.bays_of}
+use Rattle.lert_frames.{proofs.OutletLaws.laid_behind, proofs.PartLaws.part_is}
 use Rattle.lert_frames.proofs.outlet.read_into.Given as given
 use Rattle.lert_frames.proofs.outlet.read_into.Goals as goal
 
-lawful : (g : given.Over) → IsLawful (bays_of g.B.Faulty g.B.Bay)
+lawful : (g : given.Over) → IsLawful (seen_by g.B.Faulty g.B.Bay)
 lawful g = record { as_read = g.met.B.Bay.as_read; since_now = g.met.B.Bay.since_now; only_now = g.met.B.Bay.only_now; since_earlier = g.met.B.Bay.since_earlier }
 
 pub returns-clause-told : goal.returns-clause-told

@@ -1,10 +1,11 @@
+use Rattle.lert_bay.specs.Kept.{seen_by}
 use Rattle.std.proofs.Common.{ℕ, length, ap}
 use Rattle.lert_bay.{specs.declared.bay.TheConstants.{JOURNAL, FRAMES}, specs.Files.{Holds, LeftByFailure}, proofs.KeptLaws.{IsLawful, keeps_call}}
-use Rattle.lert_frames.{proofs.WithinLaws.{held_within, left_within, within_wrote}, proofs.WriteLaws.{either_way, wrote_once}, specs.Calls.bays_of}
+use Rattle.lert_frames.{proofs.WithinLaws.{held_within, left_within, within_wrote}, proofs.WriteLaws.{either_way, wrote_once}}
 use Rattle.lert_frames.proofs.outlet.write_bytes.Given as given
 use Rattle.lert_frames.proofs.outlet.write_bytes.Goals as goal
 
-lawful : (g : given.Over) → IsLawful (bays_of g.B.Faulty g.B.Bay)
+lawful : (g : given.Over) → IsLawful (seen_by g.B.Faulty g.B.Bay)
 lawful g = record { as_read = g.met.B.Bay.as_read; since_now = g.met.B.Bay.since_now; only_now = g.met.B.Bay.only_now; since_earlier = g.met.B.Bay.since_earlier }
 
 pub returns-clause-within : goal.returns-clause-within

@@ -1,12 +1,13 @@
+use Rattle.lert_bay.specs.Kept.{seen_by}
 use Rattle.std.{proofs.Common.{◌≡◌, ℕ, ◌∙◌, arith, subst}, proofs.lemmas.Result.err_from_is_err_and}
-use Rattle.lert_frames.{proofs.PassLaws.{words_none, words_more, words_short}, specs.Steps.PassesWords, proofs.FaultLaws.not_err, proofs.WriteLaws.same_err, specs.Calls.bays_of}
+use Rattle.lert_frames.{proofs.PassLaws.{words_none, words_more, words_short}, specs.Steps.PassesWords, proofs.FaultLaws.not_err, proofs.WriteLaws.same_err}
 use Rattle.lert_frames.proofs.CallLaws.{reads_turned, reads_then, reads_same}
 use Rattle.lert_frames.proofs.run_ends.pass_run_ends.Goals as goal
 
 pub loop-word-init : goal.loop-word-init
 loop-word-init g c = record {
   passes = words_none _ c.args.bay.now c.args.ends.now c.none-found.result c.none-found.ensures;
-  reads = reads_same (bays_of g.B.Faulty g.B.Bay) g.met.B.Bay.only_now (λ never. never);
+  reads = reads_same (seen_by g.B.Faulty g.B.Bay) g.met.B.Bay.only_now (λ never. never);
 }
 
 pub pass_word-requires : goal.pass_word-requires
@@ -59,7 +60,7 @@ returns g c =
     let now = c.loop-word.invariant in
     let all : c.loop-word._word ≡ c.args.words = omega (arith, c.loop-word-test.false, c.loop-word.auto) in
     record {
-      passes = subst (λ (n : ℕ). PassesWords (bays_of g.B.Faulty g.B.Bay) c.args.bay.now n c.args.ends.now c.loop-word.ends c.loop-word.found) all now.passes;
+      passes = subst (λ (n : ℕ). PassesWords (seen_by g.B.Faulty g.B.Bay) c.args.bay.now n c.args.ends.now c.loop-word.ends c.loop-word.found) all now.passes;
       short = λ seen told at is. absurd (not_err _ _ is);
       end = λ seen told at is. absurd (not_err _ _ is);
       within = omega (arith, now.passes.place, c.loop-word.auto);

@@ -1,12 +1,12 @@
 use Rattle.std.proofs.Common.{◌≡◌, ℕ, ◌+◌, ◌-◌, ◌≤◌, ◌<◌, ◌∙◌, ◌++◌, List, [], length, take, drop, ap, sym, subst, arith, append-nil, length-append, length-drop}
 use Rattle.std.{proofs.lemmas.List.{drop_all, drop_at, take_at, length-take-le}, proofs.lemmas.List.Elements.All-from_get_or, proofs.lemmas.Result.IfOk-weaker}
 use Rattle.lert_bay.{specs.Files.CopiesFrom, specs.declared.bay.TheConstants.{FRAMES, JOURNAL}, proofs.KeptLaws.{IsLawful, apart_from_frames, reads_call}}
-use Rattle.lert_frames.specs.Calls.{bays_of}
+use Rattle.lert_bay.specs.Kept.{seen_by}
 use borrow.Rule.Slice.PartMut.{put_mid}
 use Rattle.lert_frames.proofs.window.read_behind.Given as given
 use Rattle.lert_frames.proofs.window.read_behind.Goals as goal
 
-lawful : (g : given.Over) → IsLawful (bays_of g.B.Faulty g.B.Bay)
+lawful : (g : given.Over) → IsLawful (seen_by g.B.Faulty g.B.Bay)
 lawful g = record { as_read = g.met.B.Bay.as_read; since_now = g.met.B.Bay.since_now; only_now = g.met.B.Bay.only_now; since_earlier = g.met.B.Bay.since_earlier }
 
 here : (from : ℕ) (old : List ℕ) → length (drop from old) ≤ length old - from

@@ -1,6 +1,6 @@
 use Rattle.std.proofs.{Common.{◌≡◌, ℕ, ◌+◌, Err, length, take, ap, sym, ◌∙◌, subst, arith}, lemmas.Bool.true≢false, lemmas.List.length-take-le}
 use Rattle.lert_bay.specs.declared.bay.TheConstants.{JOURNAL}
-use Rattle.lert_cone.proofs.Bays.{Bays, bays_of}
+use Rattle.lert_bay.specs.Kept.{Bays, seen_by}
 use Rattle.lert_bay.proofs.KeptLaws.{IsLawful, reading_as}
 use Rattle.lert_gatelog.specs.Gated.{BreaksAt, IsClosed, IsOpen, Log, next_gate}
 use Rattle.lert_cone.specs.History.{most_payload}
@@ -10,7 +10,7 @@ use Rattle.lert_recover.proofs.journal_rest.find_here.Given as given
 use Rattle.lert_recover.proofs.journal_rest.find_here.Goals as goal
 
 abbrev bays : (g : given.Over) → Bays g.row.B.Denot
-bays g = bays_of g.B.Faulty g.B.Bay
+bays g = seen_by g.B.Faulty g.B.Bay
 
 lawful : (g : given.Over) → IsLawful (bays g)
 lawful g = record { as_read = g.met.B.Bay.as_read; since_now = g.met.B.Bay.since_now; only_now = g.met.B.Bay.only_now; since_earlier = g.met.B.Bay.since_earlier }

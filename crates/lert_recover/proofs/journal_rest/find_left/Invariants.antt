@@ -1,13 +1,13 @@
 use Rattle.std.proofs.Common.{◌≡◌, ◌+◌, ◌-◌, ◌*◌, ◌^◌, ◌≤◌, ℕ, Some}
 use Rattle.lert_bay.specs.{declared.bay.TheConstants.JOURNAL, Files.Files, Kept.ReadsBay}
 use Rattle.lert_cone.specs.History.{most_payload}
-use Rattle.lert_cone.proofs.Bays.{Bays, bays_of}
+use Rattle.lert_bay.specs.Kept.{Bays, seen_by}
 use Rattle.lert_spec.specs.Edges.{capacity}
 use Rattle.lert_recover.specs.Replayed.{JournalEnds, JournalLeavesAt}
 use Rattle.lert_recover.proofs.journal_rest.find_left.Given as goal
 
 abbrev pub bays : (g : goal.Over) → Bays g.row.B.Denot
-bays g = bays_of g.B.Faulty g.B.Bay
+bays g = seen_by g.B.Faulty g.B.Bay
 
 -- what is so from here on is so from the first gate on
 abbrev pub invariant-records : goal.invariant-records

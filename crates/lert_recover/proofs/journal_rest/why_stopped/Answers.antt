@@ -1,12 +1,12 @@
 use Rattle.std.proofs.Common.{◌∙◌, inl, inr, refl, sym}
-use Rattle.lert_cone.proofs.Bays.{Bays, bays_of}
+use Rattle.lert_bay.specs.Kept.{Bays, seen_by}
 use Rattle.lert_bay.proofs.KeptLaws.{IsLawful, reading_as, reading_none}
 use Rattle.lert_recover.proofs.StopLaws.{failed_or_unsound, named_a_place}
 use Rattle.lert_recover.proofs.journal_rest.why_stopped.Given as given
 use Rattle.lert_recover.proofs.journal_rest.why_stopped.Goals as goal
 
 abbrev bays : (g : given.Over) → Bays g.row.B.Denot
-bays g = bays_of g.B.Faulty g.B.Bay
+bays g = seen_by g.B.Faulty g.B.Bay
 
 lawful : (g : given.Over) → IsLawful (bays g)
 lawful g = record { as_read = g.met.B.Bay.as_read; since_now = g.met.B.Bay.since_now; only_now = g.met.B.Bay.only_now; since_earlier = g.met.B.Bay.since_earlier }

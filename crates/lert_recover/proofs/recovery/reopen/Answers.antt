@@ -1,5 +1,5 @@
 use Rattle.std.proofs.Common.{◌≡◌, ◌++◌, Bool, Some, length}
-use Rattle.lert_cone.proofs.Bays.{Bays, bays_of}
+use Rattle.lert_bay.specs.Kept.{Bays, seen_by}
 use Rattle.lert_bay.proofs.KeptLaws.{IsLawful}
 use Rattle.lert_bay.specs.Files.{Files}
 use Rattle.lert_cone.specs.{declared.state.ConeState.TheVariants.{Finished, Running}, Stands.{Standing, StandsFor}}
@@ -14,7 +14,7 @@ use Rattle.lert_recover.proofs.recovery.reopen.Goals as goal
 use Rattle.lert_recover.proofs.recovery.reopen.Goals.{After-reopen_in_order}
 
 abbrev bays : (g : given.Over) → Bays g.row.B.Denot
-bays g = bays_of g.B.Faulty g.B.Bay
+bays g = seen_by g.B.Faulty g.B.Bay
 
 lawful : (g : given.Over) → IsLawful (bays g)
 lawful g = record { as_read = g.met.B.Bay.as_read; since_now = g.met.B.Bay.since_now; only_now = g.met.B.Bay.only_now; since_earlier = g.met.B.Bay.since_earlier }

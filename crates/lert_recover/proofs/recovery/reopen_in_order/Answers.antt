@@ -1,8 +1,9 @@
+use Rattle.lert_bay.specs.Kept.{Bays, seen_by}
 use Rattle.std.proofs.{Common.{◌≡◌, ℕ, ◌+◌, ◌-◌, ◌<◌, ◌≤◌, Some, Err, List, length, ap, sym, ◌∙◌, subst, arith}, lemmas.Option.same_Some, lemmas.Result.IfErr-weaker}
 use Rattle.std.specs.{List.length_refill, Prelude.{All, IfOk, MatchResult, if◌then◌else◌}}
 use Rattle.lert_base.specs.Packet.{Packet, events_of}
 use Rattle.lert_bay.specs.{declared.bay.TheConstants.{JOURNAL, LOG, FRAMES}, Files.Files}
-use Rattle.lert_cone.proofs.{Bays.{Bays, bays_of}, TotalLaws.edge_within, UnreadLaws.length_unread}
+use Rattle.lert_cone.proofs.{TotalLaws.edge_within, UnreadLaws.length_unread}
 use Rattle.lert_bay.proofs.KeptLaws.{IsLawful, calls_as}
 use Rattle.lert_gatelog.specs.Gated.{IsClosed}
 use Rattle.lert_cone.specs.{declared.state.ConeState.TheVariants.{Finished, Running}, Framed.HoldsSome, Replaying.Replaying, Sound.IsSound, Stands.{Standing, StandsFor, WereSoundAs}}
@@ -20,7 +21,7 @@ use Rattle.lert_recover.proofs.recovery.reopen_in_order.Given as given
 use Rattle.lert_recover.proofs.recovery.reopen_in_order.Goals as goal
 
 abbrev bays : (g : given.Over) → Bays g.row.B.Denot
-bays g = bays_of g.B.Faulty g.B.Bay
+bays g = seen_by g.B.Faulty g.B.Bay
 
 lawful : (g : given.Over) → IsLawful (bays g)
 lawful g = record { as_read = g.met.B.Bay.as_read; since_now = g.met.B.Bay.since_now; only_now = g.met.B.Bay.only_now; since_earlier = g.met.B.Bay.since_earlier }

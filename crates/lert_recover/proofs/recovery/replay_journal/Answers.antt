@@ -1,7 +1,8 @@
+use Rattle.lert_bay.specs.Kept.{Bays, seen_by}
 use Rattle.std.proofs.Common.{◌≤◌, ℕ, List, length, ap, sym, ◌∙◌, subst, arith, inl, inr}
 use Rattle.std.specs.Prelude.{if◌then◌else◌}
 use Rattle.lert_bay.specs.{declared.bay.TheConstants.JOURNAL, Kept.{CallsBay, ReadsBay}}
-use Rattle.lert_cone.proofs.{Bays.{Bays, bays_of}, SoundLaws.turns_back}
+use Rattle.lert_cone.proofs.{SoundLaws.turns_back}
 use Rattle.lert_bay.proofs.KeptLaws.{IsLawful, calls_as, calls_on}
 use Rattle.lert_io.proofs.Rising.{risen_since, risen_then}
 use Rattle.lert_io.specs.Fault.{HasRisen}
@@ -17,7 +18,7 @@ use Rattle.lert_recover.proofs.recovery.replay_journal.Given as given
 use Rattle.lert_recover.proofs.recovery.replay_journal.Goals as goal
 
 abbrev bays : (g : given.Over) → Bays g.row.B.Denot
-bays g = bays_of g.B.Faulty g.B.Bay
+bays g = seen_by g.B.Faulty g.B.Bay
 
 lawful : (g : given.Over) → IsLawful (bays g)
 lawful g = record { as_read = g.met.B.Bay.as_read; since_now = g.met.B.Bay.since_now; only_now = g.met.B.Bay.only_now; since_earlier = g.met.B.Bay.since_earlier }

@@ -1,7 +1,7 @@
 use Rattle.std.proofs.Common.{◌≡◌, ◌+◌, ◌-◌, ◌*◌, ◌^◌, ◌≤◌, max, None, Some, Ok, List, length}
 use Rattle.lert_base.specs.Packet.{Packet}
 use Rattle.lert_bay.specs.{declared.bay.TheConstants.{JOURNAL, FRAMES}, Files.Files, Kept.CallsBay}
-use Rattle.lert_cone.proofs.Bays.{Bays, bays_of}
+use Rattle.lert_bay.specs.Kept.{Bays, seen_by}
 use Rattle.lert_cone.specs.{Framed.HoldsSome, KeepsLog.{KeepsLogOf, head_of}, Replaying.IsSameReplay, Sound.StaysSound}
 use Rattle.lert_files.specs.Opened.{WritesNothing}
 use Rattle.lert_spec.specs.Edges.{capacity}
@@ -9,7 +9,7 @@ use Rattle.lert_recover.specs.{Moments.AreSound, Replayed.{FlushesNothing, HasRe
 use Rattle.lert_recover.proofs.replay.replay_all.Given as goal
 
 abbrev pub bays : (g : goal.Over) → Bays g.row.B.Denot
-bays g = bays_of g.B.Faulty g.B.Bay
+bays g = seen_by g.B.Faulty g.B.Bay
 
 -- the packets up to this gate were replayed
 abbrev pub invariant-packets : goal.invariant-packets

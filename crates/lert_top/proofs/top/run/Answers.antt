@@ -19,7 +19,7 @@ use Rattle.lert_top.proofs.runs.RunLaws.{run_none}
 use Rattle.lert_spec.specs.declared.numbers.Numbers.{Numbers}
 use Rattle.lert_top.specs.recovery.Recovered.{HasRecovered}
 use Rattle.std.specs.Prelude.{slice_get}
-use Rattle.lert_bay.specs.Kept.{Bays}
+use Rattle.lert_bay.specs.Kept.{Bays, seen_by}
 use Rattle.lert_place.specs.Openings.{AreReturned, bays_granted, traces_granted}
 use Rattle.lert_top.specs.Generated.{TraceShows}
 use Rattle.lert_top.proofs.NoLine.{below_none, later_none, put_back_none, recovered_none, rule_is, sound_none, usage_not_place}
@@ -30,15 +30,7 @@ use Rattle.lert_top.proofs.top.run.Goals.{In-Err-Usage}
 use Rattle.lert_top.proofs.top.run.Goals as goal
 
 abbrev bays_in : (g : given.Over) → Bays g.row.P-Bay.Denot
-bays_in g = record {
-  faults = g.P.Bay.Faulty.faults;
-  mark = g.P.Bay.Faulty.mark;
-  files = g.P.Bay.Bay.files;
-  leaves = g.P.Bay.Bay.leaves;
-  moment = g.P.Bay.Bay.moment;
-  left_since = g.P.Bay.Bay.left_since;
-  handed_out = g.P.Bay.Bay.handed_out;
-}
+bays_in g = seen_by g.P.Bay.Faulty g.P.Bay.Bay
 
 -- a place that was asked for nothing handed nothing out
 no_trace : (g : given.Over) (place : g.row.P.Denot) → g.P.Place.asked place ≡ [] → g.P.Place.handed_traces place ≡ []

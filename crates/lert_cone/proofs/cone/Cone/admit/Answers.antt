@@ -1,3 +1,4 @@
+use Rattle.lert_bay.specs.Kept.{seen_by}
 use Rattle.std.proofs.Common.{ℕ, ◌≡◌, ◌∙◌, ◌+◌, ◌≤◌, length, Some, Err, refl, sym, ap, subst, arith}
 use Rattle.lert_base.specs.{declared.entry.Entry.Entry, Entries.packet_of}
 use Rattle.std.specs.List.{length_refill}
@@ -6,13 +7,13 @@ use Rattle.lert_journal.specs.Payload.{IsJournaled}
 use Rattle.lert_reports.specs.Stored.{Stored}
 use Rattle.lert_io.proofs.Rising.{risen_since}
 use Rattle.lert_cone.specs.{declared.state.ConeState.TheVariants.Running, Listing.Listing, InStep.IsLogging, Stands.{Standing, over_of, is_broken, is_finished}}
-use Rattle.lert_cone.proofs.{Bays.bays_of, Admits.{not_admitted}, AdmitsPacket.{admitted, still_cone}, BreaksOff.broken_off, StandLaws.{broken_cone}}
+use Rattle.lert_cone.proofs.{Admits.{not_admitted}, AdmitsPacket.{admitted, still_cone}, BreaksOff.broken_off, StandLaws.{broken_cone}}
 use Rattle.lert_cone.proofs.FaultLaws.{is_broken_by, by_bay_of}
 use Rattle.lert_bay.proofs.KeptLaws.{IsLawful}
 use Rattle.lert_cone.proofs.cone.Cone.admit.Given as given
 use Rattle.lert_cone.proofs.cone.Cone.admit.Goals as goal
 
-lawful : (g : given.Over) → IsLawful (bays_of g.B.Faulty g.B.Bay)
+lawful : (g : given.Over) → IsLawful (seen_by g.B.Faulty g.B.Bay)
 lawful g = record { as_read = g.met.B.Bay.as_read; since_now = g.met.B.Bay.since_now; only_now = g.met.B.Bay.only_now; since_earlier = g.met.B.Bay.since_earlier }
 
 -- a refusal before the first step

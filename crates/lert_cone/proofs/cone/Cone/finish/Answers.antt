@@ -1,8 +1,9 @@
+use Rattle.lert_bay.specs.Kept.{Bays, seen_by}
 use Rattle.std.proofs.{Common.{ℕ, ◌≡◌, ◌∙◌, List, Err, true, refl, length, ap, sym, subst, inl, arith}, lemmas.Bool.false≢true, lemmas.Result.err_from_is_err_and}
 use Rattle.std.specs.List.{length_refill}
 use Rattle.lert_base.specs.{Packet.{Packet, events_of}, declared.cone_fault.ConeFault.TheVariants.{BayFailed, Unsound}}
 use Rattle.lert_bay.specs.Files.{IfTold}
-use Rattle.lert_cone.proofs.{Bays.{Bays, bays_of}, SoundLaws.turns_back, AppendLaws.whole_of, StandLaws.{cone_at, stands_whole, stands_broken, ended_cone, broken_cone, reports_finished}}
+use Rattle.lert_cone.proofs.{SoundLaws.turns_back, AppendLaws.whole_of, StandLaws.{cone_at, stands_whole, stands_broken, ended_cone, broken_cone, reports_finished}}
 use Rattle.lert_cone.proofs.FaultLaws.{any_turn, by_bay_of, by_read_of, failed_of, is_broken_by, kept_since, no_refusal, turned_none, turns_as, unsound_of, untold}
 use Rattle.lert_cone.proofs.{Refusals.{fault_as, no_failed, no_fault, no_unsound, one_fault}, StateLaws.{broke_broken, broke_closed, passed_broken, passed_closed}, TimeLaws.timely}
 use Rattle.lert_bay.proofs.KeptLaws.{IsLawful, keeps_as, keeps_none}
@@ -16,7 +17,7 @@ use Rattle.lert_cone.proofs.cone.Cone.finish.Goals as goal
 use Rattle.lert_cone.proofs.cone.Cone.finish.Goals.{After-len}
 
 abbrev bays : (g : given.Over) → Bays g.row.B.Denot
-bays g = bays_of g.B.Faulty g.B.Bay
+bays g = seen_by g.B.Faulty g.B.Bay
 
 lawful : (g : given.Over) → IsLawful (bays g)
 lawful g = record { as_read = g.met.B.Bay.as_read; since_now = g.met.B.Bay.since_now; only_now = g.met.B.Bay.only_now; since_earlier = g.met.B.Bay.since_earlier }

@@ -1,15 +1,16 @@
 -- The text that was written is what a log appends for the record; each part is that of the log's own `append`.
+use Rattle.lert_bay.specs.Kept.{Bays, seen_by}
 use Rattle.std.proofs.{Common.{◌≡◌, ◌+◌, ◌≤◌, ◌<◌, ℕ, [], ◌∷◌, ◌++◌, length, ap, sym, subst, ◌∙◌, arith}, lemmas.Bool.false≢true}
 use Rattle.std.specs.Result.{is_err}
 use Rattle.lert_bay.specs.Files.{Turns}
 use Rattle.lert_gatelog.specs.{Gated.{IsClosed, IsGated, Log, next_gate}, Kept.{InEach, IsWithOrWithout, IsWhollySettled, KeepsBefore, KeepsOthers, OthersStay}}
 use Rattle.lert_cone.specs.Record.{LogPlace, payload_at, payload_len}
-use Rattle.lert_cone.proofs.{TextLaws.{few_new, room_new, reach_new}, RecordLaws.{refused_record, text_at, text_long, payload_long, is_appendix}, Bays.{Bays, bays_of}}
+use Rattle.lert_cone.proofs.{TextLaws.{few_new, room_new, reach_new}, RecordLaws.{refused_record, text_at, text_long, payload_long, is_appendix}}
 use Rattle.lert_cone.proofs.report_log.ReportLog.append.Given as given
 use Rattle.lert_cone.proofs.report_log.ReportLog.append.Goals as goal
 
 abbrev bays : (g : given.Over) → Bays g.row.B.Denot
-bays g = bays_of g.B.Faulty g.B.Bay
+bays g = seen_by g.B.Faulty g.B.Bay
 
 pub write_log-len-requires-clause-few : goal.write_log-len-requires-clause-few
 write_log-len-requires-clause-few g c =

@@ -1,12 +1,13 @@
+use Rattle.lert_bay.specs.Kept.{seen_by}
 use Rattle.std.proofs.Common.{◌≡◌, false, Option, ap, refl, sym, ◌∙◌, subst}
-use Rattle.lert_cone.proofs.{Bays.bays_of, EndCounted.{not_ended, no_room_left, all_counted}}
+use Rattle.lert_cone.proofs.{EndCounted.{not_ended, no_room_left, all_counted}}
 use Rattle.lert_bay.proofs.KeptLaws.{IsLawful}
 use Rattle.lert_levels.specs.OnDisk.{OnDisk}
 use Rattle.lert_cone.specs.{Due.{Dues, started}, Tally.{Tallied, IsCounted, due_in}}
 use Rattle.lert_cone.proofs.tally.Tally.finish.Given as given
 use Rattle.lert_cone.proofs.tally.Tally.finish.Goals as goal
 
-lawful : (g : given.Over) → IsLawful (bays_of g.B.Faulty g.B.Bay)
+lawful : (g : given.Over) → IsLawful (seen_by g.B.Faulty g.B.Bay)
 lawful g = record { as_read = g.met.B.Bay.as_read; since_now = g.met.B.Bay.since_now; only_now = g.met.B.Bay.only_now; since_earlier = g.met.B.Bay.since_earlier }
 
 pub returns-in_err-result : goal.returns-in_err-result

@@ -1,6 +1,7 @@
+use Rattle.lert_bay.specs.Kept.{Bays, seen_by}
 use Rattle.std.proofs.{Common.{◌≡◌, ℕ, ◌+◌, List, [], ◌∷◌, drop, refl, subst, sym, sum_by, ap, ap₂, ◌∙◌, arith}, lemmas.Option.same_Some}
 use Rattle.lert_bay.specs.Files.{Files}
-use Rattle.lert_cone.proofs.{Bays.{Bays, bays_of}, TallyLaws.{young_total, flush_total, rows_still, dropped_edge, dropped_bins}, NextFlush.{moves_deep, stays_shallow}, Refusals.no_fault}
+use Rattle.lert_cone.proofs.{TallyLaws.{young_total, flush_total, rows_still, dropped_edge, dropped_bins}, NextFlush.{moves_deep, stays_shallow}, Refusals.no_fault}
 use Rattle.lert_cone.proofs.TotalLaws.{edge_within}
 use Rattle.lert_bay.proofs.{KeptLaws.IsLawful, Lasting.lasts_none}
 use Rattle.lert_spec.specs.{declared.numbers.Numbers.Numbers, declared.piece.Piece.Piece, Bins.Bin, Edges.span, Table.count_of}
@@ -11,7 +12,7 @@ use Rattle.lert_cone.proofs.tally.flush.give_totals.Given as given
 use Rattle.lert_cone.proofs.tally.flush.give_totals.Goals as goal
 
 abbrev bays : (g : given.Over) → Bays g.row.B.Denot
-bays g = bays_of g.B.Faulty g.B.Bay
+bays g = seen_by g.B.Faulty g.B.Bay
 
 lawful : (g : given.Over) → IsLawful (bays g)
 lawful g = record { as_read = g.met.B.Bay.as_read; since_now = g.met.B.Bay.since_now; only_now = g.met.B.Bay.only_now; since_earlier = g.met.B.Bay.since_earlier }

@@ -1,5 +1,6 @@
+use Rattle.lert_bay.specs.Kept.{seen_by}
 use Rattle.std.{proofs.Common.{◌≡◌, ◌≢◌, ℕ, ◌<◌, ◌≤◌, ◌+◌, ◌*◌, ◌^◌, List, [], length, drop, refl, sym, subst, arith}, proofs.lemmas.List.{drop_all, take_all}}
-use Rattle.lert_frames.{specs.Calls.bays_of, specs.Steps.Steps, proofs.OrderLaws.here, proofs.WriteLaws.on_err}
+use Rattle.lert_frames.{specs.Steps.Steps, proofs.OrderLaws.here, proofs.WriteLaws.on_err}
 use Rattle.lert_spec.specs.declared.piece.Piece.{Piece}
 use Rattle.lert_frames.proofs.decoder.Decoder.step.Goals as goal
 
@@ -17,7 +18,7 @@ pub returns-then-self-eq0 : goal.returns-then-self-eq0
 returns-then-self-eq0 g c =
     let items = c.args.pieces.now.items in
     record {
-      steps = subst (λ (put : List Piece). Steps (bays_of g.B.Faulty g.B.Bay) c.args.bay.now c.begin.new.bay c.args.self.now c.begin.new.self put c.begin.result)
+      steps = subst (λ (put : List Piece). Steps (seen_by g.B.Faulty g.B.Bay) c.args.bay.now c.begin.new.bay c.args.self.now c.begin.new.self put c.begin.result)
           (sym (none_put items)) c.begin.ensures;
       kept = take_all (length items) items (here (length items));
       none = on_err _ c.begin.result refl;

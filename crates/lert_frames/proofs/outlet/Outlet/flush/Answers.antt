@@ -1,7 +1,7 @@
 use Rattle.std.{proofs.Common.{◌≡◌, ◌+◌, ◌≤◌, ◌∙◌, List, ℕ, length, length-take, take, ap, sym, subst, refl, arith}, proofs.lemmas.Bool.false≢true, proofs.lemmas.Result.err_from_is_err_and}
 use Rattle.lert_bay.{specs.declared.bay.TheConstants.FRAMES, specs.Files.{Changes, Files, Holds}}
 use Rattle.lert_frames.{specs.Outlet.IsOut, proofs.CallLaws.{reads_same, same_files}, proofs.OutletLaws.out_flushed, proofs.OrderLaws.here, proofs.WithinLaws.{turns_to, within_reads}}
-use Rattle.lert_frames.specs.Calls.{bays_of}
+use Rattle.lert_bay.specs.Kept.{seen_by}
 use Rattle.lert_frames.proofs.outlet.Outlet.flush.Goals as goal
 
 -- ---- the bytes that aren't written
@@ -26,8 +26,8 @@ returns-then-self-eq0 g c =
       place = refl;
       size = refl;
       at = here o.at;
-      within = λ begin end low high. within_reads _ begin end bay bay ⊥ (reads_same (bays_of g.B.Faulty g.B.Bay) g.met.B.Bay.only_now (λ never. never));
-      kept = (reads_same (bays_of g.B.Faulty g.B.Bay) g.met.B.Bay.only_now (λ is. absurd (false≢true is))).kept;
+      within = λ begin end low high. within_reads _ begin end bay bay ⊥ (reads_same (seen_by g.B.Faulty g.B.Bay) g.met.B.Bay.only_now (λ never. never));
+      kept = (reads_same (seen_by g.B.Faulty g.B.Bay) g.met.B.Bay.only_now (λ is. absurd (false≢true is))).kept;
     }
 
 pub returns-in_err-write_bytes : goal.returns-in_err-write_bytes

@@ -1,9 +1,10 @@
+use Rattle.lert_bay.specs.Kept.{seen_by}
 use Rattle.std.{proofs.Common.{◌≡◌, ◌∙◌, ◌++◌, Option, None, Some, ap, refl, subst}, specs.Prelude.option_to_list, proofs.lemmas.Result.err_from_is_err_and}
 use Rattle.lert_bay.{specs.declared.bay.TheConstants.FRAMES, specs.Files.Files}
 use Rattle.lert_frames.{specs.InOrder.gave_given, specs.Place.tail_limit, specs.ToCome.{told_of, Breaks, HandsOut, IsSameToCome}}
 use Rattle.lert_frames.proofs.FaultLaws.{not_err, ok_not_err, err_not_ok, some_not_none, same_ok}
 use Rattle.lert_frames.proofs.ToComeLaws.{same_to_come_on, left_before, told_stays, broken_stays, broken_untold, handed_broken, handed_gave, handed_over, handed_untold, handed_within}
-use Rattle.lert_frames.{proofs.ToComeLaws.{handed_none, told_first, told_next, given_within, given_all}, proofs.WriteLaws.same_err, proofs.CallLaws.{reads_turned, reads_same}, specs.Calls.bays_of}
+use Rattle.lert_frames.{proofs.ToComeLaws.{handed_none, told_first, told_next, given_within, given_all}, proofs.WriteLaws.same_err, proofs.CallLaws.{reads_turned, reads_same}}
 use Rattle.lert_spec.specs.declared.piece.Piece.{Piece}
 use Rattle.lert_frames.proofs.read.FrameReaderPieces.next.Goals as goal
 
@@ -16,7 +17,7 @@ returns-in-Some g c =
     let after = c.give.new.self in
     let files = g.B.Bay.files bay in
     let hands = subst (λ (piece : Option Piece). HandsOut self after piece) c.in-Some.is c.give.ensures in
-    let none = reads_same (bays_of g.B.Faulty g.B.Bay) g.met.B.Bay.only_now (λ none. none) in
+    let none = reads_same (seen_by g.B.Faulty g.B.Bay) g.met.B.Bay.only_now (λ none. none) in
     record {
       told = λ ps told. told_first files self after c.in-Some.piece ps hands told;
       untold = handed_untold self after _ hands files;
@@ -38,7 +39,7 @@ returns-in-Some g c =
       wide = hands.wide;
       within = λ seen told within. handed_within self after _ hands (seen FRAMES) within;
       over = λ is. absurd (some_not_none _ is);
-      only_reads = reads_same (bays_of g.B.Faulty g.B.Bay) g.met.B.Bay.only_now (λ is. not_err _ _ is);
+      only_reads = reads_same (seen_by g.B.Faulty g.B.Bay) g.met.B.Bay.only_now (λ is. not_err _ _ is);
     }
 
 -- ---- where none was

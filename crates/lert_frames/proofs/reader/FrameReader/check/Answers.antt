@@ -1,8 +1,9 @@
+use Rattle.lert_bay.specs.Kept.{seen_by}
 use Rattle.std.{proofs.Common.{◌≡◌, ℕ, ◌-◌, ◌<◌, ◌≤◌, ◌∙◌, ◌++◌, ◌∷◌, [], Ok, None, refl, sym, ap, subst, arith}, specs.Prelude.option_to_list, proofs.lemmas.Result.err_from_is_err_and}
 use Rattle.lert_bay.{specs.declared.bay.TheConstants.FRAMES, specs.Files.IfTold}
 use Rattle.lert_spec.specs.Table.{total, AreGiven}
 use Rattle.lert_frames.{specs.Frame.frame_left, specs.Place.{frame_place, tail_limit}, specs.ToCome.IsOver, proofs.CheckLaws.{total_grows, whole_bin, left_started, whole_from, stands_from}}
-use Rattle.lert_frames.{proofs.FaultLaws.not_err, proofs.WriteLaws.same_err, proofs.CallLaws.{reads_turned, reads_then, reads_same}, specs.Calls.bays_of}
+use Rattle.lert_frames.{proofs.FaultLaws.not_err, proofs.WriteLaws.same_err, proofs.CallLaws.{reads_turned, reads_then, reads_same}}
 use Rattle.lert_frames.proofs.reader.FrameReader.check.Given as given
 use Rattle.lert_frames.proofs.reader.FrameReader.check.Goals as goal
 
@@ -14,7 +15,7 @@ loop-piece-init g c = record {
   wide = refl;
   breaks = λ at. (λ same. same, λ same. same);
   within = λ seen told. c.start.ensures.within (seen FRAMES);
-  only_reads = reads_same (bays_of g.B.Faulty g.B.Bay) g.met.B.Bay.only_now (λ none. none);
+  only_reads = reads_same (seen_by g.B.Faulty g.B.Bay) g.met.B.Bay.only_now (λ none. none);
 }
 
 pub loop-piece-preserved : goal.loop-piece-preserved

@@ -1,7 +1,8 @@
+use Rattle.lert_bay.specs.Kept.{seen_by}
 use Rattle.std.proofs.Common.{◌≡◌, ◌-◌, ◌↔◌, ℕ, Some}
 use Rattle.lert_bay.{specs.Files.Files, specs.Kept.OnlyReads, specs.declared.bay.TheConstants.FRAMES}
 use Rattle.lert_spec.specs.Table.{total}
-use Rattle.lert_frames.{specs.ToCome.{Breaks, IsWithin}, specs.Calls.bays_of}
+use Rattle.lert_frames.{specs.ToCome.{Breaks, IsWithin}}
 use Rattle.lert_frames.proofs.reader.FrameReader.check.Given as goal
 
 -- the frame is the same, it leaves its text where it did, and nothing was changed
@@ -13,7 +14,7 @@ invariant-loop-piece g l = record {
   wide : l.self.wide ≡ l.initial.self.wide;
   breaks : (at : ℕ) → Breaks (g.B.Bay.files l.bay) l.self at ↔ Breaks (g.B.Bay.files l.fn.bay) l.initial.self at;
   within : (seen : Files) → g.B.Bay.files l.fn.bay ≡ Some seen → IsWithin l.self (seen FRAMES);
-  only_reads : OnlyReads (bays_of g.B.Faulty g.B.Bay) l.fn.bay l.bay ⊥;
+  only_reads : OnlyReads (seen_by g.B.Faulty g.B.Bay) l.fn.bay l.bay ⊥;
 }
 
 -- each piece raises the sum of those that were given

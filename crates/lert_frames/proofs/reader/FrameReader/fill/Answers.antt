@@ -1,7 +1,8 @@
+use Rattle.lert_bay.specs.Kept.{seen_by}
 use Rattle.std.{proofs.Common.{◌∙◌, Some, refl, ap}, proofs.lemmas.Result.err_from_is_err_and}
 use Rattle.lert_bay.specs.declared.bay.TheConstants.{FRAMES}
 use Rattle.lert_frames.{specs.Decoded.decoder_found, specs.Reading.verdict, specs.ToCome.known_or, proofs.FaultLaws.{not_failed, place_is}}
-use Rattle.lert_frames.{proofs.ToComeLaws.{same_frame_on, same_to_come_on, left_before}, proofs.WriteLaws.same_err, proofs.CallLaws.{reads_turned, reads_then, reads_same}, specs.Calls.bays_of}
+use Rattle.lert_frames.{proofs.ToComeLaws.{same_frame_on, same_to_come_on, left_before}, proofs.WriteLaws.same_err, proofs.CallLaws.{reads_turned, reads_then, reads_same}}
 use Rattle.lert_frames.proofs.reader.FrameReader.fill.Goals as goal
 
 pub loop-self-init : goal.loop-self-init
@@ -13,7 +14,7 @@ loop-self-init g c =
       frame = e.frame;
       to_come = λ seen told. e.to_come (seen FRAMES);
       within = λ seen told. e.within (seen FRAMES);
-      only_reads = reads_same (bays_of g.B.Faulty g.B.Bay) g.met.B.Bay.only_now (λ none. none);
+      only_reads = reads_same (seen_by g.B.Faulty g.B.Bay) g.met.B.Bay.only_now (λ none. none);
     }
 
 pub loop-self-preserved : goal.loop-self-preserved
@@ -51,7 +52,7 @@ returns-in-Some g c =
           ap (λ fault. known_or fault (verdict self.sum self.place (decoder_found self.decoder (seen FRAMES)))) c.in-Some.is ∙ ap Some (place_is c.in-Some.at at is);
       over = tt;
       within = λ seen told within. tt;
-      only_reads = reads_same (bays_of g.B.Faulty g.B.Bay) g.met.B.Bay.only_now (λ is. not_failed _ _ refl is);
+      only_reads = reads_same (seen_by g.B.Faulty g.B.Bay) g.met.B.Bay.only_now (λ is. not_failed _ _ refl is);
     }
 
 -- ---- a step that stops

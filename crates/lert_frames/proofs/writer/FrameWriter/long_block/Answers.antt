@@ -1,18 +1,19 @@
+use Rattle.lert_bay.specs.Kept.{seen_by}
 use Rattle.std.{proofs.Common.{◌≡◌, ℕ, ◌+◌, ◌*◌, ◌^◌, ◌<◌, ◌≤◌, ◌∙◌, None, length, ap, subst, refl, arith}, proofs.lemmas.Bool.false≢true, proofs.lemmas.List.length-take-le}
 use Rattle.std.proofs.lemmas.Result.{err_from_is_err_and}
 use Rattle.lert_bay.specs.declared.bay.TheConstants.{FRAMES}
 use Rattle.lert_blocks.specs.Text.{blocks_text, pieces_in}
 use Rattle.lert_frames.{specs.declared.writer.FrameWriter.FrameWriter, specs.Outlet.next_place, specs.Spilt.{Reaches, block_bytes}, specs.Writing.end_of}
-use Rattle.lert_frames.{proofs.GrowingLaws.{growing_flushed, growing_long, long_fits}, proofs.ProceedLaws.{proceeds_none, stays_none}, proofs.WritingLaws.behind_long, specs.Calls.bays_of}
+use Rattle.lert_frames.{proofs.GrowingLaws.{growing_flushed, growing_long, long_fits}, proofs.ProceedLaws.{proceeds_none, stays_none}, proofs.WritingLaws.behind_long}
 use Rattle.lert_frames.proofs.writer.FrameWriter.long_block.Goals as goal
 
 pub returns-in-Some : goal.returns-in-Some
 returns-in-Some g c =
     let w = c.args.self.now in
     record {
-      proceeds = proceeds_none (bays_of g.B.Faulty g.B.Bay) g.met.B.Bay.only_now (record { settings = refl; level = refl; frame = refl; width = refl; place = refl; put = refl; left = refl })
+      proceeds = proceeds_none (seen_by g.B.Faulty g.B.Bay) g.met.B.Bay.only_now (record { settings = refl; level = refl; frame = refl; width = refl; place = refl; put = refl; left = refl })
           (λ e. absurd (false≢true e));
-      stays = stays_none (bays_of g.B.Faulty g.B.Bay) w c.args.bay.now;
+      stays = stays_none (seen_by g.B.Faulty g.B.Bay) w c.args.bay.now;
       number = refl;
       block = refl;
       long = c.in-Some.is;

@@ -1,5 +1,6 @@
+use Rattle.lert_bay.specs.Kept.{seen_by}
 use Rattle.std.{proofs.Common.{◌≡◌, refl, arith}, proofs.lemmas.Bool.false≢true}
-use Rattle.lert_frames.{specs.Place.block_count, proofs.ProceedLaws.{proceeds_none, proceeds_on, proceeds_as, stays_none, stays_on}, specs.Calls.bays_of}
+use Rattle.lert_frames.{specs.Place.block_count, proofs.ProceedLaws.{proceeds_none, proceeds_on, proceeds_as, stays_none, stays_on}}
 use Rattle.lert_frames.proofs.writer.FrameWriter.reach.Goals as goal
 
 pub end_block-requires : goal.end_block-requires
@@ -18,9 +19,9 @@ pub loop-self-init : goal.loop-self-init
 loop-self-init g c =
     let w = c.args.self.now in
     record {
-      proceeds = proceeds_none (bays_of g.B.Faulty g.B.Bay) g.met.B.Bay.only_now
+      proceeds = proceeds_none (seen_by g.B.Faulty g.B.Bay) g.met.B.Bay.only_now
           (record { settings = refl; level = refl; frame = refl; width = refl; place = refl; put = refl; left = refl }) (λ never. never);
-      stays = stays_none (bays_of g.B.Faulty g.B.Bay) w c.args.bay.now;
+      stays = stays_none (seen_by g.B.Faulty g.B.Bay) w c.args.bay.now;
       from = omega arith;
       upto = omega arith;
     }

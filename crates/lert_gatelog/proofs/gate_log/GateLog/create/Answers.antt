@@ -2,22 +2,14 @@ use Rattle.std.proofs.Common.{ℕ, ◌++◌, [], ◌+◌, length, take, drop, re
 use Rattle.std.proofs.lemmas.Result.{err_from_is_err_and}
 use Rattle.lert_bay.proofs.Laid.{zeros_past}
 use Rattle.lert_gatelog.proofs.Looking.{text_alone, header_text, closed_text}
-use Rattle.lert_bay.specs.Kept.{Bays}
+use Rattle.lert_bay.specs.Kept.{Bays, seen_by}
 use Rattle.lert_gatelog.proofs.Appending.{others_once, settled_once}
 use Rattle.lert_gatelog.proofs.Seen.{others_seen, short_text}
 use Rattle.lert_gatelog.proofs.gate_log.GateLog.create.Given as given
 use Rattle.lert_gatelog.proofs.gate_log.GateLog.create.Goals as goal
 
 abbrev bays : (g : given.Over) → Bays g.row.B.Denot
-bays g = record {
-  faults = g.B.Faulty.faults;
-  mark = g.B.Faulty.mark;
-  files = g.B.Bay.files;
-  leaves = g.B.Bay.leaves;
-  moment = g.B.Bay.moment;
-  left_since = g.B.Bay.left_since;
-  handed_out = g.B.Bay.handed_out;
-}
+bays g = seen_by g.B.Faulty g.B.Bay
 
 pub write_durably-requires : goal.write_durably-requires
 write_durably-requires g c = record { file = c.requires.file; reach = short_text (length c.args.header.now) _ c.requires.header }

@@ -2,7 +2,7 @@ use Rattle.std.proofs.Common.{◌≤◌, subst, ◌≡◌, length, true, Err, re
 use Rattle.std.proofs.lemmas.List.{take_at, length-take-le}
 use Rattle.std.proofs.lemmas.Result.{err_from_is_err_and}
 use Rattle.std.specs.Prelude.{IsErr}
-use Rattle.lert_bay.specs.Kept.{Bays}
+use Rattle.lert_bay.specs.Kept.{Bays, seen_by}
 use Rattle.lert_bay.proofs.KeptLaws.{IsLawful, reading_on, reading_as}
 use Rattle.lert_bay.proofs.HandedLaws.{up_to_same, up_to_room}
 use Rattle.lert_gatelog.proofs.Costs.{least_cost, up_to_look}
@@ -13,15 +13,7 @@ use Rattle.lert_gatelog.proofs.gate_log.GateLog.next.Given as given
 use Rattle.lert_gatelog.proofs.gate_log.GateLog.next.Goals as goal
 
 abbrev bays : (g : given.Over) → Bays g.row.B.Denot
-bays g = record {
-  faults = g.B.Faulty.faults;
-  mark = g.B.Faulty.mark;
-  files = g.B.Bay.files;
-  leaves = g.B.Bay.leaves;
-  moment = g.B.Bay.moment;
-  left_since = g.B.Bay.left_since;
-  handed_out = g.B.Bay.handed_out;
-}
+bays g = seen_by g.B.Faulty g.B.Bay
 
 lawful : (g : given.Over) → IsLawful (bays g)
 lawful g = record { as_read = g.met.B.Bay.as_read; since_now = g.met.B.Bay.since_now; only_now = g.met.B.Bay.only_now; since_earlier = g.met.B.Bay.since_earlier }

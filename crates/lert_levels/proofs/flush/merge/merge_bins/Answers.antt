@@ -1,3 +1,4 @@
+use Rattle.lert_bay.specs.Kept.{seen_by}
 use Rattle.std.{proofs.Common.{ℕ, ◌≡◌, ◌<◌, ◌∙◌, None, Some, Ok, [], ap, length, get_or, arith}, specs.Prelude.IsErrOf, proofs.lemmas.Result.err_from_is_err_and}
 use Rattle.lert_bay.proofs.KeptLaws.{IsLawful}
 use Rattle.lert_base.specs.declared.pieces.PieceFault.TheVariants.{Failed}
@@ -6,14 +7,14 @@ use Rattle.lert_levels.proofs.flush.BoundLaws.{came_fits, all_fit, can_take, lef
 use Rattle.lert_levels.proofs.flush.GatheringLaws.{breaks_back, sound_by, taken_all, within, up_so_far}
 use Rattle.lert_levels.{proofs.flush.MergingLaws.{merging_none, merging_more, given_at, none_at, if_some, is_own, never_failed, table_of}, proofs.flush.WholeLaws.told_still}
 use Rattle.lert_levels.proofs.flush.SteadyLaws.{AreSteady, landings_same, writes_read, writes_on, writes_as, reads_failed}
-use Rattle.lert_frames.{specs.Calls.bays_of, proofs.CallLaws.{keeps_turned}}
+use Rattle.lert_frames.{proofs.CallLaws.{keeps_turned}}
 use Rattle.lert_levels.proofs.flush.merge.merge_bins.Given as given
 use Rattle.lert_levels.proofs.flush.merge.merge_bins.Goals as goal
 
-lawful : (g : given.Over) → IsLawful (bays_of g.B.Faulty g.B.Bay)
+lawful : (g : given.Over) → IsLawful (seen_by g.B.Faulty g.B.Bay)
 lawful g = record { as_read = g.met.B.Bay.as_read; since_now = g.met.B.Bay.since_now; only_now = g.met.B.Bay.only_now; since_earlier = g.met.B.Bay.since_earlier }
 
-steady : (g : given.Over) → AreSteady g.S.Streams (bays_of g.B.Faulty g.B.Bay) g.S.Bins.width g.S.Bins.reads g.S.Bins.sure
+steady : (g : given.Over) → AreSteady g.S.Streams (seen_by g.B.Faulty g.B.Bay) g.S.Bins.width g.S.Bins.reads g.S.Bins.sure
 steady g = record {
   summed = g.met.S.Bins.summed;
   width_same = g.met.S.Bins.width_same;

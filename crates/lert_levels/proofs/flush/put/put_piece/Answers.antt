@@ -1,7 +1,8 @@
+use Rattle.lert_bay.specs.Kept.{seen_by}
 use Rattle.std.proofs.Common.{ℕ, Option, refl, ap, sym, get_or}
 use Rattle.lert_levels.{specs.landing.Landed.taken, specs.flush.Merged.{is_of, with_piece}, proofs.flush.MergingLaws.{never_failed, not_malformed}, proofs.flush.PartLaws.landed_one}
 use Rattle.lert_levels.proofs.flush.SteadyLaws.{writes_read, writes_as}
-use Rattle.lert_frames.{proofs.CallLaws.{reads_same, keeps_turned}, specs.Calls.bays_of}
+use Rattle.lert_frames.{proofs.CallLaws.{reads_same, keeps_turned}}
 use Rattle.lert_levels.proofs.flush.put.put_piece.Goals as goal
 
 -- ---- of no part
@@ -9,7 +10,7 @@ use Rattle.lert_levels.proofs.flush.put.put_piece.Goals as goal
 pub returns-in_default : goal.returns-in_default
 returns-in_default g c = record {
   taken = λ own d below. sym (ap (λ (part : Option ℕ). with_piece (is_of part own) c.args.piece (taken (get_or c.args.landings.now own d))) c.in_default.is);
-  writes = writes_as (λ failed. never_failed _ _ failed) (writes_read c.args.landings.now (reads_same (bays_of g.B.Faulty g.B.Bay) g.met.B.Bay.only_now (λ none. none)));
+  writes = writes_as (λ failed. never_failed _ _ failed) (writes_read c.args.landings.now (reads_same (seen_by g.B.Faulty g.B.Bay) g.met.B.Bay.only_now (λ none. none)));
   whole = λ at malformed. never_failed _ _ malformed;
 }
 

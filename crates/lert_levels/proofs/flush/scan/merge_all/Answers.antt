@@ -1,8 +1,9 @@
+use Rattle.lert_bay.specs.Kept.{seen_by}
 use Rattle.std.{proofs.Common.{◌∙◌, [], Ok, get_or, ap, sym, arith}, proofs.lemmas.Result.err_from_is_err_and}
 use Rattle.lert_levels.{specs.landing.Summed.sums_of, proofs.flush.BoundLaws.{came_fits, all_fit, left_less}}
 use Rattle.lert_levels.proofs.flush.GatheringLaws.{nothing, more, gathering_none, gathering_more, breaks_back, sound_by, taken_all, up_so_far}
 use Rattle.lert_levels.{proofs.flush.MergingLaws.{given_at, none_at, never_failed, table_of}, proofs.flush.SteadyLaws.reads_failed}
-use Rattle.lert_frames.{proofs.CallLaws.{reads_then, reads_same, reads_turned}, specs.Calls.bays_of}
+use Rattle.lert_frames.{proofs.CallLaws.{reads_then, reads_same, reads_turned}}
 use Rattle.lert_levels.proofs.flush.scan.merge_all.Goals as goal
 
 pub loop-next-init : goal.loop-next-init
@@ -10,7 +11,7 @@ loop-next-init g c = record {
   lists = nothing (g.S.Streams.count c.args.order.now.streams);
   gathering = gathering_none g.S.Streams g.O.Totals.took c.args.order.now c.args.bay.now c.args.totals.now c.new-sum.result g.met.S.Streams.same_self
       c.requires.unread c.requires.totals c.new-sum.ensures;
-  read = reads_same (bays_of g.B.Faulty g.B.Bay) g.met.B.Bay.only_now (λ none. none);
+  read = reads_same (seen_by g.B.Faulty g.B.Bay) g.met.B.Bay.only_now (λ none. none);
 }
 
 -- ---- a piece

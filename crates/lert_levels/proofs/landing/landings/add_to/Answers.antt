@@ -1,7 +1,6 @@
 use Rattle.std.proofs.Common.{List, map, get_or, set, ap, sym, ◌∙◌}
 use Rattle.std.proofs.lemmas.List.{get_or_default, map-set}
-use Rattle.lert_bay.specs.Kept.{Bays}
-use Rattle.lert_levels.proofs.Bays.{bays_of}
+use Rattle.lert_bay.specs.Kept.{Bays, seen_by}
 use Rattle.lert_frames.proofs.WithinLaws.{turns_to}
 use Rattle.lert_frames.proofs.WriteLaws.{on_ok, on_err_from}
 use Rattle.lert_levels.specs.rows.Landing.{IsApart, LeavesRest}
@@ -13,7 +12,7 @@ use Rattle.lert_levels.proofs.landing.landings.add_to.Given as given
 use Rattle.lert_levels.proofs.landing.landings.add_to.Goals as goal
 
 abbrev bays : (g : given.Over) → Bays g.row.B.Denot
-bays g = bays_of g.B.Faulty g.B.Bay
+bays g = seen_by g.B.Faulty g.B.Bay
 
 pub bounds-landings-part : goal.bounds-landings-part
 bounds-landings-part g c = c.requires.part

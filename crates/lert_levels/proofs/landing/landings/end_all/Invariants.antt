@@ -1,10 +1,9 @@
-use Rattle.lert_bay.specs.Kept.{Bays}
-use Rattle.lert_levels.proofs.Bays.{bays_of}
+use Rattle.lert_bay.specs.Kept.{Bays, seen_by}
 use Rattle.lert_levels.proofs.landing.LandingsLaws.{AreEnding}
 use Rattle.lert_levels.proofs.landing.landings.end_all.Given as goal
 
 abbrev pub bays : (g : goal.Over) → Bays g.row.B.Denot
-bays g = bays_of g.B.Faulty g.B.Bay
+bays g = seen_by g.B.Faulty g.B.Bay
 
 -- the landings so far ended
 abbrev pub invariant-loop-landing : goal.invariant-loop-landing

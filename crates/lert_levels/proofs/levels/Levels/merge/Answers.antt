@@ -2,8 +2,7 @@ use Rattle.std.proofs.Common.{◌≡◌, ◌+◌, ◌*◌, ◌-◌, ◌≤◌, �
 use Rattle.std.specs.Prelude.{OnOk, vec_capacity}
 use Rattle.std.proofs.lemmas.List.{length-take, length-take-le}
 use Rattle.lert_bay.specs.declared.bay.TheConstants.{FRAMES}
-use Rattle.lert_bay.specs.Kept.{Bays}
-use Rattle.lert_levels.proofs.Bays.{bays_of}
+use Rattle.lert_bay.specs.Kept.{Bays, seen_by}
 use Rattle.lert_levels.specs.landing.Landings.{AreLandings}
 use Rattle.lert_levels.specs.declared.landing.landing.Landing.{Landing}
 use Rattle.lert_levels.specs.declared.rows.bin_at.BinAt.{BinAt}
@@ -24,7 +23,7 @@ use Rattle.lert_levels.proofs.levels.Levels.merge.Goals as goal
 use Rattle.lert_levels.proofs.levels.Levels.merge.Goals.{After-depth-depth}
 
 abbrev bays : (g : given.Over) → Bays g.row.B.Denot
-bays g = bays_of g.B.Faulty g.B.Bay
+bays g = seen_by g.B.Faulty g.B.Bay
 
 pub depth-depth-requires : goal.depth-depth-requires
 depth-depth-requires g c = record {

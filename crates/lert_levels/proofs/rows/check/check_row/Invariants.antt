@@ -1,13 +1,12 @@
 use Rattle.std.proofs.Common.{◌≡◌, Some, None, map, take}
 use Rattle.lert_bay.specs.declared.bay.TheConstants.{FRAMES}
 use Rattle.lert_bay.specs.Files.{Files}
-use Rattle.lert_bay.specs.Kept.{Bays, OnlyReads}
-use Rattle.lert_levels.proofs.Bays.{bays_of}
+use Rattle.lert_bay.specs.Kept.{Bays, OnlyReads, seen_by}
 use Rattle.lert_levels.specs.rows.Checked.{RowStands, bin_left, first_of}
 use Rattle.lert_levels.proofs.rows.check.check_row.Given as goal
 
 abbrev pub bays : (g : goal.Over) → Bays g.row.B.Denot
-bays g = bays_of g.B.Faulty g.B.Bay
+bays g = seen_by g.B.Faulty g.B.Bay
 
 -- the bins so far stand, and nothing was changed
 abbrev pub invariant-loop-bin : goal.invariant-loop-bin

@@ -1,13 +1,12 @@
 use Rattle.std.proofs.Common.{ℕ, ◌≡◌, ◌+◌, ◌<◌, Some, None, [], take, get_or}
 use Rattle.lert_bay.specs.declared.bay.TheConstants.{FRAMES}
 use Rattle.lert_bay.specs.Files.{Files}
-use Rattle.lert_bay.specs.Kept.{Bays, OnlyReads}
-use Rattle.lert_levels.proofs.Bays.{bays_of}
+use Rattle.lert_bay.specs.Kept.{Bays, OnlyReads, seen_by}
 use Rattle.lert_levels.specs.rows.Checked.{RowStands, rows_left}
 use Rattle.lert_levels.proofs.rows.check.check_rows.Given as goal
 
 abbrev pub bays : (g : goal.Over) → Bays g.row.B.Denot
-bays g = bays_of g.B.Faulty g.B.Bay
+bays g = seen_by g.B.Faulty g.B.Bay
 
 -- the levels so far stand, and nothing was changed
 abbrev pub invariant-loop-lower : goal.invariant-loop-lower

@@ -1,7 +1,6 @@
 use Rattle.std.proofs.Common.{ℕ, ap}
 use Rattle.lert_bay.specs.declared.bay.TheConstants.{JOURNAL}
-use Rattle.lert_bay.specs.Kept.{Bays}
-use Rattle.lert_levels.proofs.Bays.{bays_of}
+use Rattle.lert_bay.specs.Kept.{Bays, seen_by}
 use Rattle.lert_bay.proofs.KeptLaws.{IsLawful, keeps_call}
 use Rattle.lert_levels.specs.rows.Landing.{Anywhere}
 use Rattle.lert_levels.proofs.rows.LandLaws.{sync_rest, synced_was, synced_durable}
@@ -9,7 +8,7 @@ use Rattle.lert_levels.proofs.rows.sync.sync_frames.Given as given
 use Rattle.lert_levels.proofs.rows.sync.sync_frames.Goals as goal
 
 abbrev bays : (g : given.Over) → Bays g.row.B.Denot
-bays g = bays_of g.B.Faulty g.B.Bay
+bays g = seen_by g.B.Faulty g.B.Bay
 
 lawful : (g : given.Over) → IsLawful (bays g)
 lawful g = record { as_read = g.met.B.Bay.as_read; since_now = g.met.B.Bay.since_now; only_now = g.met.B.Bay.only_now; since_earlier = g.met.B.Bay.since_earlier }

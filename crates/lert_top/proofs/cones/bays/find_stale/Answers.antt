@@ -1,7 +1,7 @@
 use Rattle.std.proofs.Common.{◌≡◌, ◌<◌, ◌≤◌, ℕ, List, length, slice_get, Some, refl, arith, rules}
 use Rattle.std.proofs.lemmas.Option.{slice_get_read}
 use Rattle.lert_bay.specs.Files.{Files}
-use Rattle.lert_bay.specs.Kept.{Bays, OnlyReads}
+use Rattle.lert_bay.specs.Kept.{Bays, OnlyReads, seen_by}
 use Rattle.lert_ingest.specs.Bays.{AreLater}
 use Rattle.lert_ingest.proofs.BayLaws.{are_same}
 use Rattle.lert_ingest.proofs.EachLaws.{kept_same}
@@ -9,20 +9,12 @@ use Rattle.lert_top.proofs.cones.FreshLaws.{IsLooked, failed_unmade, looked_all,
 use Rattle.lert_top.proofs.cones.bays.find_stale.Given as given
 use Rattle.lert_top.proofs.cones.bays.find_stale.Goals as goal
 
-abbrev seen_by : (g : given.Over) → Bays g.row.B.Denot
-seen_by g = record {
-  faults = g.B.Faulty.faults;
-  mark = g.B.Faulty.mark;
-  files = g.B.Bay.files;
-  leaves = g.B.Bay.leaves;
-  moment = g.B.Bay.moment;
-  left_since = g.B.Bay.left_since;
-  handed_out = g.B.Bay.handed_out;
-}
+abbrev bays_in : (g : given.Over) → Bays g.row.B.Denot
+bays_in g = seen_by g.B.Faulty g.B.Bay
 
 -- one more look, behind those at the bays below
 looked : (g : given.Over) (first bays : List g.row.B.Denot) (cone : ℕ) (old new : g.row.B.Denot) {Failed : Type 0} → AreLater g.B.Bay.files g.B.Faulty.faults g.B.Faulty.mark first bays →
-    ((other : ℕ) → cone ≤ other → slice_get bays other ≡ slice_get first other) → slice_get bays cone ≡ Some old → OnlyReads (seen_by g) old new Failed →
+    ((other : ℕ) → cone ≤ other → slice_get bays other ≡ slice_get first other) → slice_get bays cone ≡ Some old → OnlyReads (bays_in g) old new Failed →
     IsLooked g.B.Bay.files g.B.Faulty.faults g.B.Faulty.mark first bays cone old new
 looked g first bays cone old new later rest found reads = record {
   later = later;

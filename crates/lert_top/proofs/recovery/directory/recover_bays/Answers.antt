@@ -8,7 +8,7 @@ use Rattle.lert_text.specs.Page.{IsCut}
 use Rattle.lert_top.specs.cones.Print.{ArePrintable, printed_as}
 use Rattle.lert_top.specs.recovery.Recovered.{AreRecovered, printed, printed_partly, unopened, unopened_memory}
 use Rattle.lert_top.proofs.recovery.RecoverLaws.{all_formed, open_printable, open_recovered}
-use Rattle.lert_bay.specs.Kept.{Bays}
+use Rattle.lert_bay.specs.Kept.{Bays, seen_by}
 use Rattle.lert_bay.proofs.KeptLaws.{IsLawful}
 use Rattle.lert_top.specs.recovery.Moments.{AreReread}
 use Rattle.lert_top.proofs.recovery.MomentLaws.{reread_same}
@@ -16,15 +16,7 @@ use Rattle.lert_top.proofs.recovery.directory.recover_bays.Given as given
 use Rattle.lert_top.proofs.recovery.directory.recover_bays.Goals as goal
 
 abbrev bays_in : (g : given.Over) → Bays g.row.B.Denot
-bays_in g = record {
-  faults = g.B.Faulty.faults;
-  mark = g.B.Faulty.mark;
-  files = g.B.Bay.files;
-  leaves = g.B.Bay.leaves;
-  moment = g.B.Bay.moment;
-  left_since = g.B.Bay.left_since;
-  handed_out = g.B.Bay.handed_out;
-}
+bays_in g = seen_by g.B.Faulty g.B.Bay
 
 lawful : (g : given.Over) → IsLawful (bays_in g)
 lawful g = record { as_read = g.met.B.Bay.as_read; since_now = g.met.B.Bay.since_now; only_now = g.met.B.Bay.only_now; since_earlier = g.met.B.Bay.since_earlier }

@@ -11,22 +11,14 @@ use Rattle.lert_place.specs.Openings.{bays_granted}
 use Rattle.lert_top.proofs.recovery.JournalLaws.{journals_same}
 use Rattle.lert_top.proofs.recovery.SoundLaws.{sound_same}
 use Rattle.lert_top.proofs.recovery.RecoverEnding.{has_recovered, recovery_not_place_fault, recovery_not_usage}
-use Rattle.lert_bay.specs.Kept.{Bays}
+use Rattle.lert_bay.specs.Kept.{Bays, seen_by}
 use Rattle.lert_top.specs.recovery.Moments.{AreSpared}
 use Rattle.lert_top.proofs.recovery.MomentLaws.{returned_sound}
 use Rattle.lert_top.proofs.recovery.directory.recover_to.Given as given
 use Rattle.lert_top.proofs.recovery.directory.recover_to.Goals as goal
 
 abbrev bays_in : (g : given.Over) → Bays g.row.P-Bay.Denot
-bays_in g = record {
-  faults = g.P.Bay.Faulty.faults;
-  mark = g.P.Bay.Faulty.mark;
-  files = g.P.Bay.Bay.files;
-  leaves = g.P.Bay.Bay.leaves;
-  moment = g.P.Bay.Bay.moment;
-  left_since = g.P.Bay.Bay.left_since;
-  handed_out = g.P.Bay.Bay.handed_out;
-}
+bays_in g = seen_by g.P.Bay.Faulty g.P.Bay.Bay
 
 pub returns-in-Err : goal.returns-in-Err
 returns-in-Err g c = record {

@@ -4,7 +4,7 @@ use Rattle.lert_ingest.specs.Bays.{bays_of}
 use Rattle.lert_top.specs.recovery.Recovered.{IsUnopened, unopened_memory}
 use Rattle.std.proofs.lemmas.Result.{err_from_is_err_and}
 use Rattle.lert_top.proofs.cones.ConeLaws.{cones_and_left}
-use Rattle.lert_bay.specs.Kept.{Bays}
+use Rattle.lert_bay.specs.Kept.{Bays, seen_by}
 use Rattle.lert_bay.proofs.KeptLaws.{IsLawful}
 use Rattle.lert_top.specs.recovery.Moments.{AreReread}
 use Rattle.lert_top.proofs.recovery.MomentLaws.{reread_same}
@@ -12,15 +12,7 @@ use Rattle.lert_top.proofs.recovery.reopened_cones.reopen_cones.Given as given
 use Rattle.lert_top.proofs.recovery.reopened_cones.reopen_cones.Goals as goal
 
 abbrev bays : (g : given.Over) → Bays g.row.B.Denot
-bays g = record {
-  faults = g.B.Faulty.faults;
-  mark = g.B.Faulty.mark;
-  files = g.B.Bay.files;
-  leaves = g.B.Bay.leaves;
-  moment = g.B.Bay.moment;
-  left_since = g.B.Bay.left_since;
-  handed_out = g.B.Bay.handed_out;
-}
+bays g = seen_by g.B.Faulty g.B.Bay
 
 lawful : (g : given.Over) → IsLawful (bays g)
 lawful g = record { as_read = g.met.B.Bay.as_read; since_now = g.met.B.Bay.since_now; only_now = g.met.B.Bay.only_now; since_earlier = g.met.B.Bay.since_earlier }

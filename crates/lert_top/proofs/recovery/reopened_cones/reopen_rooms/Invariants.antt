@@ -1,7 +1,7 @@
 use Rattle.std.proofs.Common.{◌≡◌, ◌+◌, ◌^◌, ◌≤◌, List, ◌++◌, length}
 use Rattle.std.specs.Prelude.{All, vec_capacity}
 use Rattle.std.specs.VecDeque.{deque_capacity}
-use Rattle.lert_bay.specs.Kept.{Bays}
+use Rattle.lert_bay.specs.Kept.{Bays, seen_by}
 use Rattle.lert_ingest.specs.Bays.{bays_of}
 use Rattle.lert_ingest.specs.Cones.{IsNewRoom}
 use Rattle.lert_top.specs.recovery.Moments.{AreReread}
@@ -9,15 +9,7 @@ use Rattle.lert_top.specs.recovery.Recovered.{AreOpenOver}
 use Rattle.lert_top.proofs.recovery.reopened_cones.reopen_rooms.Given as goal
 
 abbrev pub bays : (g : goal.Over) → Bays g.row.B.Denot
-bays g = record {
-  faults = g.B.Faulty.faults;
-  mark = g.B.Faulty.mark;
-  files = g.B.Bay.files;
-  leaves = g.B.Bay.leaves;
-  moment = g.B.Bay.moment;
-  left_since = g.B.Bay.left_since;
-  handed_out = g.B.Bay.handed_out;
-}
+bays g = seen_by g.B.Faulty g.B.Bay
 
 -- a cone over each bay so far
 abbrev pub invariant-loop-number : goal.invariant-loop-number

@@ -1,10 +1,11 @@
+use Rattle.lert_bay.specs.Kept.{Bays, seen_by}
 use Rattle.lert_base.specs.Entries.{packet_of}
-use Rattle.lert_cone.proofs.{Bays.{Bays, bays_of}, HeldLaws.{answers_under, refuses_under}}
+use Rattle.lert_cone.proofs.{HeldLaws.{answers_under, refuses_under}}
 use Rattle.lert_cone.proofs.cone.held.ConeHeld.apply.Given as given
 use Rattle.lert_cone.proofs.cone.held.ConeHeld.apply.Goals as goal
 
 abbrev bays : (g : given.Over) → Bays g.row.B.Denot
-bays g = bays_of g.B.Faulty g.B.Bay
+bays g = seen_by g.B.Faulty g.B.Bay
 
 pub returns-clause-answers : goal.returns-clause-answers
 returns-clause-answers g c =

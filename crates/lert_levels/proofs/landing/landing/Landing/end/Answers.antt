@@ -1,8 +1,7 @@
 use Rattle.std.proofs.Common.{◌++◌, Option, refl, ap, ◌∙◌}
 use Rattle.std.specs.Prelude.{option_to_list}
 use Rattle.lert_bay.specs.declared.bay.TheConstants.{FRAMES}
-use Rattle.lert_bay.specs.Kept.{Bays}
-use Rattle.lert_levels.proofs.Bays.{bays_of}
+use Rattle.lert_bay.specs.Kept.{Bays, seen_by}
 use Rattle.lert_frames.proofs.WriteLaws.{on_ok}
 use Rattle.lert_spec.specs.declared.piece.Piece.{Piece}
 use Rattle.lert_levels.specs.landing.Landed.{taken}
@@ -11,7 +10,7 @@ use Rattle.lert_levels.proofs.landing.landing.Landing.end.Given as given
 use Rattle.lert_levels.proofs.landing.landing.Landing.end.Goals as goal
 
 abbrev bays : (g : given.Over) → Bays g.row.B.Denot
-bays g = bays_of g.B.Faulty g.B.Bay
+bays g = seen_by g.B.Faulty g.B.Bay
 
 pub end_frame-ended-requires : goal.end_frame-ended-requires
 end_frame-ended-requires g c = can_end c.args.self.now c.take-last.result c.take-last.ensures.finished

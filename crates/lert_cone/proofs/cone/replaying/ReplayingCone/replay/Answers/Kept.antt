@@ -1,7 +1,8 @@
 -- What a replay of one record keeps of its cone, at each of its exits.
+use Rattle.lert_bay.specs.Kept.{Bays, seen_by}
 use Rattle.std.proofs.Common.{◌≡◌, ◌∙◌, ◌*◌, ◌++◌, length, take, drop, None, refl, sym, ap, subst, arith}
 use Rattle.lert_base.specs.Entries.{packet_of}
-use Rattle.lert_cone.proofs.{Bays.{Bays, bays_of}, ReplayCalls.{length_more, lent_again, listing_more, moved_on, refilled, refilled_twice}}
+use Rattle.lert_cone.proofs.{ReplayCalls.{length_more, lent_again, listing_more, moved_on, refilled, refilled_twice}}
 use Rattle.lert_cone.proofs.{ReplayStands.{near_then, read_settled, read_shut, settled_then, stopped_cone}, FaultLaws.{turns_as, turns_on}}
 use Rattle.lert_bay.proofs.KeptLaws.{IsLawful}
 use Rattle.lert_gatelog.specs.Gated.{Log}
@@ -12,7 +13,7 @@ use Rattle.lert_cone.proofs.cone.replaying.ReplayingCone.replay.Given as given
 use Rattle.lert_cone.proofs.cone.replaying.ReplayingCone.replay.Goals as goal
 
 abbrev pub bays : (g : given.Over) → Bays g.row.B.Denot
-bays g = bays_of g.B.Faulty g.B.Bay
+bays g = seen_by g.B.Faulty g.B.Bay
 
 pub lawful : (g : given.Over) → IsLawful (bays g)
 lawful g = record { as_read = g.met.B.Bay.as_read; since_now = g.met.B.Bay.since_now; only_now = g.met.B.Bay.only_now; since_earlier = g.met.B.Bay.since_earlier }
