@@ -30,10 +30,3 @@ lasts_on first middle last since_first since_middle since_last one two earlier =
   ];
   kept = λ t image early past. two.kept t image (omega (arith, early, one.later)) (one.kept t image early past);
 }
-
--- what each image now has, and each since the first moment had before the call, each since then has after it
-pub always_more : (first middle last : ℕ) (since_middle since_last : ℕ → Files → Type 0) (leaves : Files → Type 0) (P : Files → Type 0) → first ≤ middle →
-    Elapses middle last since_middle since_last leaves → ((image : Files) → since_middle first image → P image) → ((image : Files) → leaves image → P image) → (image : Files) →
-    since_last first image → P image
-always_more first middle last since_middle since_last leaves P early elapsed before now image since =
-    elim (elapsed.known first image early since) [ inl past ↦ before image past | inr present ↦ now image present ]

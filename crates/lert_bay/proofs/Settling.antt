@@ -1,11 +1,10 @@
 -- Settled ranges through calls: what a write leaves alone, every image keeps.
-use Rattle.std.proofs.Common.{◌≡◌, ◌≢◌, ℕ, ◌+◌, ◌-◌, ◌<◌, ◌≤◌, List, [], length, take, get_or, sym, ap, ◌∙◌, ◌⊎◌, subst, inl, inr, arith, length-take}
+use Rattle.std.proofs.Common.{◌≡◌, ℕ, ◌+◌, ◌-◌, ◌<◌, ◌≤◌, List, [], length, take, get_or, sym, ap, ◌∙◌, ◌⊎◌, inl, inr, arith, length-take}
 use Rattle.std.proofs.Common.{length-drop}
-use Rattle.std.proofs.lemmas.Bool.{cases_lt, cases_eq}
+use Rattle.std.proofs.lemmas.Bool.{cases_lt}
 use Rattle.std.proofs.lemmas.List.{get_or-take, get_or-drop, drop_all, ext_get_or, length-take-le}
-use Rattle.lert_bay.specs.Files.{Files, Changes, IsOutside, Torn}
-use Rattle.lert_bay.specs.Images.{Follow, Settles, Elapses}
-use Rattle.lert_bay.specs.Settled.{part, Keeps, IsSettled}
+use Rattle.lert_bay.specs.Files.{IsOutside, Torn}
+use Rattle.lert_bay.specs.Settled.{part}
 
 -- an empty range
 pub part_none : (bytes : List ℕ) (from to : ℕ) → to ≤ from → part bytes from to ≡ []
@@ -47,36 +46,3 @@ part_torn at count old new seen from to torn same within apart = elim (cases_lt 
     outside : (place : ℕ) → from ≤ place → place < to → (to ≤ at) ⊎ (at + count ≤ from) → IsOutside at count place
     outside place above below (inl behind) = inl (omega (arith, below, behind))
     outside place above below (inr before) = inr (omega (arith, above, before))
-
--- a write keeps what is settled in the other files, and in its own file outside of its range
-pub keeps_write : (before after : Files → Type 0) (seen : Files) (file number at count from to : ℕ) → Follow (Changes (Torn at count) file) before after →
-    Keeps before seen number from to → to ≤ length (seen number) → (number ≢ file) ⊎ ((to ≤ at) ⊎ (at + count ≤ from)) → Keeps after seen number from to
-keeps_write before after seen file number at count from to follow keeps within apart image may =
-    let came = follow.comes image may in
-    elim apart [
-      | inl other ↦ ap (λ bytes. part bytes from to) (came.2.others number other) ∙ keeps came.0 came.1
-      | inr clear ↦ elim (cases_eq number file) [
-        | inr other ↦ ap (λ bytes. part bytes from to) (came.2.others number other) ∙ keeps came.0 came.1
-        | inl same ↦ part_torn at count (came.0 number) (image number) (seen number) from to (subst (λ (n : ℕ). Torn at count (came.0 n) (image n)) (sym same) came.2.here)
-            (keeps came.0 came.1) within clear
-      ]
-    ]
-
--- a sync keeps what is settled, and settles its file as far as it reaches
-pub keeps_sync : (before after : Files → Type 0) (seen : Files) (file number from to : ℕ) (bytes : List ℕ) → Settles file bytes before after → Keeps before seen number from to →
-    Keeps after seen number from to
-keeps_sync before after seen file number from to bytes settles keeps image may = keeps image (settles.was image may)
-
-pub settled_by_sync : (before after : Files → Type 0) (seen : Files) (file from to : ℕ) → Settles file (seen file) before after → to ≤ length (seen file) →
-    IsSettled after seen file from to
-settled_by_sync before after seen file from to settles within = record {
-  within = within;
-  same = λ image may. ap (λ bytes. part bytes from to) (settles.durable image may);
-}
-
--- what each image of each earlier moment and each image now keeps, each image since keeps
-pub keeps_time : (before after : ℕ) (since_before since_after : ℕ → Files → Type 0) (leaves : Files → Type 0) (t : ℕ) (seen : Files) (number from to : ℕ) →
-    Elapses before after since_before since_after leaves → t ≤ before → Keeps (since_before t) seen number from to → Keeps leaves seen number from to →
-    Keeps (since_after t) seen number from to
-keeps_time before after since_before since_after leaves t seen number from to elapsed early earlier now image since =
-    elim (elapsed.known t image early since) [ inl past ↦ earlier image past | inr present ↦ now image present ]

@@ -1,5 +1,5 @@
 -- What a reader has to come, and what a writer wrote, stays through writes into other places of the file.
-use Rattle.std.proofs.Common.{◌≡◌, ◌↔◌, ℕ, ◌+◌, ◌≤◌, ◌⊎◌, List, [], ◌++◌, length, Option, Some, None, refl, sym, ap, ap₂, ◌∙◌, subst, inl, inr, ⊎_elim, arith}
+use Rattle.std.proofs.Common.{◌≡◌, ◌↔◌, ℕ, ◌+◌, ◌≤◌, ◌⊎◌, List, [], ◌++◌, length, Option, Some, None, sym, ap, ap₂, ◌∙◌, subst, inl, inr, ⊎_elim, arith}
 use Rattle.lert_bay.{specs.declared.bay.TheConstants.FRAMES, specs.Files.Files}
 use Rattle.lert_blocks.specs.Walk.{Found}
 use Rattle.lert_frames.{specs.Apart.{SamePlace, IsSure}, specs.Decoded.decoder_found, specs.Frame.{HoldsFrame, frame_text, frame_found, frame_left, frame_pieces, judged}, specs.Outlet.IsOut}
@@ -8,7 +8,7 @@ use Rattle.lert_frames.{specs.ToCome.{known_or, left_of, pieces_of, ready_of, if
 use Rattle.lert_frames.{specs.declared.reader.FrameReader.FrameReader, specs.declared.reader.Sum.Sum, specs.declared.reader.Sum.TheVariants.{Left, Over}}
 use Rattle.lert_frames.{specs.declared.writer.FrameWriter.FrameWriter, proofs.CheckLaws.summed_parts, proofs.KeptPlaceLaws.{blocks_kept, decoder_kept}}
 use Rattle.lert_frames.{proofs.OutletLaws.{out_elsewhere, out_reaches}, proofs.ReadingLaws.never_over, proofs.SamePlaceLaws.{same_part, text_stays}, proofs.StandsLaws.between_of}
-use Rattle.lert_spec.{specs.declared.numbers.Numbers.Numbers, specs.declared.piece.Piece.Piece, specs.Edges.width}
+use Rattle.lert_spec.{specs.declared.numbers.Numbers.Numbers, specs.Edges.width}
 
 -- ---- a reader
 
@@ -77,19 +77,6 @@ frame_stays s level frame wide old new sure kept =
     let found = frame_found s level frame old in
     ap (judged wide (frame_place s level frame)) (frame_found_stays s level frame old new kept
     (⊎_elim (λ long. inl long) (λ whole. inr (summed_parts wide (frame_place s level frame) found.pieces found.left whole).0) sure))
-
-pub frame_pieces_stay : (s : Numbers) (level frame wide : ℕ) (old new : List ℕ) → frame_left s level frame wide old ≡ None →
-    SamePlace (frame_place s level frame) (frame_len s level) old new → frame_pieces s level frame new ≡ frame_pieces s level frame old
-frame_pieces_stay s level frame wide old new whole kept =
-    let found = frame_found s level frame old in
-    ap (λ (found : Found). found.pieces) (frame_found_stays s level frame old new kept (inr (summed_parts wide (frame_place s level frame) found.pieces found.left whole).0))
-
--- and a text that stands there
-pub holds_stays : (s : Numbers) (level frame : ℕ) (old new : List ℕ) (pieces : List Piece) → length (frame_text s level pieces) ≤ frame_len s level →
-    HoldsFrame s level frame old pieces → SamePlace (frame_place s level frame) (frame_len s level) old new → HoldsFrame s level frame new pieces
-holds_stays s level frame old new pieces fits holds kept =
-    let place = frame_place s level frame in
-    text_stays place (frame_len s level) old new kept place (place + length (frame_text s level pieces)) (frame_text s level pieces) (omega arith) (omega (arith, fits)) refl holds
 
 -- ---- a writer
 

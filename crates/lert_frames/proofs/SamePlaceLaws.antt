@@ -2,7 +2,7 @@
 use Rattle.std.{proofs.Common.{◌≡◌, ℕ, ◌+◌, ◌-◌, ◌≤◌, ◌⊎◌, min, List, length, take, drop, Some, refl, sym, ap, ◌∙◌, inl, inr, arith, length-drop, length-take}, proofs.lemmas.Bool.cases_lt}
 use Rattle.std.proofs.lemmas.List.{drop-drop}
 use Rattle.lert_bay.{specs.Files.{Files, Torn}, specs.Kept.Bays, specs.Settled.part, specs.declared.bay.TheConstants.FRAMES, proofs.Settling.{part_none, part_torn}}
-use Rattle.lert_frames.{specs.Apart.SamePlace, specs.Kept.WritesWithin, proofs.PartLaws.part_less, proofs.WithinLaws.turned}
+use Rattle.lert_frames.{specs.Apart.SamePlace, proofs.PartLaws.part_less}
 
 -- ---- what stands in the place
 
@@ -28,36 +28,3 @@ module _ (place len : ℕ) (old new : List ℕ) (kept : SamePlace place len old 
   ]
 
 -- ---- which files are such ones
-
-pub same_place_none : (place len : ℕ) (file : List ℕ) → SamePlace place len file file
-same_place_none place len file = record { longer = omega arith; same = refl }
-
-pub same_place_on : (place len : ℕ) (old middle new : List ℕ) → SamePlace place len old middle → SamePlace place len middle new → SamePlace place len old new
-same_place_on place len old middle new one two =
-    let longer = one.longer in
-    let last = two.longer in
-    let end = min (place + len) (length old) in
-    record {
-      longer = omega (arith, longer, last);
-      same = same_part place len middle new two place end (omega arith) (omega arith) (omega (arith, longer)) ∙ one.same;
-    }
-
--- a write that isn't sure to be whole, before the place or behind it
-pub same_place_torn : (place len at count : ℕ) (old new : List ℕ) → Torn at count old new → (place + len ≤ at) ⊎ (at + count ≤ place) → SamePlace place len old new
-same_place_torn place len at count old new torn apart =
-    let end = min (place + len) (length old) in
-    record { longer = torn.no_shorter; same = part_torn at count old new old place end torn refl (omega arith) (beside apart) }
-  where
-    beside : (place + len ≤ at) ⊎ (at + count ≤ place) → (min (place + len) (length old) ≤ at) ⊎ (at + count ≤ place)
-    beside (inl before) = inl (omega (arith, before))
-    beside (inr behind) = inr behind
-
--- a writer's calls in another place
-pub same_place_within : {B : Type 0} (bays : Bays B) (begin end place len : ℕ) (before after : B) (seen later : Files) → bays.files before ≡ Some seen → bays.files after ≡ Some later →
-    WritesWithin bays begin end before after → begin ≤ end → (place + len ≤ begin) ⊎ (end ≤ place) → SamePlace place len (seen FRAMES) (later FRAMES)
-same_place_within bays begin end place len before after seen later told told_then wrote order apart =
-    same_place_torn place len begin (end - begin) (seen FRAMES) (later FRAMES) (turned bays begin end before after seen later told told_then wrote).here.torn (beside apart)
-  where
-    beside : (place + len ≤ begin) ⊎ (end ≤ place) → (place + len ≤ begin) ⊎ (begin + (end - begin) ≤ place)
-    beside (inl low) = inl low
-    beside (inr high) = inr (omega (arith, order, high))

@@ -151,7 +151,3 @@ module _ {B : Type 0} (bays : Bays B) (begin end : ℕ) where
         beside : (to ≤ begin) ⊎ (end ≤ from) → (to ≤ begin) ⊎ (begin + (end - begin) ≤ from)
         beside (inl low) = inl low
         beside (inr high) = inr (omega (arith, order, high))
-
-    -- and so do the other files
-    pub others_within : (number : ℕ) → number ≢ FRAMES → later number ≡ seen number
-    others_within number other = turned.others number other

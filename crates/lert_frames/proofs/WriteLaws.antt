@@ -1,10 +1,10 @@
 -- Several writes one behind the other are one write of all their bytes.
 use Rattle.std.proofs.Common.{◌≡◌, ◌≢◌, ℕ, ◌+◌, ◌-◌, ◌<◌, ◌≤◌, List, ◌++◌, length, take, drop, get_or, Option, Some, None, Result, replicate, refl, sym, ap, ◌∙◌, ◌⊎◌, subst, inl, inr, arith}
 use Rattle.std.{proofs.Common.length-append, specs.Prelude.{OnOk, OnErr, Ok, Err, IsErrOf}, proofs.lemmas.Option.none-some, proofs.lemmas.Bool.{cases_lt, cases_eq}}
-use Rattle.std.proofs.lemmas.List.{get_or_append_left, get_or-append_right, get_or_past, ext_get_or, length-take-le}
+use Rattle.std.proofs.lemmas.List.{get_or_append_left, get_or-append_right, ext_get_or, length-take-le}
 use Rattle.lert_bay.{specs.Files.{Files, Turns, Changes, Holds, padded, IsOutside, Torn, LeftByFailure}, specs.Images.{ComesByWrite, Follow, Elapses}, specs.Kept.{Bays, KeepsBay}}
 use Rattle.lert_bay.{specs.Settled.part, proofs.Laid.{length_held, elsewhere_held}, proofs.KeptLaws.IsLawful, proofs.Settling.{part_torn, part_at, length_part}}
-use Rattle.lert_bay.proofs.Tearing.{comes_same, torn_held}
+use Rattle.lert_bay.proofs.Tearing.{comes_same}
 use Rattle.lert_frames.specs.Kept.{Wrote, KeepsOutside}
 use lib.ListN.{length-replicate}
 
@@ -22,85 +22,6 @@ inside_held at bytes old new held k below =
     ∙ (get_or_append_left (front ++ bytes) (drop (at + length bytes) old) 0 (at + k) (omega (arith, length-append front bytes, long, below))
     ∙ (get_or-append_right front bytes at (at + k) 0 long (omega arith)
     ∙ ap (λ n. get_or bytes n 0) (omega arith)))
-
--- two writes, the second right behind the first
-pub held_on : (at : ℕ) (first second old middle new : List ℕ) → Holds at first old middle → Holds (at + length first) second middle new → Holds at (first ++ second) old new
-held_on at first second old middle new one two =
-    let whole = take at (padded old at) ++ (first ++ second) ++ drop (at + length (first ++ second)) old in
-    let both : length (first ++ second) ≡ length first + length second = length-append first second in
-    let long : length new ≡ length whole =
-    omega (arith, length_held at first old middle one, length_held (at + length first) second middle new two, length_held at (first ++ second) old whole refl, both) in
-    ext_get_or 0 new whole long (λ place below. elim (cases_lt place at) [
-      | inl before ↦
-          elsewhere_held (at + length first) second middle new two place (inl (omega (arith, before)))
-          ∙ (elsewhere_held at first old middle one place (inl before) ∙ sym (elsewhere_held at (first ++ second) old whole refl place (inl before)))
-      | inr reached ↦ elim (cases_lt place (at + length first)) [
-        | inl in_first ↦
-            let k = place - at in
-            let is : place ≡ at + k = omega (arith, reached) in
-            elsewhere_held (at + length first) second middle new two place (inl in_first)
-            ∙ (ap (λ n. get_or middle n 0) is
-            ∙ (inside_held at first old middle one k (omega (arith, reached, in_first))
-            ∙ (sym (get_or_append_left first second 0 k (omega (arith, reached, in_first)))
-            ∙ (sym (inside_held at (first ++ second) old whole refl k (omega (arith, reached, in_first, both)))
-            ∙ ap (λ n. get_or whole n 0) (sym is)))))
-        | inr past_first ↦ elim (cases_lt place (at + length (first ++ second))) [
-          | inl in_second ↦
-              let k = place - (at + length first) in
-              let is : place ≡ at + length first + k = omega (arith, past_first) in
-              let also : place ≡ at + (length first + k) = omega (arith, past_first) in
-              ap (λ n. get_or new n 0) is
-              ∙ (inside_held (at + length first) second middle new two k (omega (arith, past_first, in_second, both))
-              ∙ (ap (λ n. get_or second n 0) (omega arith)
-              ∙ (sym (get_or-append_right first second (length first) (length first + k) 0 refl (omega arith))
-              ∙ (sym (inside_held at (first ++ second) old whole refl (length first + k) (omega (arith, past_first, in_second, both)))
-              ∙ ap (λ n. get_or whole n 0) (sym also)))))
-          | inr behind ↦
-              elsewhere_held (at + length first) second middle new two place (inr (omega (arith, behind, both)))
-              ∙ (elsewhere_held at first old middle one place (inr past_first) ∙ sym (elsewhere_held at (first ++ second) old whole refl place (inr behind)))
-        ]
-      ]
-    ])
-
--- a longer range
-outside_less : (at count more place : ℕ) → count ≤ more → IsOutside at more place → IsOutside at count place
-outside_less at count more place fewer (inl before) = inl before
-outside_less at count more place fewer (inr behind) = inr (omega (arith, fewer, behind))
-
-outside_on : (at count more place : ℕ) → IsOutside at (count + more) place → IsOutside (at + count) more place
-outside_on at count more place (inl before) = inl (omega (arith, before))
-outside_on at count more place (inr behind) = inr (omega (arith, behind))
-
-pub torn_wider : (at count more : ℕ) (old new : List ℕ) → count ≤ more → Torn at count old new → Torn at more old new
-torn_wider at count more old new fewer torn = record {
-  no_shorter = torn.no_shorter;
-  no_longer = omega (arith, torn.no_longer, fewer);
-  elsewhere = λ place within outside. torn.elsewhere place within (outside_less at count more place fewer outside);
-}
-
-pub left_wider : (at count more : ℕ) (old new : List ℕ) → count ≤ more → LeftByFailure at count old new → LeftByFailure at more old new
-left_wider at count more old new fewer left = record { torn = torn_wider at count more old new fewer left.torn; gap = left.gap }
-
-pub torn_on : (at count more : ℕ) (old middle new : List ℕ) → Torn at count old middle → Torn (at + count) more middle new → Torn at (count + more) old new
-torn_on at count more old middle new one two = record {
-  no_shorter = omega (arith, one.no_shorter, two.no_shorter);
-  no_longer = omega (arith, one.no_longer, two.no_longer);
-  elsewhere = λ place within outside.
-      two.elsewhere place (omega (arith, within, one.no_shorter)) (outside_on at count more place outside)
-      ∙ one.elsewhere place within (outside_less at count (count + more) place (omega arith) outside);
-}
-
--- a write, and one behind it that failed
-pub left_on : (at more : ℕ) (first old middle new : List ℕ) → Holds at first old middle → LeftByFailure (at + length first) more middle new →
-    LeftByFailure at (length first + more) old new
-left_on at more first old middle new one two =
-    let torn = torn_on at (length first) more old middle new (torn_held at first old middle one) two.torn in
-    record {
-      torn = torn;
-      gap = λ place past before.
-          two.torn.elsewhere place (omega (arith, before, length_held at first old middle one)) (inl (omega (arith, before)))
-          ∙ (elsewhere_held at first old middle one place (inl before) ∙ get_or_past old place 0 past);
-    }
 
 -- ---- all files
 
@@ -135,20 +56,6 @@ turns_weaker file step weaker before after follows turned = record {
 
 -- ---- images
 
-comes_wider : (leaves : Files → Type 0) (file at count more : ℕ) (image : Files) → count ≤ more → ComesByWrite leaves file at count image → ComesByWrite leaves file at more image
-comes_wider leaves file at count more image fewer came =
-    (came.0, came.1, changes_weaker file (Torn at count) (Torn at more) came.0 image (λ a b torn. torn_wider at count more a b fewer torn) came.2)
-
-comes_on : (first middle : Files → Type 0) (file at count next more : ℕ) (image : Files) → next ≡ at + count →
-    ((earlier : Files) → middle earlier → ComesByWrite first file at count earlier) → ComesByWrite middle file next more image → ComesByWrite first file at (count + more) image
-comes_on first middle file at count next more image next_is before came =
-    let earlier = before came.0 came.1 in (
-      earlier.0,
-      earlier.1,
-      changes_on file (Torn at count) (Torn next more) (Torn at (count + more)) earlier.0 came.0 image
-          (λ a b c one two. torn_on at count more a b c one (subst (λ (n : ℕ). Torn n more b c) next_is two)) earlier.2 came.2,
-    )
-
 module _ {B : Type 0} (bays : Bays B) where
   -- one write
   pub wrote_once : IsLawful bays → (step : List ℕ → List ℕ → Type 0) (file at count : ℕ) (before after : B) →
@@ -161,28 +68,6 @@ module _ {B : Type 0} (bays : Bays B) where
     moments = λ image since. elim (elapsed.known (bays.moment before) image (omega arith) since) [
       | inl past ↦ comes_same (bays.leaves before) file at count image (lawful.only_now before image past)
       | inr now ↦ follow.comes image now
-    ];
-  }
-
-  -- a longer range, and less said of the step
-  pub wrote_wider : (step weaker : List ℕ → List ℕ → Type 0) (file at count more : ℕ) (before after : B) →
-      ((a b : List ℕ) → step a b → weaker a b) → count ≤ more → Wrote bays step file at count before after → Wrote bays weaker file at more before after
-  wrote_wider step weaker file at count more before after follows fewer wrote = record {
-    seen = turns_weaker file step weaker (bays.files before) (bays.files after) follows wrote.seen;
-    images = λ image now. comes_wider (bays.leaves before) file at count more image fewer (wrote.images image now);
-    moments = λ image since. comes_wider (bays.leaves before) file at count more image fewer (wrote.moments image since);
-  }
-
-  -- writes, and others right behind them
-  pub wrote_on : (one two both : List ℕ → List ℕ → Type 0) (file at count next more : ℕ) (before between after : B) (First Then : Type 0) →
-      next ≡ at + count → ((a b c : List ℕ) → one a b → two b c → both a c) → KeepsBay bays before between First → KeepsBay bays between after Then →
-      Wrote bays one file at count before between → Wrote bays two file next more between after → Wrote bays both file at (count + more) before after
-  wrote_on one two both file at count next more before between after First Then next_is join kept kept_then first second = record {
-    seen = turns_on file one two both (bays.files before) (bays.files between) (bays.files after) join first.seen second.seen;
-    images = λ image now. comes_on (bays.leaves before) (bays.leaves between) file at count next more image next_is first.images (second.images image now);
-    moments = λ image since. elim (kept_then.time.known (bays.moment before) image kept.time.later since) [
-      | inl past ↦ comes_wider (bays.leaves before) file at count (count + more) image (omega arith) (first.moments image past)
-      | inr later ↦ comes_on (bays.leaves before) (bays.leaves between) file at count next more image next_is first.images (second.moments image later)
     ];
   }
 

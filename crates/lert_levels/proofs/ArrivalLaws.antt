@@ -22,7 +22,7 @@ use Rattle.lert_levels.specs.rows.Loading.{width_of, widths_in, held_in}
 use Rattle.lert_levels.specs.Merged.{streams_of, widths_of, Fills, AreBins}
 use Rattle.lert_levels.specs.Parts.{streams_to, oldest_stream, part_at, list_at, newest_in, in_part, part_table, HaveParts}
 use Rattle.lert_levels.specs.rows.Ranges.{Range, ranges, filled, young_bins}
-use Rattle.lert_levels.specs.rows.Rows.{range_of, row_of, IsAt, newest, begins, arrived, tallied_in, nothing}
+use Rattle.lert_levels.specs.rows.Rows.{range_of, row_of, IsAt, newest, begins, arrived, tallied_in, no_bin}
 use Rattle.lert_levels.proofs.PartLaws.{streams_more, stream_at}
 use Rattle.lert_levels.proofs.rows.RangeLaws.{range_cuts, oldest_is, oldest_young, depth_moves}
 use Rattle.lert_levels.proofs.rows.RowLaws.{row_among, Arrives, arrives}
@@ -36,15 +36,15 @@ newest_at h first rows young k e len below some =
     let row = get_or rows k [] in
     let more = streams_more young rows k below in
     stream_at (λ r. map h r) (λ r. length-map r h) first rows young k (length row - 1) (streams_to young rows (k + 1) - 1) e len below (omega arith) (omega arith)
-    ∙ get_or-map h row (length row - 1) nothing e (omega arith)
+    ∙ get_or-map h row (length row - 1) no_bin e (omega arith)
 
 -- the oldest one of an older level
 oldest_at : {X : Type 0} (h : BinAt → X) (first : List X) (rows : List (List BinAt)) (young k : ℕ) (e : X) → length first ≡ young → k < length rows →
     1 ≤ length (get_or rows k []) →
-    get_or (first ++ flat_map (λ row. map h row) rows) (oldest_stream young rows (suc k)) e ≡ h (get_or (get_or rows k []) 0 nothing)
+    get_or (first ++ flat_map (λ row. map h row) rows) (oldest_stream young rows (suc k)) e ≡ h (get_or (get_or rows k []) 0 no_bin)
 oldest_at h first rows young k e len below some =
     stream_at (λ r. map h r) (λ r. length-map r h) first rows young k 0 (streams_to young rows k) e len below (omega arith) (omega arith)
-    ∙ get_or-map h (get_or rows k []) 0 nothing e (omega arith)
+    ∙ get_or-map h (get_or rows k []) 0 no_bin e (omega arith)
 
 -- one of some bins
 bins_at : (limit : ℕ) (widths : List ℕ) (lists : List (List Piece)) (k : ℕ) → AreBins limit widths lists → k < length lists → Fills limit (get_or widths k 0) (get_or lists k [])
@@ -91,7 +91,7 @@ module _ (s : Numbers) (valid : IsValid s) (m : ℕ) (first : 1 ≤ m) (fits : m
   -- the oldest bin of a level that goes on
   record IsOldest (k : ℕ) (row : List BinAt) : Type 0 where
     some : 1 ≤ length row
-    is : range_of (get_or row 0 nothing) ≡ record { from = edge s (k + 1) (m - 1); to = edge s (k + 1) m }
+    is : range_of (get_or row 0 no_bin) ≡ record { from = edge s (k + 1) (m - 1); to = edge s (k + 1) m }
 
   goes : (k : ℕ) → suc k < depth s m → IsOldest k (get_or (take (depth s m) rows) k [])
   goes k less =
@@ -101,7 +101,7 @@ module _ (s : Numbers) (valid : IsValid s) (m : ℕ) (first : 1 ≤ m) (fits : m
       let some : 1 ≤ length row = omega (arith, length-map row range_of, ap (length {A = Range}) are) in
       record {
         some = some;
-        is = sym (get_or-map range_of row 0 nothing (range_of nothing) some) ∙ ap (λ rs. get_or rs 0 (range_of nothing)) are;
+        is = sym (get_or-map range_of row 0 no_bin (range_of no_bin) some) ∙ ap (λ rs. get_or rs 0 (range_of no_bin)) are;
       }
 
   -- ---- the counts
@@ -201,7 +201,7 @@ module _ (s : Numbers) (valid : IsValid s) (m : ℕ) (first : 1 ≤ m) (fits : m
   oldest_width young some narrow (suc k) less =
       let oldest = goes k less in
       let same : k + 1 ≡ suc k = omega arith in
-      let bin = get_or (get_or (take (depth s m) rows) k []) 0 nothing in
+      let bin = get_or (get_or (take (depth s m) rows) k []) 0 no_bin in
       let is = oldest_at width_of (map (λ (b : Bin). b.to - b.from) young) (take (depth s m) rows) (length young) k 0 (length-map young (λ (b : Bin). b.to - b.from)) (omega (arith, enough))
       oldest.some in
       let from_is = ap (λ (r : Range). r.from) oldest.is ∙ ap (λ i. edge s i (m - 1)) same in
@@ -250,7 +250,7 @@ module _ (s : Numbers) (valid : IsValid s) (m : ℕ) (first : 1 ≤ m) (fits : m
       let oldest = goes k less in
       let arrival = comes k (omega arith) in
       let place : length row - 1 ≡ 0 = omega (arith, one) in
-      let newest_is : newest row ≡ get_or row 0 nothing = ap (λ i. get_or row i nothing) place in
+      let newest_is : newest row ≡ get_or row 0 no_bin = ap (λ i. get_or row i no_bin) place in
       let end_is : edge s (k + 1 - 1) (m - 1) ≡ edge s (k + 1) m = sym (arrival.ends joined) ∙ ap (λ (b : BinAt). b.to) newest_is ∙ ap (λ (r : Range). r.to) oldest.is in
       let aligned : edge s (k + 1 - 1) (m - 1) % span s (k + 1) ≡ 0 = ap (λ e. e % span s (k + 1)) end_is ∙ mul-mod_first (span s (k + 1)) (steps s (k + 1) m) in
       let begun : begins s m (k + 1) ≡ true = eq-eqb (edge s (k + 1 - 1) (m - 1) % span s (k + 1)) 0 aligned in

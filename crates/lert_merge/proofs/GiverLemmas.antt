@@ -125,11 +125,6 @@ givers_less streams givers i are within none =
     givers_most streams (givers ++ giver ∷ []) (givers_push streams givers giver are within none (let one : 1 ≤ 1 = omega arith in one)) in
     let long : length (givers ++ giver ∷ []) ≡ length givers + 1 = length-append givers (giver ∷ []) in omega arith
 
--- where a stream has a share, there is a giver
-pub some_given : (givers : List Giver) (k : ℕ) → 1 ≤ share_in givers k → 1 ≤ length givers
-some_given [] k some = absurd (omega arith)
-some_given (x ∷ givers) k some = let one : 1 ≤ length (x ∷ givers) = omega arith in one
-
 present_shared : (n : ℕ) → 1 ≤ present n → 1 ≤ n
 present_shared zero some = some
 present_shared (suc n) some = omega arith

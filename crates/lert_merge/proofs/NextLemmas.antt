@@ -1,11 +1,10 @@
 -- A refusal, turns behind one another, and what they say of the next piece.
-use Rattle.std.proofs.Common.{◌≡◌, ℕ, ◌<◌, ◌≤◌, false, Option, Some, None, Result, Ok, Err, OnOk, IfSome, List, [], ◌++◌, length, get_or, arith, sym}
+use Rattle.std.proofs.Common.{◌≡◌, ℕ, ◌<◌, false, Option, Some, None, Result, Ok, Err, OnOk, IfSome, [], ◌++◌, length, get_or, arith, sym}
 use Rattle.std.proofs.Common.{ap, ◌∙◌, refl, subst, append-nil}
 use Rattle.lert_base.specs.declared.pieces.PieceFault.{PieceFault}
-use Rattle.lert_io.specs.Fault.{HasRisen}
 use Rattle.lert_io.proofs.Rising.{risen_since}
 use Rattle.lert_spec.specs.declared.piece.Piece.{Piece}
-use Rattle.lert_merge.specs.order.Ordering.{Ordering, AreKnown, AreSame, Breaks, HasTaken}
+use Rattle.lert_merge.specs.order.Ordering.{Ordering, AreKnown, AreSame}
 use Rattle.lert_merge.specs.declared.order.streams.Streams.{Ghosts as StreamsOf}
 use Rattle.lert_merge.proofs.order.AskLemmas.{AreLawful}
 use Rattle.lert_merge.proofs.order.FrontLemmas.{pieces_none}
@@ -13,59 +12,9 @@ use Rattle.lert_merge.proofs.order.StepLemmas.{known_on}
 use Rattle.lert_merge.proofs.order.ToldLemmas.{are_over}
 use Rattle.lert_merge.specs.declared.merge.Turn.{Turn}
 use Rattle.lert_merge.specs.declared.merge.Turn.TheVariants.{Taken, Given}
-use Rattle.lert_merge.specs.Givers.{share_in, AreGivers}
-use Rattle.lert_merge.specs.Merging.{Merging, IsMerging, AreSummedUp, HasSummed, Keeps, GivesSum, Moves, HasTurned, taken_of}
+use Rattle.lert_merge.specs.Givers.{share_in}
+use Rattle.lert_merge.specs.Merging.{Merging, AreSummedUp, HasSummed, Keeps, GivesSum, Moves, HasTurned}
 use Rattle.lert_merge.proofs.GiverLemmas.{share_none}
-
--- the clauses of a step that was refused
-pub record IsRefused {S C : Type 0} (members : StreamsOf S C) (faults mark : C → ℕ) (a : C) (x : Ordering S) (b : C) (y : Ordering S) (fault : PieceFault) : Type 0 where
-  pub taken : (k : ℕ) (pieces : List Piece) → k < members.count x.streams → HasTaken members x k pieces → HasTaken members y k pieces
-  pub untold : (k : ℕ) → k < members.count x.streams → members.to_come x.streams k a ≡ None → members.to_come y.streams k b ≡ None
-  pub last : y.last ≡ x.last
-  pub failed : fault ≡ PieceFault.Failed → HasRisen (faults a) (faults b)
-  pub malformed : (at : ℕ) → fault ≡ PieceFault.Malformed at → Breaks members a x.streams at
-  pub same : AreSame members a x b y
-  pub set : members.same x.streams y.streams
-  pub rises : faults a ≤ faults b
-  pub marked : mark b ≡ mark a
-  pub kept : members.keeps a b
-
-pub turned_refused : {S C : Type 0} (members : StreamsOf S C) (faults mark : C → ℕ) (a b : C) (m seen : Merging S) (y : Ordering S) (fault : PieceFault) → m ≡ seen →
-    IsRefused members faults mark a m.order b y fault →
-    HasTurned members faults mark a seen b (record { order = y; sums = m.sums; is_over = m.is_over }) (Err fault)
-turned_refused {S} members faults mark a b m seen y fault is refused =
-    subst (λ (old : Merging S). HasTurned members faults mark a old b (record { order = y; sums = m.sums; is_over = m.is_over }) (Err fault)) is (record {
-      same = refused.same;
-      set = refused.set;
-      untold = refused.untold;
-      known = tt;
-      moved = record { taken = λ k pieces under was. refused.taken k (pieces ++ taken_of m k) under was; last = refl; shares = λ k. refl };
-      told = λ lists tells. tt;
-      failed = λ at. refused.failed (let is : fault ≡ PieceFault.Failed = cc (at) in is);
-      malformed = λ place at. refused.malformed place (let is : fault ≡ PieceFault.Malformed place = cc (at) in is);
-      rises = refused.rises;
-      marked = refused.marked;
-      kept = refused.kept;
-    })
-
-pub refused_stands : {S C : Type 0} (members : StreamsOf S C) (faults mark : C → ℕ) (a b : C) (m : Merging S) (y : Ordering S) (fault : PieceFault) → IsMerging members m →
-    m.is_over ≡ false → IsRefused members faults mark a m.order b y fault → IsMerging members (record { order = y; sums = m.sums; is_over = m.is_over })
-refused_stands members faults mark a b m y fault is going refused = let many : members.count y.streams ≡ members.count m.order.streams = refused.same.streams in record {
-  few = omega (arith, is.few);
-  room = omega (arith, is.room);
-  same_room = refused.same.room ∙ is.same_room;
-  givers = subst (λ n. AreGivers n m.sums.taken) (sym many) is.givers;
-  parts = λ k under some. let inside : k < members.count m.order.streams = omega (arith, under, many) in let part = is.parts k inside some in record {
-    front = part.front;
-    taken = refused.taken k (part.front ++ _) inside part.taken;
-    below = let limit : members.limit y.streams k ≡ members.limit m.order.streams k = refused.same.limits k inside in
-        let low : m.sums.tail < members.limit m.order.streams k = part.below in omega arith;
-  };
-  last = λ some. refused.last ∙ is.last some;
-  above = is.above;
-  first = is.first;
-  over = λ over. absurd (cc (over, going));
-}
 
 same_on : {S C : Type 0} (members : StreamsOf S C) (a b c : C) (x y z : Ordering S) → AreSame members a x b y → AreSame members b y c z → AreSame members a x c z
 same_on members a b c x y z one two = let many : members.count y.streams ≡ members.count x.streams = one.streams in record {

@@ -53,9 +53,6 @@ module _ (w a high : ℕ) (wide : 1 ≤ w) (ordered : w * a ≤ high) where
   abbrev end : ℕ
   end = (high + w - 1) / w
 
-  meets : ℕ → Bool
-  meets k = nat_lt (max (w * a) (k * w)) (min high ((k + 1) * w))
-
   spread : (k : ℕ) → (k + 1) * w ≡ k * w + w
   spread k = grind arith
 

@@ -12,7 +12,7 @@ use Rattle.lert_spec.specs.declared.numbers.Numbers.{Numbers}
 use Rattle.lert_spec.specs.declared.report.Report.{Report}
 use Rattle.lert_reports.specs.declared.log.LogKind.{LogKind}
 use Rattle.lert_reports.specs.LogRules.{KeepsRules}
-use Rattle.lert_reports.specs.LogText.{LogRecord, kind_number, directory_bytes, report_bytes, log_payload, log_payload_of}
+use Rattle.lert_reports.specs.LogText.{LogRecord, kind_number, report_bytes, log_payload, log_payload_of}
 use Rattle.lert_reports.specs.Log.{is_flush, is_closing, listed_in, last_n0, is_closed, last_directory, last_offset, last_first, last_at, flushes_in, before_of, AreRecords}
 
 -- ---- lists by their last element
@@ -84,21 +84,6 @@ last_at_from at reports = fold (λ earlier report. report.at) at reports
 pub last_at-append : (listed more : List Report) → last_at (listed ++ more) ≡ last_at_from (last_at listed) more
 last_at-append listed more = fold-append (λ (earlier : ℕ) (report : Report). report.at) 0 listed more
 
--- what the next record finds behind one more
-pub before_of-push : (records : List LogRecord) (one : LogRecord) → before_of (records ++ one ∷ []) ≡ record {
-  flushes = flushes_in records + cond (is_flush one.kind) 1 0;
-  n0 = one.n0;
-  reports = length (listed_in records) + length one.reports;
-  at = last_at_from (last_at (listed_in records)) one.reports;
-}
-before_of-push records one =
-    let flushes = flushes_in-push records one in
-    let n0 = last_n0-push records one in
-    let listed = listed_in-push records one in
-    let reports = ap (length {A = Report}) listed ∙ length-append (listed_in records) one.reports in
-    let at = ap last_at listed ∙ last_at-append (listed_in records) one.reports in
-    λ i. record { flushes = flushes i; n0 = n0 i; reports = reports i; at = at i }
-
 -- ---- records that keep the rules
 
 none_split : {A : Type 0} (before behind : List A) (x : A) → [] ≡ before ++ x ∷ behind → ⊥
@@ -151,9 +136,6 @@ log_payload_length kind n0 offset first directory reports =
       length-append head directory,
       length_reports reports,
     )
-
-pub payload_length : (one : LogRecord) → length (log_payload_of one) ≡ 29 + length (directory_bytes one.directory) + 16 * length one.reports
-payload_length one = log_payload_length one.kind one.n0 one.offset one.first (directory_bytes one.directory) one.reports
 
 -- the payloads of records and one more
 pub payloads-push : (records : List LogRecord) (one : LogRecord) → map log_payload_of (records ++ one ∷ []) ≡ map log_payload_of records ++ log_payload_of one ∷ []

@@ -1,21 +1,18 @@
 -- The table of tails as reports are put, and what it tells of a key.
-use Rattle.std.proofs.Common.{◌≡◌, ℕ, ◌+◌, ◌<◌, ◌≤◌, ◌^◌, suc, zero, cond, eqb, ltb, ◌||◌, List, [], ◌∷◌, ◌++◌, length, map, refl, ap, sym, ◌∙◌}
-use Rattle.std.proofs.Common.{subst, arith, inl, inr, length-append}
+use Rattle.std.proofs.Common.{◌≡◌, ℕ, ◌+◌, ◌<◌, ◌≤◌, ◌^◌, suc, cond, eqb, ltb, ◌||◌, List, [], ◌∷◌, length, map, refl, ap, sym, ◌∙◌}
+use Rattle.std.proofs.Common.{subst, arith, inl, inr}
 use Rattle.std.specs.Prelude.{All}
 use Rattle.std.proofs.lemmas.Bool.{cases_eq, eq-eqb, ne_eqb, lt-ltb}
-use Rattle.std.proofs.lemmas.List.{map-append}
-use Rattle.std.proofs.lemmas.List.Elements.{All-append}
 use Rattle.std.proofs.lemmas.List.Sums.{sum_by-cons}
 use Rattle.lert_spec.specs.declared.numbers.Numbers.{Numbers}
 use Rattle.lert_spec.specs.declared.piece.Piece.{Piece}
 use Rattle.lert_spec.specs.declared.report.Report.{Report}
-use Rattle.lert_spec.specs.Bins.{tallied}
 use Rattle.lert_spec.specs.Look.{is_listed}
 use Rattle.lert_spec.specs.Mix.{cone_of, tail_of}
-use Rattle.lert_spec.specs.Table.{count_of, total, plus}
-use Rattle.lert_spec.proofs.MixLaws.{one_key, tail_below, cone_below}
-use Rattle.lert_spec.proofs.TallyLaws.{tails, count_of-tallied, total-tallied, tallied-push}
-use Rattle.lert_reports.specs.Stored.{Stored, IsOfTails, AreStored}
+use Rattle.lert_spec.specs.Table.{count_of, total}
+use Rattle.lert_spec.proofs.MixLaws.{one_key, cone_below}
+use Rattle.lert_spec.proofs.TallyLaws.{tails, count_of-tallied, total-tallied}
+use Rattle.lert_reports.specs.Stored.{Stored, AreStored}
 
 abbrev pub keys_in : List Report → List ℕ
 keys_in reports = map (λ report. report.key) reports
@@ -45,17 +42,6 @@ listed_by_tail s key (report ∷ reports) below fit of =
           ap (ltb 0) some ∙ rest ∙ sym (ap (λ t. t || is_listed key reports) (ne_eqb report.key key differs)))
     ]
 
-all_of_one : (report : Report) → report.key < 2 ^ 64 → All (λ r. r.key < 2 ^ 64) (report ∷ [])
-all_of_one report below zero d within = below
-all_of_one report below (suc k) d within = absurd (omega arith)
-
--- a table of the same numbers
-pub same_numbers : {s : Numbers} {room quotient remainder room' quotient' remainder' : ℕ} → IsOfTails s room quotient remainder →
-    room' ≡ room → quotient' ≡ quotient → remainder' ≡ remainder → IsOfTails s room' quotient' remainder'
-same_numbers {s} {room} {quotient} {remainder} {room'} {quotient'} {remainder'} numbers room_is quotient_is remainder_is =
-    subst (λ q. IsOfTails s room' q remainder') (sym quotient_is)
-    (subst (λ r. IsOfTails s room' quotient r) (sym remainder_is) (subst (λ n. IsOfTails s n quotient remainder) (sym room_is) numbers))
-
 module _ (s : Numbers) (reports : List Report) (capacity : ℕ) (pieces : List Piece) (room quotient remainder : ℕ)
     (kept : AreStored s reports capacity pieces room quotient remainder) where
   -- a count above 0 of a key's tail says that the key is listed
@@ -76,26 +62,6 @@ module _ (s : Numbers) (reports : List Report) (capacity : ℕ) (pieces : List P
       let sum : total pieces ≡ length reports =
       ap total kept.counted ∙ total-tallied s (keys_in reports) ∙ length_keys reports in
       omega (arith, kept.of_tails.events, sum, less)
-
-  pub tail_fits : (key : ℕ) → tail_of s key < 2 ^ (quotient + remainder)
-  tail_fits key = subst (λ bits. tail_of s key < 2 ^ bits) (sym kept.of_tails.whole) (tail_below s key)
-
-  -- one report more, and its tail
-  pub AreStored-more : (report : Report) (capacity' : ℕ) (pieces' : List Piece) (room' quotient' remainder' : ℕ) →
-      length reports < s.room → report.key < 2 ^ 64 → s.room ≤ capacity' → pieces' ≡ plus pieces (tail_of s report.key) 1 →
-      room' ≡ room → quotient' ≡ quotient → remainder' ≡ remainder →
-      AreStored s (reports ++ report ∷ []) capacity' pieces' room' quotient' remainder'
-  AreStored-more report capacity' pieces' room' quotient' remainder' less below reserved added room_is quotient_is remainder_is = record {
-    few = omega (arith, less, length-append reports (report ∷ []));
-    reserved = reserved;
-    keys = All-append (λ r. r.key < 2 ^ 64) reports (report ∷ []) kept.keys (all_of_one report below);
-    counted =
-        added
-        ∙ ap (λ ps. plus ps (tail_of s report.key) 1) kept.counted
-        ∙ sym (tallied-push s (keys_in reports) report.key)
-        ∙ ap (tallied s) (sym (map-append (λ r. r.key) reports (report ∷ [])));
-    of_tails = same_numbers kept.of_tails room_is quotient_is remainder_is;
-  }
 
 -- where there is one cone, all keys are of it
 pub of_one_cone : (s : Numbers) (reports : List Report) (key : ℕ) → s.cone_bits ≡ 0 → key < 2 ^ 64 → All (λ report. report.key < 2 ^ 64) reports →

@@ -6,7 +6,7 @@ use Rattle.std.proofs.lemmas.List.{length-take-le, take-append-le, take-append-d
 use Rattle.std.proofs.lemmas.Slice.{between_is, take-put_mid_below}
 use borrow.Rule.Slice.PartMut.{mid_of, put_mid, post_of, mid_len, same_len_mid}
 use Rattle.lert_io.specs.Reading.{HandsOut}
-use Rattle.lert_trace.specs.Window.{IsBlock, StillAhead, IsAtEnd}
+use Rattle.lert_trace.specs.Window.{IsBlock, StillAhead}
 
 pub length-pending : (block : List ℕ) (start end : ℕ) → IsBlock block start end → length (drop start (take end block)) ≡ end - start
 length-pending block start end is =
@@ -52,25 +52,10 @@ StillAhead-same before after pending same = record {
   untold = λ was. same ∙ was;
 }
 
--- one call after another
-pub StillAhead-trans : (first second third : Option (List ℕ)) (old mid new : List ℕ) →
-    StillAhead first second old mid → StillAhead second third mid new → StillAhead first third old new
-StillAhead-trans first second third old mid new a b = record {
-  told = λ bytes was.
-      let x = a.told bytes was in
-      let y = b.told x.0 x.1 in
-      (y.0, y.1, y.2 ∙ x.2);
-  untold = λ was. b.untold (a.untold was);
-}
-
 -- a call that hands out no byte leaves none
 pub handed-none : (count : ℕ) (into bytes : List ℕ) (after : Option (List ℕ)) → HandsOut count into bytes after → count ≡ 0 → after ≡ Some []
 handed-none count into bytes after out zero =
     out.rest ∙ ap (λ n. Some (drop n bytes)) zero ∙ ap Some (out.at_end.0 zero)
-
-pub IsAtEnd-after : (first second third : Option (List ℕ)) (old mid : List ℕ) →
-    StillAhead first second old mid → IsAtEnd second third → IsAtEnd first third
-IsAtEnd-after first second third old mid a end = λ bytes was. let x = a.told bytes was in end x.0 x.1
 
 -- ---- a window that reads on: what is pending was moved to its block's front, and a read had the rest
 

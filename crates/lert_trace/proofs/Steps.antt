@@ -1,9 +1,9 @@
 -- What a step of a reader keeps.
-use Rattle.std.proofs.Common.{◌≡◌, ◌≢◌, ℕ, ◌+◌, ◌*◌, ◌≤◌, Bool, List, Option, Some, None, Result, Ok, Err, refl, sym, ap, ◌∙◌, subst, arith}
+use Rattle.std.proofs.Common.{◌≡◌, ◌≢◌, ℕ, ◌+◌, ◌*◌, ◌≤◌, Option, Some, None, Result, Ok, Err, refl, sym, ap, ◌∙◌, subst, arith}
 use Rattle.std.specs.Prelude.{IfErr, IfSome}
 use Rattle.lert_trace.specs.declared.fault.TraceFault.{TraceFault}
 use Rattle.lert_trace.specs.declared.fault.TraceFault.TheVariants.{ReadFailed, CutKey, TooLong}
-use Rattle.lert_trace.specs.Reader.{Reading, IsReader, IsSameReader, Means}
+use Rattle.lert_trace.specs.Reader.{Reading, IsSameReader}
 
 -- one step after another
 pub same_again : {S : Type 0} (old mid new : Reading S) → IsSameReader old mid → IsSameReader mid new → IsSameReader old new
@@ -55,21 +55,3 @@ none_less n = omega arith
 -- a place of a key is behind the header
 pub behind_header : (given : ℕ) → 8 ≤ 8 + 8 * given
 behind_header given = omega arith
-
--- a reader that keeps the fault that it met
-pub IsReader-fault : {S : Type 0} (remaining : S → Option (List ℕ)) (faults mark : S → ℕ) (made source : S) (pending : List ℕ) (limit given : ℕ) (begun : Bool)
-    (fault now : Option TraceFault) → IsReader remaining faults mark made source pending limit given begun fault →
-    ((f : TraceFault) → now ≡ Some f → Means remaining faults made source limit given f) → IsReader remaining faults mark made source pending limit given begun now
-IsReader-fault remaining faults mark made source pending limit given begun fault now is caused = record {
-  stands = is.stands;
-  untold = is.untold;
-  never_falls = is.never_falls;
-  marked = is.marked;
-  within = is.within;
-  small = is.small;
-  fresh = is.fresh;
-  caused = caused;
-}
-
-pub some_is : {A : Type 0} (P : A → Type 0) (f other : A) → P f → Some f ≡ Some other → P other
-some_is P f other holds same = let is : f ≡ other = cc in subst P is holds

@@ -14,7 +14,7 @@ use Rattle.lert_spec.proofs.LimitLaws.{capacity_to}
 use Rattle.lert_spec.proofs.EdgeLaws.{span_pos}
 use Rattle.lert_levels.specs.declared.rows.bin_at.BinAt.{BinAt}
 use Rattle.lert_levels.specs.rows.Ranges.{Range, ranges}
-use Rattle.lert_levels.specs.rows.Rows.{range_of, row_of, IsAt, IsRow, AreFirst, AreRows, times_named, lowest_free, nothing, newest, begins, kept, arrived, moved_row, moved}
+use Rattle.lert_levels.specs.rows.Rows.{range_of, row_of, IsAt, IsRow, AreFirst, AreRows, times_named, lowest_free, no_bin, newest, begins, kept, arrived, moved_row, moved}
 use Rattle.lert_levels.proofs.rows.RangeLaws.{IsCut, Enters, cuts_are, enters, ranges_still, ranges_few, edge_within}
 
 -- ---- a free frame
@@ -146,9 +146,9 @@ split_row s m level row are e =
           let len : length row ≡ length e.front + 1 = omega (arith, length-map row range_of, ap (length {A = Range}) with_last, length-append e.front (last ∷ [])) in
           let before_last : length e.front ≡ length row - 1 = omega arith in
           let last_is : range_of (newest row) ≡ last =
-          sym (get_or-map range_of row (length row - 1) nothing (range_of nothing) (omega arith))
-          ∙ ap (λ rs. get_or rs (length row - 1) (range_of nothing)) with_last
-          ∙ get_or_at e.front last [] (range_of nothing) (length row - 1) before_last in
+          sym (get_or-map range_of row (length row - 1) no_bin (range_of no_bin) (omega arith))
+          ∙ ap (λ rs. get_or rs (length row - 1) (range_of no_bin)) with_last
+          ∙ get_or_at e.front last [] (range_of no_bin) (length row - 1) before_last in
           record {
             some = λ _. omega arith;
             ends = λ _. ap (λ (r : Range). r.to) last_is;

@@ -70,12 +70,12 @@ abbrev pub lowest_free : List BinAt → ℕ
 lowest_free row = unwrap_or (find (λ frame. times_named row frame == 0) (range_with_len 0 (length row))) (length row)
 
 -- no position, in the first frame
-abbrev pub nothing : BinAt
-nothing = record { from = 0; to = 0; frame = 0 }
+abbrev pub no_bin : BinAt
+no_bin = record { from = 0; to = 0; frame = 0 }
 
 -- the newest bin of a row
 abbrev pub newest : List BinAt → BinAt
-newest row = slice_index_or row (length row - 1) nothing
+newest row = slice_index_or row (length row - 1) no_bin
 
 -- the bin that comes to a level in the flush at m begins an aligned interval of the level's span
 abbrev pub begins : Numbers → ℕ → ℕ → Bool

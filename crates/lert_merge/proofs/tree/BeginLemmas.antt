@@ -58,10 +58,6 @@ won_here keys nodes streams node stream j same some inside is =
     (subst (λ n. IsWon keys streams (winner_of nodes (2 * node)) n (winner_of (set nodes node stream) node)) (sym (winner_else nodes node stream (2 * node + 1) (omega arith)))
     (subst (λ n. IsWon keys streams (winner_of nodes (2 * node)) (winner_of nodes (2 * node + 1)) n) (sym (winner_here nodes node stream inside)) is)))
 
-pub play_begins : (keys nodes : List ℕ) (streams node : ℕ) → length nodes ≡ length keys → AreBelow nodes (length keys) → node ≡ length nodes → IsPlaying keys nodes streams node
-play_begins keys nodes streams node len below all =
-    record { nodes_len = len; below = below; within = omega arith; won = λ j some behind low. absurd (omega arith) }
-
 won_below : (keys : List ℕ) (streams one other winner leaves : ℕ) → IsWon keys streams one other winner → one < leaves → other < leaves → winner < leaves
 won_below keys streams one other winner leaves is one_low other_low = elim is.which [ inl same ↦ omega arith | inr same ↦ omega arith ]
 
@@ -84,9 +80,6 @@ play_goes_on keys nodes streams before node one other stream is more next one_is
       ];
     }
 
-pub play_ends : (keys nodes : List ℕ) (streams node : ℕ) → IsPlaying keys nodes streams node → node ≤ 1 → AreWon keys streams nodes 0
-play_ends keys nodes streams node is ended j some behind low = is.won j some (omega arith) low
-
 -- ---- the losers
 
 -- what stands while the nodes before `node` hold losers, and the others winners still
@@ -96,15 +89,6 @@ pub record IsLosing (old nodes : List ℕ) (node : ℕ) : Type 0 where
   pub below : AreBelow nodes (length old)
   pub lost : (j : ℕ) → 1 ≤ j → j < node → j < length old → ArePair (winner_of old (2 * j)) (winner_of old (2 * j + 1)) (winner_of old j) (number_at nodes j)
   pub ahead : (j : ℕ) → node ≤ j → number_at nodes j ≡ number_at old j
-
-pub losing_begins : (nodes : List ℕ) (node : ℕ) → AreBelow nodes (length nodes) → node ≡ 1 → IsLosing nodes nodes node
-losing_begins nodes node below one = record {
-  some = omega arith;
-  nodes_len = refl;
-  below = below;
-  lost = λ j some before low. absurd (omega arith);
-  ahead = λ j behind. refl;
-}
 
 -- the places from `node` on hold winners still
 child : (old nodes : List ℕ) (node place : ℕ) → IsLosing old nodes node → node ≤ place → winner_of nodes place ≡ winner_of old place

@@ -9,7 +9,7 @@ use Rattle.lert_frames.specs.Place.{frame_place, frame_len}
 use Rattle.lert_frames.proofs.FaultLaws.{not_err}
 use Rattle.lert_frames.proofs.WriteLaws.{same_err}
 use Rattle.lert_spec.specs.declared.numbers.Numbers.{Numbers}
-use Rattle.lert_levels.specs.rows.Rows.{nothing}
+use Rattle.lert_levels.specs.rows.Rows.{no_bin}
 use Rattle.lert_levels.specs.rows.Loading.{width_of}
 use Rattle.lert_levels.specs.Sources.{of_bin, placed_at, AllOf, IsSecure}
 use Rattle.lert_levels.proofs.PlacedLaws.{row_more}
@@ -24,7 +24,7 @@ pub bounds-row-bin-index : goal.bounds-row-bin-index
 bounds-row-bin-index g c = c.loop-bin-test.true
 
 pub overflow_sub-bin : goal.overflow_sub-bin
-overflow_sub-bin g c = omega (arith, c.requires.row.some c.loop-bin.bin-index nothing c.loop-bin-test.true)
+overflow_sub-bin g c = omega (arith, c.requires.row.some c.loop-bin.bin-index no_bin c.loop-bin-test.true)
 
 pub secure-requires : goal.secure-requires
 secure-requires g c =
@@ -33,9 +33,9 @@ secure-requires g c =
     rw c.loop-bin.invariant.room (record {
       first = c.requires.first;
       last = c.requires.last;
-      frame = omega (arith, c.from.ensures, row.frames i nothing c.loop-bin-test.true);
-      some = omega (arith, row.some i nothing c.loop-bin-test.true);
-      width = row.widths i nothing c.loop-bin-test.true;
+      frame = omega (arith, c.from.ensures, row.frames i no_bin c.loop-bin-test.true);
+      some = omega (arith, row.some i no_bin c.loop-bin-test.true);
+      width = row.widths i no_bin c.loop-bin-test.true;
     })
 
 pub loop-bin-init : goal.loop-bin-init
@@ -48,10 +48,10 @@ loop-bin-preserved g c =
     let i = c.loop-bin.bin-index in
     let s = c.args.room.now in
     let level = c.args.level in
-    let bin = get_or c.args.row.now i nothing in
+    let bin = get_or c.args.row.now i no_bin in
     record {
       secure = λ seen told long.
-          row_more (IsSecure s (seen FRAMES)) level c.args.row.now i nothing c.loop-bin-test.true (is.secure seen told long)
+          row_more (IsSecure s (seen FRAMES)) level c.args.row.now i no_bin c.loop-bin-test.true (is.secure seen told long)
           (subst (λ (frame : ℕ). (frame_place s level frame + frame_len s level ≤ length (seen FRAMES)) ⊎ (frame_left s level frame (width_of bin) (seen FRAMES) ≡ None)) c.from.ensures
           (subst (λ (t : Numbers). (frame_place t level c.from.result + frame_len t level ≤ length (seen FRAMES)) ⊎ (frame_left t level c.from.result (width_of bin) (seen FRAMES) ≡ None)) is.room
           (e.secured seen (is.only_reads.seen ∙ told) long)));
@@ -80,12 +80,12 @@ returns-in_err-secure g c =
     let i = c.loop-bin.bin-index in
     let s = c.args.room.now in
     let level = c.args.level in
-    let bin = get_or c.args.row.now i nothing in
+    let bin = get_or c.args.row.now i no_bin in
     rw (p.1, p.2) (record {
       secure = λ seen told long. tt;
       malformed = λ seen told at broken. record {
         bin = bin;
-        named = Contains-get_or c.args.row.now i nothing c.loop-bin-test.true;
+        named = Contains-get_or c.args.row.now i no_bin c.loop-bin-test.true;
         breaks = record {
           left = subst (λ (frame : ℕ). frame_left s level frame (width_of bin) (seen FRAMES) ≡ Some at) c.from.ensures
               (subst (λ (t : Numbers). frame_left t level c.from.result (width_of bin) (seen FRAMES) ≡ Some at) is.room

@@ -7,7 +7,7 @@ use Rattle.lert_bay.proofs.KeptLaws.{IsLawful, reads_none, reads_on, reads_as}
 use Rattle.lert_frames.proofs.FaultLaws.{not_err}
 use Rattle.lert_frames.proofs.WriteLaws.{same_err}
 use Rattle.lert_spec.specs.declared.numbers.Numbers.{Numbers}
-use Rattle.lert_levels.specs.rows.Rows.{nothing}
+use Rattle.lert_levels.specs.rows.Rows.{no_bin}
 use Rattle.lert_levels.specs.rows.Checked.{pieces_in, RowStands, bin_left, first_of}
 use Rattle.lert_levels.specs.rows.Loading.{Stands}
 use Rattle.lert_levels.proofs.rows.CheckLaws.{row_more, row_breaks}
@@ -28,10 +28,10 @@ check_bin-requires g c =
     rw c.loop-bin.invariant.settings (record {
       first = c.requires.first;
       last = c.requires.last;
-      frame = row.frames i nothing c.loop-bin-test.true;
-      some = row.some i nothing c.loop-bin-test.true;
-      width = row.widths i nothing c.loop-bin-test.true;
-      end = row.ends i nothing c.loop-bin-test.true;
+      frame = row.frames i no_bin c.loop-bin-test.true;
+      some = row.some i no_bin c.loop-bin-test.true;
+      width = row.widths i no_bin c.loop-bin-test.true;
+      end = row.ends i no_bin c.loop-bin-test.true;
     })
 
 pub loop-bin-init : goal.loop-bin-init
@@ -49,13 +49,13 @@ loop-bin-preserved g c =
     let i = c.loop-bin.bin-index in
     let s = c.args.reader.now.settings in
     let level = c.args.level in
-    let bin = get_or c.args.row.now i nothing in
+    let bin = get_or c.args.row.now i no_bin in
     record {
       stand = λ seen told.
-          All-more (Stands s level (seen FRAMES) (pieces_in s (seen FRAMES) level)) c.args.row.now i nothing c.loop-bin-test.true (is.stand seen told)
+          All-more (Stands s level (seen FRAMES) (pieces_in s (seen FRAMES) level)) c.args.row.now i no_bin c.loop-bin-test.true (is.stand seen told)
           (subst (λ (t : Numbers). Stands t level (seen FRAMES) (pieces_in t (seen FRAMES) level) bin) is.settings (e.stand seen (is.only_reads.seen ∙ told)));
       whole = λ seen told.
-          row_more (bin_left s (seen FRAMES) level) c.args.row.now i nothing c.loop-bin-test.true (is.whole seen told)
+          row_more (bin_left s (seen FRAMES) level) c.args.row.now i no_bin c.loop-bin-test.true (is.whole seen told)
           (subst (λ (t : Numbers). bin_left t (seen FRAMES) level bin ≡ None) is.settings (e.whole seen (is.only_reads.seen ∙ told)));
       settings = e.settings ∙ is.settings;
       only_reads = reads_on (bays g) (lawful g) c.args.bay.now c.loop-bin.bay c.check_bin.new.bay ⊥ ⊥ is.only_reads
@@ -86,8 +86,8 @@ returns-in_err-check_bin g c =
       stand = λ seen told. tt;
       whole = λ seen told. tt;
       malformed = λ seen told at broken.
-          row_breaks (bin_left s (seen FRAMES) c.args.level) c.args.row.now i nothing c.loop-bin-test.true (is.whole seen told) at
-          (subst (λ (t : Numbers). bin_left t (seen FRAMES) c.args.level (get_or c.args.row.now i nothing) ≡ Some at) is.settings
+          row_breaks (bin_left s (seen FRAMES) c.args.level) c.args.row.now i no_bin c.loop-bin-test.true (is.whole seen told) at
+          (subst (λ (t : Numbers). bin_left t (seen FRAMES) c.args.level (get_or c.args.row.now i no_bin) ≡ Some at) is.settings
           (e.malformed seen (is.only_reads.seen ∙ told) at (same_err _ _ broken)));
       settings = e.settings ∙ is.settings;
       only_reads = reads_as (bays g) (lawful g) c.args.bay.now c.check_bin.new.bay _ _ (λ failed. same_err _ _ failed)

@@ -1,7 +1,7 @@
 use Rattle.std.proofs.Common.{◌∙◌, ◌++◌, ◌∷◌, map, length, ap, arith}
 use Rattle.std.proofs.lemmas.List.{take_all}
 use Rattle.lert_levels.specs.declared.rows.bin_at.BinAt.{BinAt}
-use Rattle.lert_levels.specs.rows.Rows.{nothing}
+use Rattle.lert_levels.specs.rows.Rows.{no_bin}
 use Rattle.lert_levels.proofs.rows.DirectoryLaws.{frame_more, frame_room}
 use Rattle.lert_levels.proofs.rows.directory.lay_row.Goals as goal
 
@@ -17,7 +17,7 @@ loop-bin-preserved c =
     let is = c.loop-bin.invariant in
     let put = c.put-in-loop-bin in
     record {
-      text = frame_more c.args.directory.now.items c.loop-bin.directory.items put.new.directory.items c.args.row.now c.loop-bin.bin-index nothing c.loop-bin-test.true is.text
+      text = frame_more c.args.directory.now.items c.loop-bin.directory.items put.new.directory.items c.args.row.now c.loop-bin.bin-index no_bin c.loop-bin-test.true is.text
           put.ensures.items;
       room = omega (arith, is.room, put.ensures.capacity);
       grows = omega (arith, is.grows, put.ensures.capacity);
