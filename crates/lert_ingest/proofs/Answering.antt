@@ -1,33 +1,18 @@
 -- The exact answer of a crew of workers.
-use Rattle.std.proofs.Common.{◌≡◌, ◌⊎◌, ℕ, ◌%◌, ◌^◌, ◌<◌, ◌≤◌, List, length, map}
-use Rattle.std.proofs.Common.{Option, Some, None, slice_get, refl, ap, sym, ◌∙◌, subst, inl, inr, arith}
-use Rattle.std.specs.Prelude.{All}
-use Rattle.std.proofs.lemmas.Bool.{cases_lt}
+use Rattle.std.proofs.{Common.{◌≡◌, ◌⊎◌, ℕ, ◌%◌, ◌^◌, ◌<◌, ◌≤◌, List, length, map, Option, Some, None, slice_get, refl, ap, sym, ◌∙◌, subst, inl, inr, arith}, lemmas.Bool.cases_lt}
 use Rattle.std.proofs.lemmas.Option.{get_or_from_slice_get, none-some, same_Some, slice_get_within}
+use Rattle.std.specs.Prelude.{All}
 use Rattle.lert_base.specs.declared.cone_fault.ConeFault.{ConeFault}
-use Rattle.lert_spec.specs.Edges.{capacity}
-use Rattle.lert_spec.specs.Trace.{left, whole}
-use Rattle.lert_trace.specs.Reader.{Reading}
-use Rattle.lert_trace.specs.declared.fault.TraceFault.{TraceFault}
+use Rattle.lert_spec.specs.{Edges.capacity, Trace.{left, whole}}
+use Rattle.lert_trace.specs.{Reader.Reading, declared.fault.TraceFault.TraceFault}
 use Rattle.lert_trace.specs.declared.fault.TraceFault.TheVariants as trace_fault
-use Rattle.lert_worker.specs.Ends.{IsAtEnd, Stopped}
-use Rattle.lert_worker.specs.declared.end.WorkerEnd.{WorkerEnd}
+use Rattle.lert_worker.specs.{Ends.{IsAtEnd, Stopped}, declared.end.WorkerEnd.WorkerEnd}
 use Rattle.lert_worker.specs.declared.end.WorkerEnd.TheVariants as end
-use Rattle.lert_ingest.specs.Bays.{bays_of}
-use Rattle.lert_ingest.specs.Crews.{IsReadOf}
-use Rattle.lert_ingest.specs.Faults.{end_fault}
-use Rattle.lert_ingest.specs.Stops.{AreTelling, IsExact}
-use Rattle.lert_ingest.specs.Traces.{AllFit, IsOver, part_length}
-use Rattle.lert_ingest.specs.declared.status.Status.{Status}
+use Rattle.lert_ingest.specs.{Bays.bays_of, Crews.IsReadOf, Faults.end_fault, Stops.{AreTelling, IsExact}, Traces.{AllFit, IsOver, part_length}, declared.status.Status.Status}
 use Rattle.lert_ingest.specs.declared.status.Status.TheVariants as status
-use Rattle.lert_ingest.proofs.BayLaws.{bay_at, slice_get-some, told_later}
-use Rattle.lert_ingest.proofs.Completing.{all_fit, read_to_end}
-use Rattle.lert_ingest.proofs.Crewed.{Crewed, first_fault}
-use Rattle.lert_ingest.proofs.Exactly.{MayBe, may_bad, may_full, may_memory, bytes_at, bytes_of, fault_risen, few_at, keys_same, may_be}
-use Rattle.lert_ingest.proofs.FaultOrder.{IsNotAfter}
-use Rattle.lert_ingest.proofs.Holding.{none_full}
-use Rattle.lert_ingest.proofs.Judging.{IsStop, bays_later, begun, cone_at, of_ends, running_told, shared, stop_shows, trace_stop, traces}
-use Rattle.lert_ingest.proofs.Told.{are_keys, named, there_is}
+use Rattle.lert_ingest.proofs.{BayLaws.{bay_at, slice_get-some, told_later}, Completing.{all_fit, read_to_end}, Crewed.{Crewed, first_fault}}
+use Rattle.lert_ingest.proofs.{Exactly.{MayBe, may_bad, may_full, may_memory, bytes_at, bytes_of, fault_risen, few_at, keys_same, may_be}, FaultOrder.IsNotAfter, Holding.none_full}
+use Rattle.lert_ingest.proofs.{Judging.{IsStop, bays_later, begun, cone_at, of_ends, running_told, shared, stop_shows, trace_stop, traces}, Told.{are_keys, named, there_is}}
 
 well_at : (texts : List (List ℕ)) → All (λ bytes. left bytes ≡ None) texts → (trace : ℕ) (bytes : List ℕ) → slice_get texts trace ≡ Some bytes → left bytes ≡ None
 well_at texts well trace bytes is = subst (λ (b : List ℕ). left b ≡ None) (get_or_from_slice_get texts trace bytes bytes is) (well trace bytes (slice_get_within texts trace bytes is))

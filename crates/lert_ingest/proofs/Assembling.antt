@@ -1,29 +1,17 @@
 -- The answer of a crew, and what is untouched before it runs.
-use Rattle.std.proofs.Common.{◌≡◌, ℕ, suc, List, [], ◌∷◌, length}
-use Rattle.std.proofs.Common.{Option, Some, None, Ok, Err, slice_get, refl, ap, sym, ◌∙◌, subst, arith}
-use Rattle.std.specs.Prelude.{IfErr, OnOk}
-use Rattle.std.proofs.lemmas.List.{length-map}
+use Rattle.std.proofs.{Common.{◌≡◌, ℕ, suc, List, [], ◌∷◌, length, Option, Some, None, Ok, Err, slice_get, refl, ap, sym, ◌∙◌, subst, arith}, lemmas.List.length-map}
 use Rattle.std.proofs.lemmas.Option.{same_Some, slice_get_within}
-use Rattle.lert_base.specs.declared.held.Held.{Ghosts as HeldOf}
-use Rattle.lert_base.specs.Packet.{own}
+use Rattle.std.specs.Prelude.{IfErr, OnOk}
+use Rattle.lert_base.specs.{declared.held.Held.{Ghosts as HeldOf}, Packet.own, declared.cone_fault.ConeFault.ConeFault}
 use Rattle.lert_bay.specs.Files.{Files}
 use Rattle.lert_cone.specs.Stands.{Standing}
-use Rattle.lert_base.specs.declared.cone_fault.ConeFault.{ConeFault}
 use Rattle.lert_conelock.specs.Sight.{LockSight}
 use Rattle.lert_fleet.proofs.Places.{image_at, some_at}
 use Rattle.lert_fleet.specs.Cones.{ClosesEach, FleetPassSight, FleetSight, IsWhole}
 use Rattle.lert_spec.specs.declared.numbers.Numbers.{Numbers}
-use Rattle.lert_ingest.specs.Bays.{bays_of}
-use Rattle.lert_ingest.specs.Crew.{IsPassFrom, IsQuiet}
-use Rattle.lert_ingest.specs.Ingest.{HasIngested, answer_of, firsts_of}
-use Rattle.lert_ingest.specs.Stops.{AreIngested, StopShows, out_of_memory}
-use Rattle.lert_ingest.specs.declared.status.Status.{Status}
+use Rattle.lert_ingest.specs.{Bays.bays_of, Crew.{IsPassFrom, IsQuiet}, Ingest.{HasIngested, answer_of, firsts_of}, Stops.{AreIngested, StopShows, out_of_memory}, declared.status.Status.Status}
 use Rattle.lert_ingest.specs.declared.status.Status.TheVariants as status
-use Rattle.lert_ingest.proofs.Answering.{is_exact}
-use Rattle.lert_ingest.proofs.BayLaws.{are_same}
-use Rattle.lert_ingest.proofs.Crewed.{Crewed, first_fault}
-use Rattle.lert_ingest.proofs.Completing.{all_fit, are_weaving, keys_are, read_to_end, traces_later}
-use Rattle.lert_ingest.proofs.Exactly.{exact_memory}
+use Rattle.lert_ingest.proofs.{Answering.is_exact, BayLaws.are_same, Crewed.{Crewed, first_fault}, Completing.{all_fit, are_weaving, keys_are, read_to_end, traces_later}, Exactly.exact_memory}
 use Rattle.lert_ingest.proofs.Judging.{bays_later, stop_shows, traces}
 
 -- lists that agree place by place

@@ -1,9 +1,6 @@
 -- Bays later, in lists, and in cones.
-use Rattle.std.proofs.Common.{◌≡◌, ◌≢◌, ℕ, ◌+◌, ◌<◌, ◌≤◌, zero, suc, List, [], ◌∷◌, ◌++◌, length, set, get_or, Option, Some, slice_get, refl, ap, sym}
-use Rattle.std.proofs.Common.{◌∙◌, subst, inl, inr, arith}
-use Rattle.std.proofs.lemmas.Bool.{cases_eq}
-use Rattle.std.proofs.lemmas.List.{get_or-set_same, length-set}
-use Rattle.std.proofs.lemmas.Option.{slice_get-get_or, slice_get_within, same_Some}
+use Rattle.std.proofs.Common.{◌≡◌, ◌≢◌, ℕ, ◌+◌, ◌<◌, ◌≤◌, zero, suc, List, [], ◌∷◌, ◌++◌, length, set, get_or, Option, Some, slice_get, refl, ap, sym, ◌∙◌, subst, inl, inr, arith}
+use Rattle.std.proofs.{lemmas.Bool.cases_eq, lemmas.List.{get_or-set_same, length-set}, lemmas.Option.{slice_get-get_or, slice_get_within, same_Some}}
 use Rattle.lert_bay.specs.Files.{Files}
 use Rattle.lert_cone.specs.Stands.{Standing}
 use Rattle.lert_io.proofs.Rising.{risen_since}
@@ -43,12 +40,6 @@ slice_get-behind (a ∷ xs) (b ∷ ys) x y zs (suc k) same behind = slice_get-be
 pub set-seam : {X : Type 0} (xs : List X) (x y : X) (ys : List X) → set (xs ++ x ∷ ys) (length xs) y ≡ xs ++ y ∷ ys
 set-seam [] x y ys = refl
 set-seam (z ∷ xs) x y ys = ap (λ l. z ∷ l) (set-seam xs x y ys)
-
--- bays of cones
-pub bays_of-set : {B : Type 0} (cones : List (Standing B)) (at : ℕ) (new : Standing B) → bays_of (set cones at new) ≡ set (bays_of cones) at new.bay
-bays_of-set [] at new = refl
-bays_of-set (cone ∷ cones) zero new = refl
-bays_of-set (cone ∷ cones) (suc at) new = ap (λ l. cone.bay ∷ l) (bays_of-set cones at new)
 
 pub bays_of-push : {B : Type 0} (cones : List (Standing B)) (new : Standing B) (bays : List B) → bays_of (cones ++ new ∷ []) ++ bays ≡ bays_of cones ++ new.bay ∷ bays
 bays_of-push [] new bays = refl
@@ -111,11 +102,6 @@ module _ {B : Type 0} (files : B → Option Files) (faults mark : B → ℕ) whe
   later_seam xs old new ys later =
       subst (AreLater files faults mark (xs ++ old ∷ ys)) (set-seam xs old new ys) (later_set (xs ++ old ∷ ys) (length xs) old new (slice_get-seam xs old ys) later)
 
-  pub later_cone : (cones : List (Standing B)) (at : ℕ) (old new : Standing B) → slice_get cones at ≡ Some old → IsLater files faults mark old.bay new.bay →
-      AreLater files faults mark (bays_of cones) (bays_of (set cones at new))
-  later_cone cones at old new found later =
-      subst (AreLater files faults mark (bays_of cones)) (sym (bays_of-set cones at new)) (later_set (bays_of cones) at old.bay new.bay (bay_at cones at old found) later)
-
   -- marks stay
   pub still_marked : (bays later : List B) → AreLater files faults mark bays later → AreMarked mark bays → AreMarked mark later
   still_marked bays later are marked = λ cone bay is.
@@ -135,19 +121,6 @@ module _ {B : Type 0} (files : B → Option Files) (faults mark : B → ℕ) whe
         is = failed.is;
         rose = risen_since (faults before) (faults failed.before) (faults failed.now) (one.each cone before failed.before was failed.was).never_falls
             (two.each cone failed.before failed.now failed.was failed.is).never_falls failed.rose;
-      }
-
-  -- a bay that failed before is a bay that failed
-  pub failed_still : (first then now : List B) (cone : ℕ) → AreLater files faults mark then now → HasFailed faults first then cone → HasFailed faults first now cone
-  failed_still first then now cone two failed =
-      let is = slice_get-get_or now cone failed.now (omega (arith, slice_get_within then cone failed.now failed.is, two.number)) in
-      let after = get_or now cone failed.now in
-      record {
-        before = failed.before;
-        now = after;
-        was = failed.was;
-        is = is;
-        rose = λ below. let up = failed.rose below in omega (arith, up, (two.each cone failed.now after failed.is is).never_falls);
       }
 
   -- bays that tell their files tell them later

@@ -1,32 +1,20 @@
 -- A crew of workers that read all, and the exact answers of one that didn't.
-use Rattle.std.proofs.Common.{◌≡◌, ◌≢◌, ◌⊎◌, ℕ, ◌%◌, ◌<◌, List, [], ◌∷◌, length}
-use Rattle.std.proofs.Common.{Some, None, slice_get, refl, ap, sym, ◌∙◌, subst, inl, inr, arith}
-use Rattle.std.specs.Prelude.{Contains}
+use Rattle.std.proofs.Common.{◌≡◌, ◌≢◌, ◌⊎◌, ℕ, ◌%◌, ◌<◌, List, [], ◌∷◌, length, Some, None, slice_get, refl, ap, sym, ◌∙◌, subst, inl, inr, arith}
 use Rattle.std.proofs.lemmas.Option.{none-some, same_Some, slice_get_within}
-use Rattle.lert_base.specs.Packet.{Packet, events_of}
-use Rattle.lert_cone.specs.Stands.{Standing, is_finished}
-use Rattle.lert_base.specs.declared.cone_fault.ConeFault.{ConeFault}
-use Rattle.lert_cone.specs.declared.state.ConeState.{ConeState}
+use Rattle.std.specs.Prelude.{Contains}
+use Rattle.lert_base.specs.{Packet.{Packet, events_of}, declared.cone_fault.ConeFault.ConeFault}
+use Rattle.lert_cone.specs.{Stands.{Standing, is_finished}, declared.state.ConeState.ConeState}
 use Rattle.lert_cone.specs.declared.state.ConeState.TheVariants as state
 use Rattle.lert_conelock.proofs.Contained.{item_here}
 use Rattle.lert_spec.specs.Trace.{left}
 use Rattle.lert_trace.specs.Reader.{Reading}
-use Rattle.lert_worker.specs.Ends.{IsAtEnd, Stopped}
-use Rattle.lert_worker.specs.declared.end.WorkerEnd.{WorkerEnd}
+use Rattle.lert_worker.specs.{Ends.{IsAtEnd, Stopped}, declared.end.WorkerEnd.WorkerEnd}
 use Rattle.lert_worker.specs.declared.end.WorkerEnd.TheVariants as end
-use Rattle.lert_ingest.specs.Back.{IsBack, IsFullAt}
-use Rattle.lert_ingest.specs.Crews.{IsReadOf}
-use Rattle.lert_ingest.specs.Faults.{earliest, end_fault, fault_at, fault_of, full_fault, state_fault}
-use Rattle.lert_ingest.specs.Stops.{AreWeaving}
+use Rattle.lert_ingest.specs.{Back.{IsBack, IsFullAt}, Crews.IsReadOf, Faults.{earliest, end_fault, fault_at, fault_of, full_fault, state_fault}, Stops.AreWeaving}
 use Rattle.lert_ingest.specs.Traces.{AllFit, AreKeysOf, AreReadToEnd, AreTracesLater}
 use Rattle.lert_ingest.specs.declared.status.Status.TheVariants as status
-use Rattle.lert_ingest.proofs.BayLaws.{slice_get-some}
-use Rattle.lert_ingest.proofs.Crewed.{Crewed, first_fault}
-use Rattle.lert_ingest.proofs.Crew.{was_turned}
-use Rattle.lert_ingest.proofs.FaultOrder.{all_none, of_two_none}
-use Rattle.lert_ingest.proofs.Holding.{is_weaving, weaving_fits}
-use Rattle.lert_ingest.proofs.Judging.{IsCone, cone_at, shared, traces}
-use Rattle.lert_ingest.proofs.Told.{all_whole, are_keys, named, there_is}
+use Rattle.lert_ingest.proofs.{BayLaws.slice_get-some, Crewed.{Crewed, first_fault}, Crew.was_turned, FaultOrder.{all_none, of_two_none}, Holding.{is_weaving, weaving_fits}}
+use Rattle.lert_ingest.proofs.{Judging.{IsCone, cone_at, shared, traces}, Told.{all_whole, are_keys, named, there_is}}
 
 module _ {S B : Type 0} (crew : Crewed S B) where
   open crew.read use {remaining, s_faults, s_mark, workers, some, opened, laters, shares, reads, was, readings, places, stopped, ends, run}

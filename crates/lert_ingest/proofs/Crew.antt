@@ -1,23 +1,13 @@
 -- What all workers leave in a cone.
-use Rattle.std.proofs.Common.{◌≡◌, ◌≢◌, ℕ, ◌<◌, ◌≤◌, suc, Bool, cond, eqb, List, [], ◌∷◌}
-use Rattle.std.proofs.Common.{◌++◌, length, map, Some, slice_get, refl, ap, sym, ◌∙◌, subst, inl, inr, arith}
-use Rattle.std.proofs.Common.{append_assoc, append-nil, length-append}
+use Rattle.std.proofs.Common.{◌≡◌, ◌≢◌, ℕ, ◌<◌, ◌≤◌, suc, Bool, cond, eqb, List, [], ◌∷◌, ◌++◌, length, map, Some, slice_get, refl, ap, sym, ◌∙◌, subst, inl, inr, arith, append_assoc, append-nil}
+use Rattle.std.proofs.{Common.length-append, lemmas.Bool.{cases_eq, eq-eqb, ne_eqb}, lemmas.List.Concat.flat_map-append}
+use Rattle.std.proofs.{lemmas.List.Elements.{All-append, All-cons, All-contains, All-nil, filter-append}, lemmas.List.get_or_append_left}
 use Rattle.std.specs.Prelude.{All, Contains}
-use Rattle.std.proofs.lemmas.Bool.{cases_eq, eq-eqb, ne_eqb}
-use Rattle.std.proofs.lemmas.List.Concat.{flat_map-append}
-use Rattle.std.proofs.lemmas.List.Elements.{All-append, All-cons, All-contains, All-nil, filter-append}
-use Rattle.std.proofs.lemmas.List.{get_or_append_left}
-use Rattle.lert_base.specs.Beginning.{BeginsWith}
-use Rattle.lert_base.specs.Packet.{Packet, events_of, of_trace, own}
-use Rattle.lert_base.specs.Weave.{AreCut, IsPartWoven, IsWoven}
-use Rattle.lert_base.specs.declared.cone_fault.ConeFault.{ConeFault}
+use Rattle.lert_base.specs.{Beginning.BeginsWith, Packet.{Packet, events_of, of_trace, own}, Weave.{AreCut, IsPartWoven, IsWoven}, declared.cone_fault.ConeFault.ConeFault}
 use Rattle.lert_conelock.proofs.Contained.{no_item, item_here, item_cases}
 use Rattle.lert_conelock.specs.Sight.{Sight}
 use Rattle.lert_spec.specs.declared.numbers.Numbers.{Numbers}
-use Rattle.lert_worker.specs.Brings.{Brings, BringsPart, IsOwn}
-use Rattle.lert_worker.specs.Ran.{IsTurned, RanIn}
-use Rattle.lert_worker.specs.declared.end.WorkerEnd.{WorkerEnd}
-use Rattle.lert_worker.specs.declared.end.WorkerEnd.TheVariants.{Ran, Trace, Cone}
+use Rattle.lert_worker.specs.{Brings.{Brings, BringsPart, IsOwn}, Ran.{IsTurned, RanIn}, declared.end.WorkerEnd.WorkerEnd, declared.end.WorkerEnd.TheVariants.{Ran, Trace, Cone}}
 use Rattle.lert_ingest.specs.Shares.{HasAll, HasPart, IsShare, LeftIn}
 use Rattle.lert_ingest.proofs.Gathering.{cut_first, part_gathered, gathered}
 

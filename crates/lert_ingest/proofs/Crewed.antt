@@ -1,15 +1,12 @@
 -- A crew that ran, with what is known of the traces that it read and of the cones that came back.
 use Rattle.std.proofs.Common.{ℕ, ◌≤◌, List, length, Option}
-use Rattle.lert_base.specs.Packet.{Packet}
-use Rattle.lert_base.specs.declared.cone_fault.ConeFault.{ConeFault}
+use Rattle.lert_base.specs.{Packet.Packet, declared.cone_fault.ConeFault.ConeFault}
 use Rattle.lert_bay.specs.Files.{Files}
 use Rattle.lert_cone.specs.Stands.{Standing}
 use Rattle.lert_spec.specs.declared.numbers.Numbers.{Numbers}
 use Rattle.lert_trace.specs.Reader.{Reading}
 use Rattle.lert_worker.specs.declared.end.WorkerEnd.{WorkerEnd}
-use Rattle.lert_ingest.specs.Crews.{AreLeftBy, AreReadBy}
-use Rattle.lert_ingest.specs.Faults.{earlier, earliest, end_fault, fault_at}
-use Rattle.lert_ingest.specs.declared.status.Status.{Status}
+use Rattle.lert_ingest.specs.{Crews.{AreLeftBy, AreReadBy}, Faults.{earlier, earliest, end_fault, fault_at}, declared.status.Status.Status}
 
 -- each worker read its share of the traces
 pub record ReadCrew (S : Type 0) : Type 0 where

@@ -1,39 +1,20 @@
 -- What a crew did, by the runs of its workers.
-use Rattle.std.proofs.Common.{◌≡◌, ℕ, ◌+◌, ◌^◌, ◌<◌, Bool, cond, eqb, List, [], ◌∷◌}
-use Rattle.std.proofs.Common.{◌++◌, length, map, filter, Option, Some, None, slice_get, refl, ap, sym, ◌∙◌, subst, arith}
-use Rattle.std.proofs.Common.{length-append}
-use Rattle.std.specs.Prelude.{All}
-use Rattle.std.proofs.lemmas.Bool.{eq-eqb}
-use Rattle.std.proofs.lemmas.List.{get_or-append-add, length-map}
-use Rattle.std.proofs.lemmas.List.Elements.{All-head, All-tail, All-nil, All-cons, All-weaker}
+use Rattle.std.proofs.Common.{◌≡◌, ℕ, ◌+◌, ◌^◌, ◌<◌, Bool, cond, eqb, List, [], ◌∷◌, ◌++◌, length, map, filter, Option, Some, None, slice_get, refl, ap, sym, ◌∙◌, subst, arith, length-append}
+use Rattle.std.proofs.{lemmas.Bool.eq-eqb, lemmas.List.{get_or-append-add, length-map}, lemmas.List.Elements.{All-head, All-tail, All-nil, All-cons, All-weaker}}
 use Rattle.std.proofs.lemmas.Option.{same_Some, slice_get_within}
-use Rattle.lert_base.specs.declared.held.Held.{Ghosts as HeldOf}
-use Rattle.lert_base.specs.Packet.{Packet, own}
+use Rattle.std.specs.Prelude.{All}
+use Rattle.lert_base.specs.{declared.held.Held.{Ghosts as HeldOf}, Packet.{Packet, own}, declared.cone_fault.ConeFault.ConeFault}
 use Rattle.lert_bay.specs.Files.{Files}
 use Rattle.lert_cone.specs.Stands.{Standing, Terms}
-use Rattle.lert_base.specs.declared.cone_fault.ConeFault.{ConeFault}
 use Rattle.lert_conelock.specs.Sight.{LockSight, Sight, own_refused}
 use Rattle.lert_fleet.proofs.Places.{image_at, some_at}
-use Rattle.lert_fleet.specs.Cones.{ClosesEach, FleetPassSight, FleetSight}
-use Rattle.lert_fleet.specs.Each.{EachThree, EachTwo}
+use Rattle.lert_fleet.specs.{Cones.{ClosesEach, FleetPassSight, FleetSight}, Each.{EachThree, EachTwo}}
 use Rattle.lert_spec.specs.declared.numbers.Numbers.{Numbers}
 use Rattle.lert_trace.specs.Reader.{Reading}
-use Rattle.lert_worker.specs.Brings.{IsOwn}
-use Rattle.lert_worker.specs.Ends.{Stopped, WasRead}
-use Rattle.lert_worker.specs.Ran.{HasRun, RanIn, Working}
-use Rattle.lert_worker.specs.declared.end.WorkerEnd.TheVariants.{Cone}
-use Rattle.lert_ingest.specs.Back.{AreSeen}
-use Rattle.lert_ingest.specs.Bays.{IsLater}
-use Rattle.lert_ingest.specs.Cones.{AreNew}
-use Rattle.lert_ingest.specs.Crew.{EachShows, Shows}
-use Rattle.lert_ingest.specs.Crews.{AreLeftBy, AreReadBy, IsReadOf, fresh_reader}
-use Rattle.lert_ingest.specs.Faults.{end_of}
-use Rattle.lert_ingest.specs.Ingest.{AreReady, IsReady, firsts_of}
-use Rattle.lert_ingest.specs.Shares.{IsShare, LeftIn}
-use Rattle.lert_ingest.specs.Sharing.{WereTaken}
-use Rattle.lert_ingest.proofs.Crew.{left_in, part_first}
-use Rattle.lert_ingest.proofs.Ended.{IsConeHeld, is_back}
-use Rattle.lert_ingest.proofs.Told.{IsListOf, list_of}
+use Rattle.lert_worker.specs.{Brings.IsOwn, Ends.{Stopped, WasRead}, Ran.{HasRun, RanIn, Working}, declared.end.WorkerEnd.TheVariants.Cone}
+use Rattle.lert_ingest.specs.{Back.AreSeen, Bays.IsLater, Cones.AreNew, Crew.{EachShows, Shows}, Crews.{AreLeftBy, AreReadBy, IsReadOf, fresh_reader}, Faults.end_of}
+use Rattle.lert_ingest.specs.{Ingest.{AreReady, IsReady, firsts_of}, Shares.{IsShare, LeftIn}, Sharing.WereTaken}
+use Rattle.lert_ingest.proofs.{Crew.{left_in, part_first}, Ended.{IsConeHeld, is_back}, Told.{IsListOf, list_of}}
 
 -- a filter that all pass
 filter_all : {A : Type 0} (number : A → ℕ) (xs : List A) (n : ℕ) → All (λ x. number x ≡ n) xs → filter (λ x. eqb (number x) n) xs ≡ xs

@@ -1,14 +1,10 @@
 -- What holds of each of some bays, as it was and as it is.
-use Rattle.std.proofs.Common.{◌≡◌, ℕ, List, [], ◌∷◌, ◌++◌, length, set, get_or, Option, Some, None, slice_get, refl, ap, sym, ◌∙◌, subst, inl, inr, arith}
-use Rattle.std.proofs.lemmas.Bool.{cases_eq}
+use Rattle.std.proofs.{Common.{◌≡◌, ℕ, List, [], ◌∷◌, ◌++◌, length, set, get_or, Option, Some, None, slice_get, refl, ap, sym, ◌∙◌, subst, inl, inr, arith}, lemmas.Bool.cases_eq}
 use Rattle.std.proofs.lemmas.Option.{slice_get-get_or, slice_get_within, same_Some}
 use Rattle.lert_bay.specs.Files.{Files, IfTold, Turns}
-use Rattle.lert_cone.specs.Listing.{Listing}
-use Rattle.lert_cone.specs.Sound.{AreEmpty, IsSoundAs}
-use Rattle.lert_cone.specs.Stands.{Standing, is_broken}
+use Rattle.lert_cone.specs.{Listing.Listing, Sound.{AreEmpty, IsSoundAs}, Stands.{Standing, is_broken}}
 use Rattle.lert_spec.specs.declared.numbers.Numbers.{Numbers}
-use Rattle.lert_ingest.specs.Bays.{AreKept, AreUnused, AreUnusedBut, EachBay, IsUnused}
-use Rattle.lert_ingest.specs.Cones.{IsNew}
+use Rattle.lert_ingest.specs.{Bays.{AreKept, AreUnused, AreUnusedBut, EachBay, IsUnused}, Cones.IsNew}
 use Rattle.lert_ingest.proofs.BayLaws.{set-seam, slice_get-seam, slice_get-set_other, slice_get-set_same}
 
 module _ {B : Type 0} (R : ℕ → B → B → Type 0) where
@@ -39,10 +35,6 @@ module _ {B : Type 0} (R : ℕ → B → B → Type 0) where
       EachBay R (xs ++ old ∷ ys) (xs ++ new ∷ ys)
   each_seam still xs old new ys here =
       subst (EachBay R (xs ++ old ∷ ys)) (set-seam xs old new ys) (each_set still (xs ++ old ∷ ys) (length xs) old new (slice_get-seam xs old ys) here)
-
-pub each_weaker : {B : Type 0} (R Q : ℕ → B → B → Type 0) → ((cone : ℕ) (a b : B) → R cone a b → Q cone a b) → (bays later : List B) → EachBay R bays later →
-    EachBay Q bays later
-each_weaker R Q weaker bays later each = λ cone before now was is. weaker cone before now (each cone before now was is)
 
 module _ {B : Type 0} (files : B → Option Files) where
   pub kept_same : (bays : List B) → AreKept files bays bays

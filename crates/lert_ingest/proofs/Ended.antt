@@ -1,26 +1,14 @@
 -- A cone that came back from its lock, by its lock's history.
-use Rattle.std.proofs.Common.{◌≡◌, ◌≢◌, ◌⊎◌, ℕ, ◌+◌, ◌<◌, Bool, false, eqb, List, [], ◌++◌, length, get_or}
-use Rattle.std.proofs.Common.{Option, Some, None, refl, ap, sym, ◌∙◌, subst, inl, inr}
+use Rattle.std.proofs.{Common.{◌≡◌, ◌≢◌, ◌⊎◌, ℕ, ◌+◌, ◌<◌, Bool, false, eqb, List, [], ◌++◌, length, get_or, Option, Some, None, refl, ap, sym, ◌∙◌, subst, inl, inr}, lemmas.Bool.eq-eqb}
+use Rattle.std.proofs.{lemmas.List.Elements.Contains-get_or, lemmas.Option.{none-some, same_Some}}
 use Rattle.std.specs.Prelude.{Contains, IsTrue}
-use Rattle.std.proofs.lemmas.Bool.{eq-eqb}
-use Rattle.std.proofs.lemmas.List.Elements.{Contains-get_or}
-use Rattle.std.proofs.lemmas.Option.{none-some, same_Some}
-use Rattle.lert_base.specs.declared.held.Held.{Ghosts as HeldOf}
-use Rattle.lert_base.specs.Packet.{Packet, events_of, own}
+use Rattle.lert_base.specs.{declared.held.Held.{Ghosts as HeldOf}, Packet.{Packet, events_of, own}, declared.cone_fault.ConeFault.ConeFault, declared.cone_fault.ConeFault.TheVariants.CapacityFull}
 use Rattle.lert_bay.specs.Files.{Files}
-use Rattle.lert_cone.specs.Listing.{Listing}
-use Rattle.lert_cone.specs.Stands.{Standing, StandsFor, Terms, WereSound, is_broken, is_finished, terms_of}
-use Rattle.lert_base.specs.declared.cone_fault.ConeFault.{ConeFault}
-use Rattle.lert_base.specs.declared.cone_fault.ConeFault.TheVariants.{CapacityFull}
-use Rattle.lert_cone.specs.declared.state.ConeState.TheVariants.{Running}
+use Rattle.lert_cone.specs.{Listing.Listing, Stands.{Standing, StandsFor, Terms, WereSound, is_broken, is_finished, terms_of}, declared.state.ConeState.TheVariants.Running}
 use Rattle.lert_conelock.proofs.Contained.{Contains-filter, Contains-filter_back}
-use Rattle.lert_conelock.specs.Prefix.{IsPrefix}
-use Rattle.lert_conelock.specs.Sight.{Closed, LockSight, Sight, own_refused}
-use Rattle.lert_spec.specs.declared.numbers.Numbers.{Numbers}
-use Rattle.lert_spec.specs.Edges.{capacity}
-use Rattle.lert_ingest.specs.Back.{IsBack, IsFullAt}
-use Rattle.lert_ingest.specs.Bays.{IsLater}
-use Rattle.lert_ingest.specs.Cones.{IsNew}
+use Rattle.lert_conelock.specs.{Prefix.IsPrefix, Sight.{Closed, LockSight, Sight, own_refused}}
+use Rattle.lert_spec.specs.{declared.numbers.Numbers.Numbers, Edges.capacity}
+use Rattle.lert_ingest.specs.{Back.{IsBack, IsFullAt}, Bays.IsLater, Cones.IsNew}
 
 -- what a cone is under a lock
 pub record IsConeHeld {B R : Type 0} (files : B → Option Files) (leaves : B → Files → Type 0) (faults mark : B → ℕ) (held : HeldOf (Standing B) (Terms B) R ConeFault) : Type 0 where

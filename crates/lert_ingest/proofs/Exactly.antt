@@ -1,16 +1,11 @@
 -- Which fault it is that is answered, where all tell and no fault was counted.
-use Rattle.std.proofs.Common.{◌≡◌, ℕ, ◌^◌, ◌<◌, ◌≤◌, zero, suc, List, [], ◌∷◌, length, map, Option, Some}
-use Rattle.std.proofs.Common.{slice_get, refl, ap, sym, ◌∙◌, subst, inl, inr, arith}
+use Rattle.std.proofs.Common.{◌≡◌, ℕ, ◌^◌, ◌<◌, ◌≤◌, zero, suc, List, [], ◌∷◌, length, map, Option, Some, slice_get, refl, ap, sym, ◌∙◌, subst, inl, inr, arith}
 use Rattle.std.proofs.lemmas.Option.{get_or_from_slice_get, none-some, same_Some, slice_get_within}
 use Rattle.lert_bay.specs.Files.{Files}
 use Rattle.lert_io.specs.Fault.{HasRisen, IsFaultless}
-use Rattle.lert_spec.specs.declared.numbers.Numbers.{Numbers}
-use Rattle.lert_spec.specs.Edges.{capacity}
-use Rattle.lert_spec.specs.Trace.{left, whole}
-use Rattle.lert_ingest.specs.Bays.{HasFailed, IsUntold}
-use Rattle.lert_ingest.specs.Stops.{AreTelling, IsExact, StopShows, trace_fault, bad_trace, too_long, bay_fault, malformed, capacity_full, out_of_memory}
-use Rattle.lert_ingest.specs.Traces.{AreBytesOf, AreKeysOf, HasTraceFailed, most_keys, part_length}
-use Rattle.lert_ingest.specs.declared.status.Status.{Status}
+use Rattle.lert_spec.specs.{declared.numbers.Numbers.Numbers, Edges.capacity, Trace.{left, whole}}
+use Rattle.lert_ingest.specs.{Bays.{HasFailed, IsUntold}, Stops.{AreTelling, IsExact, StopShows, trace_fault, bad_trace, too_long, bay_fault, malformed, capacity_full, out_of_memory}}
+use Rattle.lert_ingest.specs.{Traces.{AreBytesOf, AreKeysOf, HasTraceFailed, most_keys, part_length}, declared.status.Status.Status}
 use Rattle.lert_ingest.specs.declared.status.Status.TheVariants as status
 use Rattle.lert_ingest.proofs.BayLaws.{slice_get-some}
 

@@ -1,18 +1,11 @@
 -- The first fault of several.
-use Rattle.std.proofs.Common.{◌≡◌, ◌⊎◌, ℕ, ◌+◌, ◌<◌, ◌≤◌, zero, suc, Bool, true, false, cond, eqb, ltb, ◌&&◌, List, length, get_or}
-use Rattle.std.proofs.Common.{Option, Some, None, slice_get, refl, ap, sym, ◌∙◌, subst, inl, inr, arith}
-use Rattle.std.proofs.lemmas.Bool.{and_from, and_parts, cases_lt, eq-eqb, false≢true, lt-ltb, ltb-true, or_cases, or_left, or_right}
-use Rattle.std.proofs.lemmas.Option.{none-some, same_Some}
+use Rattle.std.proofs.Common.{◌≡◌, ◌⊎◌, ℕ, ◌+◌, ◌<◌, ◌≤◌, zero, suc, Bool, true, false, cond, eqb, ltb, ◌&&◌, List, length, get_or, Option, Some, None, slice_get, refl, ap, sym, ◌∙◌, subst, inl, inr}
+use Rattle.std.proofs.{Common.arith, lemmas.Bool.{and_from, and_parts, cases_lt, eq-eqb, false≢true, lt-ltb, ltb-true, or_cases, or_left, or_right}, lemmas.Option.{none-some, same_Some}}
 use Rattle.lert_bay.specs.Files.{Files, Turns}
-use Rattle.lert_cone.specs.Stands.{Standing, is_broken, is_finished}
-use Rattle.lert_cone.specs.Wrote.{Anything}
-use Rattle.lert_ingest.specs.Back.{IsSeen}
-use Rattle.lert_cone.specs.declared.state.ConeState.{ConeState}
+use Rattle.lert_cone.specs.{Stands.{Standing, is_broken, is_finished}, Wrote.Anything, declared.state.ConeState.ConeState}
+use Rattle.lert_ingest.specs.{Back.IsSeen, Faults.{earlier, earliest, end_at, end_fault, end_of, fault_at, fault_of, goes_before, number_in, rank, state_fault}, declared.status.Status.Status}
 use Rattle.lert_fleet.proofs.Places.{read_at}
-use Rattle.lert_ingest.specs.Faults.{earlier, earliest, end_at, end_fault, end_of, fault_at, fault_of, goes_before, number_in, rank, state_fault}
-use Rattle.lert_ingest.specs.declared.status.Status.{Status}
-use Rattle.lert_worker.specs.Ran.{Worked}
-use Rattle.lert_worker.specs.declared.end.WorkerEnd.{WorkerEnd}
+use Rattle.lert_worker.specs.{Ran.Worked, declared.end.WorkerEnd.WorkerEnd}
 use Rattle.lert_ingest.proofs.PartLaws.{eqb_true}
 
 -- a status isn't answered later than another one

@@ -1,16 +1,12 @@
 -- What fewer workers leave is what more of them leave, where each trace has the same worker in both crews.
 use Rattle.std.proofs.Common.{◌≡◌, ◌∙◌, ℕ, List, length, Option, Result, Ok, Err, sym, subst}
 use Rattle.std.specs.Prelude.{IfErr, OnOk}
-use Rattle.lert_base.specs.Packet.{Packet}
-use Rattle.lert_base.specs.Weave.{IsBrought, IsPartWoven, IsWoven}
+use Rattle.lert_base.specs.{Packet.Packet, Weave.{IsBrought, IsPartWoven, IsWoven}}
 use Rattle.lert_bay.specs.Files.{Files}
 use Rattle.lert_cone.specs.Stands.{Standing}
 use Rattle.lert_spec.specs.declared.numbers.Numbers.{Numbers}
-use Rattle.lert_ingest.specs.Bays.{ArePartWoven, HoldsOpen, HoldsPart, bays_of}
-use Rattle.lert_ingest.specs.Ingest.{HasIngested}
-use Rattle.lert_ingest.specs.Shares.{AreReadBySame}
-use Rattle.lert_ingest.specs.Stops.{AreIngested, AreOpenPartly, StopShows, trace_fault, bad_trace, too_long, bay_fault, malformed, capacity_full, out_of_memory}
-use Rattle.lert_ingest.specs.declared.status.Status.{Status}
+use Rattle.lert_ingest.specs.{Bays.{ArePartWoven, HoldsOpen, HoldsPart, bays_of}, Ingest.HasIngested, Shares.AreReadBySame}
+use Rattle.lert_ingest.specs.{Stops.{AreIngested, AreOpenPartly, StopShows, trace_fault, bad_trace, too_long, bay_fault, malformed, capacity_full, out_of_memory}, declared.status.Status.Status}
 use Rattle.lert_ingest.proofs.Exactly.{exact_turned}
 
 module _ (s : Numbers) (fewer workers : ℕ) where

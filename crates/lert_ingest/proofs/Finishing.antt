@@ -1,32 +1,21 @@
 -- How the call that reads traces into cones ends.
-use Rattle.std.proofs.Common.{◌≡◌, ℕ, ◌%◌, ◌^◌, ◌<◌, ◌≤◌, zero, suc, List, [], ◌∷◌, ◌++◌, length}
-use Rattle.std.proofs.Common.{drop, take, get_or, Option, Some, Result, slice_get, refl, ap, sym, ◌∙◌, subst, arith}
+use Rattle.std.proofs.Common.{◌≡◌, ℕ, ◌%◌, ◌^◌, ◌<◌, ◌≤◌, zero, suc, List, [], ◌∷◌, ◌++◌, length, drop, take, get_or, Option, Some, Result, slice_get, refl, ap, sym, ◌∙◌, subst, arith}
+use Rattle.std.proofs.{lemmas.List.{length-take, take-append-drop}, lemmas.Option.{none-some, same_Some, slice_get-get_or, slice_get_within}}
 use Rattle.std.specs.Prelude.{All}
-use Rattle.std.proofs.lemmas.List.{length-take, take-append-drop}
-use Rattle.std.proofs.lemmas.Option.{none-some, same_Some, slice_get-get_or, slice_get_within}
-use Rattle.lert_base.specs.declared.held.Held.{Ghosts as HeldOf}
-use Rattle.lert_base.specs.Packet.{Packet}
+use Rattle.lert_base.specs.{declared.held.Held.{Ghosts as HeldOf}, Packet.Packet, declared.cone_fault.ConeFault.ConeFault}
 use Rattle.lert_bay.specs.Files.{Files}
-use Rattle.lert_cone.specs.Listing.{Listing}
-use Rattle.lert_cone.specs.Stands.{Standing, Terms, terms_of}
-use Rattle.lert_base.specs.declared.cone_fault.ConeFault.{ConeFault}
+use Rattle.lert_cone.specs.{Listing.Listing, Stands.{Standing, Terms, terms_of}}
 use Rattle.lert_conelock.specs.Sight.{LockSight}
 use Rattle.lert_fleet.proofs.Places.{some_at}
 use Rattle.lert_fleet.specs.Cones.{ClosesEach, FleetPassSight, FleetSight}
 use Rattle.lert_journal.specs.Payload.{IsJournaled}
 use Rattle.lert_spec.specs.declared.numbers.Numbers.{Numbers}
 use Rattle.lert_worker.specs.Ran.{MayRun, Working}
-use Rattle.lert_ingest.specs.Back.{AreSeen}
-use Rattle.lert_ingest.specs.Cones.{AreNew}
-use Rattle.lert_ingest.specs.Crew.{AllQuiet, Brought, EachShows, IsPassFrom, IsQuiet, Shows, Turned}
-use Rattle.lert_ingest.specs.Crews.{fresh_reader}
-use Rattle.lert_ingest.specs.Faults.{earlier, earliest, end_fault, end_of, fault_at}
-use Rattle.lert_ingest.specs.Ingest.{AreReady, HasCrewRun, HasIngested, answer_of, firsts_of}
-use Rattle.lert_ingest.specs.Sharing.{AreManned, WereTaken}
+use Rattle.lert_ingest.specs.{Back.AreSeen, Cones.AreNew, Crew.{AllQuiet, Brought, EachShows, IsPassFrom, IsQuiet, Shows, Turned}, Crews.fresh_reader}
+use Rattle.lert_ingest.specs.{Faults.{earlier, earliest, end_fault, end_of, fault_at}, Ingest.{AreReady, HasCrewRun, HasIngested, answer_of, firsts_of}, Sharing.{AreManned, WereTaken}}
 use Rattle.lert_ingest.specs.declared.status.Status.{Status}
 use Rattle.lert_ingest.proofs.Assembling.{ingested, same_lists}
-use Rattle.lert_ingest.proofs.Crewing.{Choice, calls_of, choice_at, each_shows, left_by, place_of, read_by, readers_of, reads_of, refused_of, share_of, sight_of, stopped_of}
-use Rattle.lert_ingest.proofs.Ended.{IsConeHeld}
+use Rattle.lert_ingest.proofs.{Crewing.{Choice, calls_of, choice_at, each_shows, left_by, place_of, read_by, readers_of, reads_of, refused_of, share_of, sight_of, stopped_of}, Ended.IsConeHeld}
 
 -- the first items of a list
 taken_at : {A : Type 0} (n : ℕ) (xs : List A) (k : ℕ) (x : A) → slice_get (take n xs) k ≡ Some x → slice_get xs k ≡ Some x

@@ -1,16 +1,10 @@
 -- What all workers brought to a cone, told from what each of them brought.
-use Rattle.std.proofs.Common.{◌≡◌, ℕ, ◌%◌, ◌<◌, ◌≤◌, Bool, true, false, cond, eqb, List, [], ◌∷◌, ◌++◌}
-use Rattle.std.proofs.Common.{length, Some, slice_get, refl, ap, sym, ◌∙◌, subst, inl, inr, arith}
-use Rattle.std.proofs.Common.{append_assoc, length-append}
-use Rattle.std.specs.Prelude.{All}
-use Rattle.std.proofs.lemmas.Bool.{cases_eq, eq-eqb, ne_eqb}
-use Rattle.std.proofs.lemmas.List.Elements.{All-head, All-tail, All-cons, All-contains, All-nil, filter-append}
+use Rattle.std.proofs.Common.{◌≡◌, ℕ, ◌%◌, ◌<◌, ◌≤◌, Bool, true, false, cond, eqb, List, [], ◌∷◌, ◌++◌, length, Some, slice_get, refl, ap, sym, ◌∙◌, subst, inl, inr, arith, append_assoc}
+use Rattle.std.proofs.{Common.length-append, lemmas.Bool.{cases_eq, eq-eqb, ne_eqb}, lemmas.List.Elements.{All-head, All-tail, All-cons, All-contains, All-nil, filter-append}}
 use Rattle.std.proofs.lemmas.Option.{slice_get_within}
-use Rattle.lert_base.specs.Beginning.{BeginsWith}
-use Rattle.lert_base.specs.Packet.{Packet, events_of, of_trace, own}
-use Rattle.lert_base.specs.Weave.{AreCut, IsBrought, IsPartWoven, IsWoven}
-use Rattle.lert_spec.specs.declared.numbers.Numbers.{Numbers}
-use Rattle.lert_spec.specs.Mix.{cone_of, part_of}
+use Rattle.std.specs.Prelude.{All}
+use Rattle.lert_base.specs.{Beginning.BeginsWith, Packet.{Packet, events_of, of_trace, own}, Weave.{AreCut, IsBrought, IsPartWoven, IsWoven}}
+use Rattle.lert_spec.specs.{declared.numbers.Numbers.Numbers, Mix.{cone_of, part_of}}
 use Rattle.lert_worker.specs.Brings.{IsOwn}
 use Rattle.lert_ingest.specs.Shares.{HasAll, HasPart, IsShare}
 use Rattle.lert_ingest.proofs.BayLaws.{slice_get-first}

@@ -1,31 +1,15 @@
 -- What the files of a cone hold that came back from its lock, by what all workers left in it.
-use Rattle.std.proofs.Common.{◌≡◌, ◌≢◌, ◌⊎◌, ℕ, ◌+◌, ◌%◌, ◌<◌, ◌≤◌, Bool, true, false, List, [], ◌∷◌, ◌++◌}
-use Rattle.std.proofs.Common.{length, Option, Some, slice_get, refl, ap, sym, ◌∙◌, subst, inl, inr, arith}
-use Rattle.std.proofs.Common.{length-append}
-use Rattle.std.specs.Prelude.{All, Contains}
+use Rattle.std.proofs.Common.{◌≡◌, ◌≢◌, ◌⊎◌, ℕ, ◌+◌, ◌%◌, ◌<◌, ◌≤◌, Bool, true, false, List, [], ◌∷◌, ◌++◌, length, Option, Some, slice_get, refl, ap, sym, ◌∙◌, subst, inl, inr, arith, length-append}
 use Rattle.std.proofs.lemmas.List.Concat.{flat_map-append}
-use Rattle.lert_base.specs.Beginning.{BeginsWith}
-use Rattle.lert_base.specs.Packet.{Packet, events_of, of_trace}
-use Rattle.lert_base.specs.Weave.{IsPartWoven, IsWhole}
+use Rattle.std.specs.Prelude.{All, Contains}
+use Rattle.lert_base.specs.{Beginning.BeginsWith, Packet.{Packet, events_of, of_trace}, Weave.{IsPartWoven, IsWhole}, declared.cone_fault.ConeFault.ConeFault}
 use Rattle.lert_bay.specs.Files.{Files, IfTold}
-use Rattle.lert_cone.specs.Sound.{IsSound, IsSoundAs, IsSoundOver}
-use Rattle.lert_cone.specs.Stands.{Standing, is_broken}
-use Rattle.lert_base.specs.declared.cone_fault.ConeFault.{ConeFault}
-use Rattle.lert_cone.specs.declared.state.ConeState.TheVariants.{Running}
+use Rattle.lert_cone.specs.{Sound.{IsSound, IsSoundAs, IsSoundOver}, Stands.{Standing, is_broken}, declared.state.ConeState.TheVariants.Running}
 use Rattle.lert_conelock.proofs.Contained.{item_here}
-use Rattle.lert_spec.specs.declared.numbers.Numbers.{Numbers}
-use Rattle.lert_spec.specs.Edges.{capacity}
-use Rattle.lert_worker.specs.Brings.{HasNoRest}
-use Rattle.lert_worker.specs.declared.end.WorkerEnd.{WorkerEnd}
-use Rattle.lert_worker.specs.declared.end.WorkerEnd.TheVariants.{Ran, Cone}
-use Rattle.lert_ingest.specs.Back.{IsBack, IsFullAt}
-use Rattle.lert_ingest.specs.Bays.{HoldsKeys, HoldsOpen, HoldsPart}
-use Rattle.lert_ingest.specs.Shares.{IsShare, LeftIn}
-use Rattle.lert_ingest.specs.Stops.{IsWeaving}
-use Rattle.lert_ingest.specs.Traces.{part_length}
-use Rattle.lert_ingest.proofs.Counting.{part_count, woven_count}
-use Rattle.lert_ingest.proofs.Crew.{crew_part, crew_turned, crew_woven, was_turned}
-use Rattle.lert_ingest.proofs.Gathering.{of_trace-own}
+use Rattle.lert_spec.specs.{declared.numbers.Numbers.Numbers, Edges.capacity}
+use Rattle.lert_worker.specs.{Brings.HasNoRest, declared.end.WorkerEnd.WorkerEnd, declared.end.WorkerEnd.TheVariants.{Ran, Cone}}
+use Rattle.lert_ingest.specs.{Back.{IsBack, IsFullAt}, Bays.{HoldsKeys, HoldsOpen, HoldsPart}, Shares.{IsShare, LeftIn}, Stops.IsWeaving, Traces.part_length}
+use Rattle.lert_ingest.proofs.{Counting.{part_count, woven_count}, Crew.{crew_part, crew_turned, crew_woven, was_turned}, Gathering.of_trace-own}
 
 module _ {B : Type 0} (files : B → Option Files) (leaves : B → Files → Type 0) (faults mark : B → ℕ) (s : Numbers) (workers : ℕ) (some : 1 ≤ workers) (number : ℕ)
     (traces : List (List ℕ)) (shares : ℕ → List ℕ) (reads : ℕ → List (List ℕ)) (stopped : ℕ → ℕ) (ends : ℕ → WorkerEnd)

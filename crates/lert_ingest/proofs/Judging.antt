@@ -1,44 +1,26 @@
 -- What the fault shows that is answered, where a crew of workers stopped.
-use Rattle.std.proofs.Common.{◌≡◌, ◌≢◌, ◌⊎◌, ℕ, ◌%◌, ◌<◌, ◌≤◌, List, [], ◌∷◌, ◌++◌, length}
-use Rattle.std.proofs.Common.{Some, slice_get, refl, ap, sym, ◌∙◌, subst, inl, inr, arith}
-use Rattle.std.proofs.lemmas.List.{length-map}
+use Rattle.std.proofs.{Common.{◌≡◌, ◌≢◌, ◌⊎◌, ℕ, ◌%◌, ◌<◌, ◌≤◌, List, [], ◌∷◌, ◌++◌, length, Some, slice_get, refl, ap, sym, ◌∙◌, subst, inl, inr, arith}, lemmas.List.length-map}
+use Rattle.std.proofs.{lemmas.List.Elements.{All-contains, Contains-push}, lemmas.Option.{get_or_from_slice_get, none-some, same_Some, slice_get_within}}
 use Rattle.std.specs.Prelude.{All, Contains}
-use Rattle.std.proofs.lemmas.List.Elements.{All-contains, Contains-push}
-use Rattle.std.proofs.lemmas.Option.{get_or_from_slice_get, none-some, same_Some, slice_get_within}
-use Rattle.lert_base.specs.Beginning.{BeginsWith}
-use Rattle.lert_base.specs.Packet.{Packet, events_of}
+use Rattle.lert_base.specs.{Beginning.BeginsWith, Packet.{Packet, events_of}, declared.cone_fault.ConeFault.ConeFault}
 use Rattle.lert_bay.specs.Files.{Files, IfTold}
 use Rattle.lert_cone.specs.Stands.{Standing, is_finished}
-use Rattle.lert_base.specs.declared.cone_fault.ConeFault.{ConeFault}
 use Rattle.lert_base.specs.declared.cone_fault.ConeFault.TheVariants as fault
 use Rattle.lert_cone.specs.declared.state.ConeState.{ConeState}
 use Rattle.lert_cone.specs.declared.state.ConeState.TheVariants as state
 use Rattle.lert_conelock.proofs.Contained.{item_here}
 use Rattle.lert_io.specs.Fault.{HasRisen, IsFaultless}
 use Rattle.lert_spec.specs.Trace.{left}
-use Rattle.lert_trace.specs.Reader.{Means}
-use Rattle.lert_trace.specs.declared.fault.TraceFault.{TraceFault}
+use Rattle.lert_trace.specs.{Reader.Means, declared.fault.TraceFault.TraceFault}
 use Rattle.lert_trace.specs.declared.fault.TraceFault.TheVariants as trace_fault
-use Rattle.lert_worker.specs.Brings.{HasNoRest, IsOwn}
-use Rattle.lert_worker.specs.Ran.{StillOpen}
-use Rattle.lert_worker.specs.Ends.{Stopped}
-use Rattle.lert_worker.specs.declared.end.WorkerEnd.{WorkerEnd}
+use Rattle.lert_worker.specs.{Brings.{HasNoRest, IsOwn}, Ran.StillOpen, Ends.Stopped, declared.end.WorkerEnd.WorkerEnd}
 use Rattle.lert_worker.specs.declared.end.WorkerEnd.TheVariants as end
-use Rattle.lert_ingest.specs.Back.{IsBack, IsFullAt}
-use Rattle.lert_ingest.specs.Bays.{AreLater, ArePartWoven, HoldsKeys, HoldsPart, IsLater, bays_of}
-use Rattle.lert_ingest.specs.Faults.{earliest, end_fault, fault_at, fault_of, full_fault, rank, state_fault}
-use Rattle.lert_ingest.specs.Shares.{IsShare, LeftIn}
-use Rattle.lert_ingest.specs.Status.{stop_status}
-use Rattle.lert_ingest.specs.Stops.{AreOpenPartly, StopShows}
-use Rattle.lert_ingest.specs.Traces.{most_keys}
-use Rattle.lert_ingest.specs.declared.status.Status.{Status}
+use Rattle.lert_ingest.specs.{Back.{IsBack, IsFullAt}, Bays.{AreLater, ArePartWoven, HoldsKeys, HoldsPart, IsLater, bays_of}}
+use Rattle.lert_ingest.specs.{Faults.{earliest, end_fault, fault_at, fault_of, full_fault, rank, state_fault}, Shares.{IsShare, LeftIn}, Status.stop_status, Stops.{AreOpenPartly, StopShows}}
+use Rattle.lert_ingest.specs.{Traces.most_keys, declared.status.Status.Status}
 use Rattle.lert_ingest.specs.declared.status.Status.TheVariants as status
-use Rattle.lert_ingest.proofs.BayLaws.{bay_at, slice_get-some, untold_since}
-use Rattle.lert_ingest.proofs.Crew.{turned_part, was_turned}
-use Rattle.lert_ingest.proofs.Crewed.{Crewed, first_fault}
-use Rattle.lert_ingest.proofs.FaultOrder.{IsFirstOf, each_of, of_all, of_two}
-use Rattle.lert_ingest.proofs.Holding.{enough, holds_keys, holds_open, holds_part, no_rest_of}
-use Rattle.lert_ingest.proofs.Told.{all_begun, all_keys, are_keys}
+use Rattle.lert_ingest.proofs.{BayLaws.{bay_at, slice_get-some, untold_since}, Crew.{turned_part, was_turned}, Crewed.{Crewed, first_fault}, FaultOrder.{IsFirstOf, each_of, of_all, of_two}}
+use Rattle.lert_ingest.proofs.{Holding.{enough, holds_keys, holds_open, holds_part, no_rest_of}, Told.{all_begun, all_keys, are_keys}}
 
 module _ {S B : Type 0} (crew : Crewed S B) where
   open crew.read use {remaining, s_faults, s_mark, workers, some, opened, laters, shares, reads, was, readings, places, stopped, ends, run}

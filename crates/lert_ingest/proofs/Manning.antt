@@ -1,16 +1,10 @@
 -- A crew before its run, and what a run leaves of it.
-use Rattle.std.proofs.Common.{◌≡◌, ℕ, ◌+◌, ◌≤◌, zero, suc, List, [], ◌∷◌, ◌++◌, length}
-use Rattle.std.proofs.Common.{take, Option, Some, slice_get, refl, ap, sym, ◌∙◌, subst, arith}
-use Rattle.std.proofs.lemmas.Option.{slice_get_within}
+use Rattle.std.proofs.{Common.{◌≡◌, ℕ, ◌+◌, ◌≤◌, zero, suc, List, [], ◌∷◌, ◌++◌, length, take, Option, Some, slice_get, refl, ap, sym, ◌∙◌, subst, arith}, lemmas.Option.slice_get_within}
 use Rattle.lert_fleet.proofs.Places.{some_at}
-use Rattle.lert_fleet.specs.Cones.{FleetSight}
-use Rattle.lert_fleet.specs.Each.{EachTwo}
+use Rattle.lert_fleet.specs.{Cones.FleetSight, Each.EachTwo}
 use Rattle.lert_spec.specs.declared.numbers.Numbers.{Numbers}
 use Rattle.lert_worker.specs.Ran.{HasRun, Working}
-use Rattle.lert_ingest.specs.Crew.{AllQuiet, AreDone, AreInLine, IsPassFrom, IsQuiet}
-use Rattle.lert_ingest.specs.Ingest.{AreReady}
-use Rattle.lert_ingest.specs.Shares.{IsShare}
-use Rattle.lert_ingest.specs.Sharing.{AreFree, AreManned, AreShared, WereTaken}
+use Rattle.lert_ingest.specs.{Crew.{AllQuiet, AreDone, AreInLine, IsPassFrom, IsQuiet}, Ingest.AreReady, Shares.IsShare, Sharing.{AreFree, AreManned, AreShared, WereTaken}}
 
 module _ {S H : Type 0} where
   -- workers that were hired have no trace

@@ -1,6 +1,5 @@
 -- Tests of numbers.
-use Rattle.std.proofs.Common.{◌≡◌, ℕ, true, eqb, inl, inr}
-use Rattle.std.proofs.lemmas.Bool.{cases_eq, ne_eqb}
+use Rattle.std.proofs.{Common.{◌≡◌, ℕ, true, eqb, inl, inr}, lemmas.Bool.{cases_eq, ne_eqb}}
 
 pub eqb_true : (a b : ℕ) → eqb a b ≡ true → a ≡ b
 eqb_true a b equal =

@@ -1,18 +1,13 @@
 -- Passes of a crew, cut and put together.
-use Rattle.std.proofs.Common.{◌≡◌, ℕ, ◌+◌, ◌-◌, ◌<◌, ◌≤◌, Bool, cond, eqb, List, [], ◌∷◌, ◌++◌, length, filter, get_or, reverse, Some}
-use Rattle.std.proofs.Common.{slice_get, refl, ap, sym, ◌∙◌, subst, inl, inr, arith}
-use Rattle.std.proofs.Common.{length-append}
-use Rattle.std.proofs.lemmas.Bool.{cases_lt, eq-eqb}
-use Rattle.std.proofs.lemmas.Option.{get_or_from_slice_get, none-some, same_Some, slice_get-get_or, slice_get_within}
+use Rattle.std.proofs.Common.{◌≡◌, ℕ, ◌+◌, ◌-◌, ◌<◌, ◌≤◌, Bool, cond, eqb, List, [], ◌∷◌, ◌++◌, length, filter, get_or, reverse, Some, slice_get, refl, ap, sym, ◌∙◌, subst, inl, inr, arith}
+use Rattle.std.proofs.{Common.length-append, lemmas.Bool.{cases_lt, eq-eqb}, lemmas.Option.{get_or_from_slice_get, none-some, same_Some, slice_get-get_or, slice_get_within}}
 use Rattle.std.proofs.lemmas.List.{get_or-reverse, length-reverse}
-use Rattle.lert_base.specs.Packet.{Packet, own}
-use Rattle.lert_base.specs.declared.cone_fault.ConeFault.{ConeFault}
+use Rattle.lert_base.specs.{Packet.{Packet, own}, declared.cone_fault.ConeFault.ConeFault}
 use Rattle.lert_conelock.specs.Sight.{Joined, Sight, first_pass, own_refused}
 use Rattle.lert_fleet.proofs.Places.{image_at, some_at}
 use Rattle.lert_fleet.specs.Cones.{FleetPassSight, FleetSight, IsPassOf, JoinsEach, below, first_passes, from}
 use Rattle.lert_spec.specs.declared.numbers.Numbers.{Numbers}
-use Rattle.lert_worker.specs.Ran.{Working}
-use Rattle.lert_worker.specs.declared.end.WorkerEnd.TheVariants.{Ran}
+use Rattle.lert_worker.specs.{Ran.Working, declared.end.WorkerEnd.TheVariants.Ran}
 use Rattle.lert_ingest.specs.Crew.{AllQuiet, AllShow, AreDone, AreHired, AreInLine, AreLeaving, Brought, EachShows, IsHired, IsPassFrom, IsQuiet, Shows, Turned}
 use Rattle.lert_ingest.proofs.BayLaws.{slice_get-first, slice_get-seam}
 

@@ -1,6 +1,5 @@
 -- Elements of lists that are put back where they stood, that are left behind a number, and that are poured behind another list.
-use Rattle.std.proofs.Common.{◌≡◌, ℕ, ◌+◌, ◌≤◌, zero, suc, List, [], ◌∷◌, ◌++◌, length, set, get_or, drop, Some, slice_get}
-use Rattle.std.proofs.Common.{refl, ap, sym, ◌∙◌, arith, length-append, append_assoc}
+use Rattle.std.proofs.Common.{◌≡◌, ℕ, ◌+◌, ◌≤◌, zero, suc, List, [], ◌∷◌, ◌++◌, length, set, get_or, drop, Some, slice_get, refl, ap, sym, ◌∙◌, arith, length-append, append_assoc}
 
 -- a list in which what stands there is put there
 pub set_back : {A : Type 0} (xs : List A) (n : ℕ) (d x : A) → x ≡ get_or xs n d → set xs n x ≡ xs

@@ -1,20 +1,13 @@
 -- Traces that are given to workers, and taken back.
-use Rattle.std.proofs.Common.{◌≡◌, ◌≢◌, ◌⊎◌, ℕ, ◌+◌, ◌%◌, ◌<◌, ◌≤◌, zero, suc, List, [], ◌∷◌, ◌++◌, length, set, get_or}
-use Rattle.std.proofs.Common.{drop, Some, slice_get, refl, ap, sym, ◌∙◌, subst, inl, inr, arith}
-use Rattle.std.proofs.Common.{length-append}
-use Rattle.std.specs.Prelude.{All}
-use Rattle.std.proofs.lemmas.Bool.{cases_eq, cases_lt}
-use Rattle.std.proofs.lemmas.List.{drop_all, length-set}
-use Rattle.std.proofs.lemmas.List.Elements.{All-nil, All-push, All-weaker}
+use Rattle.std.proofs.Common.{◌≡◌, ◌≢◌, ◌⊎◌, ℕ, ◌+◌, ◌%◌, ◌<◌, ◌≤◌, zero, suc, List, [], ◌∷◌, ◌++◌, length, set, get_or, drop, Some, slice_get, refl, ap, sym, ◌∙◌, subst, inl, inr, arith}
+use Rattle.std.proofs.{Common.length-append, lemmas.Bool.{cases_eq, cases_lt}, lemmas.List.{drop_all, length-set}, lemmas.List.Elements.{All-nil, All-push, All-weaker}}
 use Rattle.std.proofs.lemmas.Option.{get_or_from_slice_get, none-some, same_Some, slice_get-get_or, slice_get_within}
+use Rattle.std.specs.Prelude.{All}
 use Rattle.lert_fleet.proofs.Places.{some_at}
 use Rattle.lert_trace.specs.Reader.{Reading}
 use Rattle.lert_worker.specs.Ran.{IsGivenBack, Working}
-use Rattle.lert_ingest.specs.Crews.{fresh_reader}
-use Rattle.lert_ingest.specs.Shares.{IsShare}
-use Rattle.lert_ingest.specs.Sharing.{AreFree, AreManned, ArePartTaken, AreShared, IsGiven, IsManned, IsPartTaken, IsTaken, WereTaken}
-use Rattle.lert_ingest.proofs.BayLaws.{slice_get-first, slice_get-seam, slice_get-set_other, slice_get-set_same}
-use Rattle.lert_ingest.proofs.Pouring.{given_there, rest_is}
+use Rattle.lert_ingest.specs.{Crews.fresh_reader, Shares.IsShare, Sharing.{AreFree, AreManned, ArePartTaken, AreShared, IsGiven, IsManned, IsPartTaken, IsTaken, WereTaken}}
+use Rattle.lert_ingest.proofs.{BayLaws.{slice_get-first, slice_get-seam, slice_get-set_other, slice_get-set_same}, Pouring.{given_there, rest_is}}
 
 -- ---- lists
 
@@ -215,25 +208,8 @@ module _ {S H : Type 0} where
       let clash = sym head.1 ∙ none in
       cc
 
-  pub part_none : (count : ℕ) (olds : List (Working S H)) → AreShared count olds → (sources : List S) → sources ≡ [] → ArePartTaken 0 olds olds sources
-  part_none count olds shared sources empty = record {
-    number = refl;
-    taken = ap (λ (xs : List S). length xs) empty;
-    each = λ by old now was is. subst (IsPartTaken 0 old) (same_Some old now (sym was ∙ is)) (record {
-      taken = 0;
-      traces_are = refl;
-      readers_are = refl;
-      kept = refl;
-      first = λ place trace there. ((λ less. absurd (omega (arith, less))), λ less. absurd (omega (arith, less)));
-    });
-    sources_are = λ by place trace old reader was there reader_is less. absurd (omega (arith, less));
-  }
-
   module _ (count : ℕ) (olds mids : List (Working S H)) (sources : List S) (shared : AreShared count olds) (trace : ℕ) (below : trace < count) (part : ArePartTaken trace olds mids sources)
       (some : 1 ≤ length olds) where
-    by_of : ℕ
-    by_of = trace % length olds
-
     old_one : (old : Working S H) × (slice_get olds (trace % length olds) ≡ Some old)
     old_one = some_at olds (trace % length olds) (omega (arith, some))
 

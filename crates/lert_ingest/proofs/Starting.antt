@@ -1,19 +1,14 @@
 -- Cones that were just made, as a fleet takes them.
-use Rattle.std.proofs.Common.{◌≡◌, ℕ, ◌^◌, ◌≤◌, List, [], length, Option, ap, sym, ◌∙◌, subst, arith, lit<}
-use Rattle.std.specs.Prelude.{All}
-use Rattle.std.proofs.Math.Nat.{one-le-pow, pow-le-pow_right}
-use Rattle.std.proofs.lemmas.List.{length-map}
+use Rattle.std.proofs.{Common.{◌≡◌, ℕ, ◌^◌, ◌≤◌, List, [], length, Option, ap, sym, ◌∙◌, subst, arith, lit<}, Math.Nat.{one-le-pow, pow-le-pow_right}, lemmas.List.length-map}
 use Rattle.std.proofs.lemmas.Option.{slice_get-get_or}
-use Rattle.lert_base.specs.Packet.{Packet}
-use Rattle.lert_base.specs.declared.cone_fault.ConeFault.{ConeFault}
+use Rattle.std.specs.Prelude.{All}
+use Rattle.lert_base.specs.{Packet.Packet, declared.cone_fault.ConeFault.ConeFault}
 use Rattle.lert_bay.specs.Files.{Files}
 use Rattle.lert_cone.specs.Stands.{Standing, StandsFor}
 use Rattle.lert_fleet.proofs.Places.{some_at}
 use Rattle.lert_fleet.specs.Cones.{FleetPassSight, FleetSight, IsFleetOf, IsPassOf, first_passes}
 use Rattle.lert_spec.specs.declared.numbers.Numbers.{Numbers}
-use Rattle.lert_ingest.specs.Cones.{AreNew}
-use Rattle.lert_ingest.specs.Crew.{IsPassFrom, IsQuiet}
-use Rattle.lert_ingest.specs.Ingest.{firsts_of}
+use Rattle.lert_ingest.specs.{Cones.AreNew, Crew.{IsPassFrom, IsQuiet}, Ingest.firsts_of}
 use Rattle.lert_ingest.proofs.Passing.{quiet_first}
 
 pub one_power : (n : ℕ) → 1 ≤ 2 ^ n

@@ -1,19 +1,13 @@
 -- The keys of all traces, by what was read of each.
-use Rattle.std.proofs.Common.{◌≡◌, ℕ, ◌%◌, ◌<◌, zero, suc, List, [], ◌∷◌, ◌++◌, length, take, drop, Option, Some}
-use Rattle.std.proofs.Common.{None, slice_get, refl, ap, sym, ◌∙◌, subst, inl, inr, arith}
-use Rattle.std.proofs.Common.{append-nil, length-append}
-use Rattle.std.proofs.lemmas.Bool.{cases_lt}
-use Rattle.std.proofs.lemmas.List.{take-append-drop, take_all}
-use Rattle.std.proofs.lemmas.Option.{get_or_from_slice_get, none-some, same_Some, slice_get_within}
+use Rattle.std.proofs.Common.{◌≡◌, ℕ, ◌%◌, ◌<◌, zero, suc, List, [], ◌∷◌, ◌++◌, length, take, drop, Option, Some, None, slice_get, refl, ap, sym, ◌∙◌, subst, inl, inr, arith, append-nil}
+use Rattle.std.proofs.{Common.length-append, lemmas.Bool.cases_lt, lemmas.List.{take-append-drop, take_all}, lemmas.Option.{get_or_from_slice_get, none-some, same_Some, slice_get_within}}
 use Rattle.lert_base.specs.Beginning.{BeginsWith}
 use Rattle.lert_io.specs.Reading.{IfTold}
 use Rattle.lert_spec.specs.Trace.{whole}
 use Rattle.lert_trace.specs.Reader.{Reading}
 use Rattle.lert_worker.specs.Ends.{IsAtEnd, WasRead}
-use Rattle.lert_ingest.proofs.Crewed.{ReadCrew}
-use Rattle.lert_ingest.specs.Crews.{IsReadOf, fresh_reader}
-use Rattle.lert_ingest.specs.Traces.{AreKeysOf}
-use Rattle.lert_ingest.proofs.BayLaws.{slice_get-first, slice_get-seam}
+use Rattle.lert_ingest.proofs.{Crewed.ReadCrew, BayLaws.{slice_get-first, slice_get-seam}}
+use Rattle.lert_ingest.specs.{Crews.{IsReadOf, fresh_reader}, Traces.AreKeysOf}
 
 -- a list of what there is at each place
 pub record IsListOf {A : Type 0} (count : ℕ) (P : ℕ → A → Type 0) : Type 0 where

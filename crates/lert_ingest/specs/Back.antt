@@ -1,15 +1,10 @@
 -- What is known of a cone that came back from its lock.
 use Rattle.std.specs.Prelude.{◌≡◌, ◌≢◌, ◌⊎◌, ℕ, ◌+◌, ◌<◌, ◌≤◌, false, All, Contains, List, length, Option, Some, slice_get}
-use Rattle.lert_base.specs.Packet.{Packet, events_of, own}
+use Rattle.lert_base.specs.{Packet.{Packet, events_of, own}, declared.cone_fault.ConeFault.ConeFault, declared.cone_fault.ConeFault.TheVariants.CapacityFull}
 use Rattle.lert_bay.specs.Files.{Files, Turns}
-use Rattle.lert_cone.specs.Stands.{Standing, StandsFor, WasSound, is_broken, is_finished}
-use Rattle.lert_base.specs.declared.cone_fault.ConeFault.{ConeFault}
-use Rattle.lert_base.specs.declared.cone_fault.ConeFault.TheVariants.{CapacityFull}
-use Rattle.lert_cone.specs.declared.state.ConeState.TheVariants.{Running}
+use Rattle.lert_cone.specs.{Stands.{Standing, StandsFor, WasSound, is_broken, is_finished}, declared.state.ConeState.TheVariants.Running, Wrote.Anything}
 use Rattle.lert_conelock.specs.Prefix.{IsPrefix}
-use Rattle.lert_spec.specs.declared.numbers.Numbers.{Numbers}
-use Rattle.lert_spec.specs.Edges.{capacity}
-use Rattle.lert_cone.specs.Wrote.{Anything}
+use Rattle.lert_spec.specs.{declared.numbers.Numbers.Numbers, Edges.capacity}
 use Rattle.lert_ingest.specs.Bays.{IsLater}
 
 -- a packet was refused since the cone had as many keys as the first packets of a history, and takes no such packet besides

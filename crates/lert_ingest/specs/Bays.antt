@@ -1,10 +1,8 @@
 -- What is known of the bays of a run: those that were opened, and the same ones later, both in ascending cones.
 use Rattle.std.specs.Prelude.{◌≡◌, ◌⊎◌, ℕ, ◌<◌, ◌≤◌, ◌++◌, false, All, List, [], length, map, Option, Some, slice_get, ⊤}
-use Rattle.lert_base.specs.Packet.{Packet, events_of, of_trace}
-use Rattle.lert_base.specs.Weave.{IsWhole, IsWoven, IsPartWoven}
+use Rattle.lert_base.specs.{Packet.{Packet, events_of, of_trace}, Weave.{IsWhole, IsWoven, IsPartWoven}}
 use Rattle.lert_bay.specs.Files.{Files, IfTold, Turns}
-use Rattle.lert_cone.specs.Sound.{AreEmpty, IsSound, IsSoundAs, IsSoundClosed}
-use Rattle.lert_cone.specs.Stands.{Standing}
+use Rattle.lert_cone.specs.{Sound.{AreEmpty, IsSound, IsSoundAs, IsSoundClosed}, Stands.Standing}
 use Rattle.lert_io.specs.Fault.{HasRisen, IsFaultless}
 use Rattle.lert_spec.specs.declared.numbers.Numbers.{Numbers}
 

@@ -1,10 +1,7 @@
 -- Cones that were just made, and their memory.
 use Rattle.std.specs.Prelude.{◌≡◌, ℕ, length, false, List, [], Option, Some, slice_get}
 use Rattle.lert_bay.specs.Files.{Files}
-use Rattle.lert_cone.specs.declared.room.ConeRoom.{ConeRoom}
-use Rattle.lert_cone.specs.Room.{IsRoom}
-use Rattle.lert_cone.specs.Stands.{Standing, StandsFor, WasSound}
-use Rattle.lert_cone.specs.declared.state.ConeState.TheVariants.{Running}
+use Rattle.lert_cone.specs.{declared.room.ConeRoom.ConeRoom, Room.IsRoom, Stands.{Standing, StandsFor, WasSound}, declared.state.ConeState.TheVariants.Running}
 use Rattle.lert_spec.specs.declared.numbers.Numbers.{Numbers}
 
 -- the memory of a cone with these settings, as it is made

@@ -1,7 +1,6 @@
 -- Workers of a fleet, and the passes that they hold.
 use Rattle.std.specs.Prelude.{◌≡◌, ℕ, ◌+◌, ◌<◌, ◌≤◌, List, [], Some, slice_get}
-use Rattle.lert_base.specs.Packet.{Packet, own}
-use Rattle.lert_base.specs.declared.cone_fault.ConeFault.{ConeFault}
+use Rattle.lert_base.specs.{Packet.{Packet, own}, declared.cone_fault.ConeFault.ConeFault}
 use Rattle.lert_conelock.specs.Sight.{Sight, own_refused}
 use Rattle.lert_fleet.specs.Cones.{FleetPassSight, FleetSight, IsPassOf}
 use Rattle.lert_spec.specs.declared.numbers.Numbers.{Numbers}

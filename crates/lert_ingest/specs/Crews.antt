@@ -1,17 +1,12 @@
 -- What a crew of workers did: with the traces, and with the cones.
 use Rattle.std.specs.Prelude.{◌≡◌, ℕ, ◌^◌, ◌<◌, false, List, length, Option, Some, None, slice_get}
-use Rattle.lert_base.specs.Packet.{Packet}
+use Rattle.lert_base.specs.{Packet.Packet, declared.cone_fault.ConeFault.ConeFault}
 use Rattle.lert_bay.specs.Files.{Files}
 use Rattle.lert_cone.specs.Stands.{Standing}
-use Rattle.lert_base.specs.declared.cone_fault.ConeFault.{ConeFault}
 use Rattle.lert_spec.specs.declared.numbers.Numbers.{Numbers}
 use Rattle.lert_trace.specs.Reader.{Reading}
-use Rattle.lert_worker.specs.Ends.{Stopped, WasRead}
-use Rattle.lert_worker.specs.declared.end.WorkerEnd.{WorkerEnd}
-use Rattle.lert_worker.specs.declared.end.WorkerEnd.TheVariants.{Cone}
-use Rattle.lert_ingest.specs.Back.{IsBack}
-use Rattle.lert_ingest.specs.Shares.{IsShare, LeftIn}
-use Rattle.lert_ingest.specs.Traces.{most_keys}
+use Rattle.lert_worker.specs.{Ends.{Stopped, WasRead}, declared.end.WorkerEnd.WorkerEnd, declared.end.WorkerEnd.TheVariants.Cone}
+use Rattle.lert_ingest.specs.{Back.IsBack, Shares.{IsShare, LeftIn}, Traces.most_keys}
 
 -- a reader as it is made over a trace
 abbrev pub fresh_reader : {S : Type 0} → S → Reading S

@@ -7,11 +7,9 @@ use Rattle.lert_base.specs.declared.cone_fault.ConeFault.{ConeFault}
 use Rattle.lert_base.specs.declared.cone_fault.ConeFault.TheVariants as cone_fault
 use Rattle.lert_cone.specs.declared.state.ConeState.{ConeState}
 use Rattle.lert_cone.specs.declared.state.ConeState.TheVariants as state
-use Rattle.lert_ingest.specs.Status.{stop_status}
-use Rattle.lert_ingest.specs.declared.status.Status.{Status}
+use Rattle.lert_ingest.specs.{Status.stop_status, declared.status.Status.Status}
 use Rattle.lert_ingest.specs.declared.status.Status.TheVariants as status
-use Rattle.lert_worker.specs.Ran.{Worked}
-use Rattle.lert_worker.specs.declared.end.WorkerEnd.{WorkerEnd}
+use Rattle.lert_worker.specs.{Ran.Worked, declared.end.WorkerEnd.WorkerEnd}
 use Rattle.lert_worker.specs.declared.end.WorkerEnd.TheVariants as end
 
 -- the place of a status in the order in which faults are answered

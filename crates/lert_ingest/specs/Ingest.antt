@@ -3,19 +3,11 @@ use Rattle.std.specs.Prelude.{◌≡◌, ◌+◌, ℕ, List, length, map, Option
 use Rattle.lert_bay.specs.Files.{Files}
 use Rattle.lert_cone.specs.Stands.{Standing}
 use Rattle.lert_conelock.specs.Sight.{LockSight}
-use Rattle.lert_fleet.specs.Cones.{FleetSight}
-use Rattle.lert_fleet.specs.Each.{EachTwo}
+use Rattle.lert_fleet.specs.{Cones.FleetSight, Each.EachTwo}
 use Rattle.lert_spec.specs.declared.numbers.Numbers.{Numbers}
 use Rattle.lert_worker.specs.Ran.{HasRun, Working}
-use Rattle.lert_ingest.specs.Bays.{AreLater, bays_of}
-use Rattle.lert_ingest.specs.Crew.{IsPassFrom, IsQuiet}
-use Rattle.lert_ingest.specs.Crews.{fresh_reader}
-use Rattle.lert_ingest.specs.Faults.{earliest, end_at, end_fault}
-use Rattle.lert_ingest.specs.Shares.{IsShare}
-use Rattle.lert_ingest.specs.Sharing.{WereTaken}
-use Rattle.lert_ingest.specs.Stops.{AreIngested, IsExact, StopShows}
-use Rattle.lert_ingest.specs.Traces.{AreTracesLater}
-use Rattle.lert_ingest.specs.declared.status.Status.{Status}
+use Rattle.lert_ingest.specs.{Bays.{AreLater, bays_of}, Crew.{IsPassFrom, IsQuiet}, Crews.fresh_reader, Faults.{earliest, end_at, end_fault}, Shares.IsShare, Sharing.WereTaken}
+use Rattle.lert_ingest.specs.{Stops.{AreIngested, IsExact, StopShows}, Traces.AreTracesLater, declared.status.Status.Status}
 
 -- the states of a fleet as it was made
 abbrev pub firsts_of : {H : Type 0} → FleetSight H → List H

@@ -1,15 +1,8 @@
 -- How traces are shared out among workers, and what each worker leaves in a cone.
 use Rattle.std.specs.Prelude.{◌≡◌, ℕ, ◌%◌, ◌<◌, ◌++◌, ◌∷◌, List, [], map, All, Some, slice_get}
-use Rattle.lert_base.specs.Beginning.{BeginsWith}
-use Rattle.lert_base.specs.Packet.{Packet, events_of, of_trace}
-use Rattle.lert_base.specs.Weave.{AreCut}
-use Rattle.lert_base.specs.declared.cone_fault.ConeFault.{ConeFault}
-use Rattle.lert_spec.specs.declared.numbers.Numbers.{Numbers}
-use Rattle.lert_spec.specs.Mix.{part_of}
-use Rattle.lert_worker.specs.Brings.{HasNoRest, IsOwn}
-use Rattle.lert_worker.specs.Ran.{IsTurned, StillOpen}
-use Rattle.lert_worker.specs.declared.end.WorkerEnd.{WorkerEnd}
-use Rattle.lert_worker.specs.declared.end.WorkerEnd.TheVariants.{Ran}
+use Rattle.lert_base.specs.{Beginning.BeginsWith, Packet.{Packet, events_of, of_trace}, Weave.AreCut, declared.cone_fault.ConeFault.ConeFault}
+use Rattle.lert_spec.specs.{declared.numbers.Numbers.Numbers, Mix.part_of}
+use Rattle.lert_worker.specs.{Brings.{HasNoRest, IsOwn}, Ran.{IsTurned, StillOpen}, declared.end.WorkerEnd.WorkerEnd, declared.end.WorkerEnd.TheVariants.Ran}
 
 -- the traces of a worker, of so many workers and traces: all those that leave its number behind, in ascending order
 pub record IsShare (workers count number : ℕ) (traces : List ℕ) : Type 0 where

@@ -2,8 +2,7 @@
 use Rattle.std.specs.Prelude.{◌≡◌, ◌≢◌, ◌↔◌, ℕ, ◌%◌, ◌<◌, List, [], ◌∷◌, ◌++◌, length, drop, Some, slice_get}
 use Rattle.lert_trace.specs.Reader.{Reading}
 use Rattle.lert_worker.specs.Ran.{Working}
-use Rattle.lert_ingest.specs.Crews.{fresh_reader}
-use Rattle.lert_ingest.specs.Shares.{IsShare}
+use Rattle.lert_ingest.specs.{Crews.fresh_reader, Shares.IsShare}
 
 module _ {S H : Type 0} where
   -- the worker of a trace, and no other one, was given a reader of it

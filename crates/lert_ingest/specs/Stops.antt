@@ -1,16 +1,11 @@
 -- What workers leave that read traces into cones: all of them, or why not.
 use Rattle.std.specs.Prelude.{◌≡◌, ◌⊎◌, ℕ, ◌+◌, ◌*◌, ◌^◌, ◌<◌, ◌≤◌, false, All, List, length, map, Option, Some, None, slice_get}
-use Rattle.lert_base.specs.Packet.{Packet}
-use Rattle.lert_base.specs.Weave.{IsWoven}
+use Rattle.lert_base.specs.{Packet.Packet, Weave.IsWoven}
 use Rattle.lert_bay.specs.Files.{Files}
-use Rattle.lert_cone.specs.Stands.{Standing, StandsFor, WasSound}
-use Rattle.lert_cone.specs.declared.state.ConeState.TheVariants.{Running}
-use Rattle.lert_spec.specs.declared.numbers.Numbers.{Numbers}
-use Rattle.lert_spec.specs.Edges.{capacity}
-use Rattle.lert_spec.specs.Trace.{left, whole}
+use Rattle.lert_cone.specs.{Stands.{Standing, StandsFor, WasSound}, declared.state.ConeState.TheVariants.Running}
+use Rattle.lert_spec.specs.{declared.numbers.Numbers.Numbers, Edges.capacity, Trace.{left, whole}}
 use Rattle.lert_ingest.specs.Bays.{AreFaultless, AreOpenWoven, ArePartWoven, AreTold, HasFailed, HoldsKeys, IfHeld, IsUntold}
-use Rattle.lert_ingest.specs.Traces.{AllFit, AreBytesOf, AreKeysOf, AreReadToEnd, AreTracesFaultless, HasThem, HasTraceFailed, IsOpened, IsOver, most_keys}
-use Rattle.lert_ingest.specs.declared.status.Status.{Status}
+use Rattle.lert_ingest.specs.{Traces.{AllFit, AreBytesOf, AreKeysOf, AreReadToEnd, AreTracesFaultless, HasThem, HasTraceFailed, IsOpened, IsOver, most_keys}, declared.status.Status.Status}
 use Rattle.lert_ingest.specs.declared.status.Status.TheVariants.{TraceFault, BadTrace, TooLong, BayFault, CapacityFull, Malformed, OutOfMemory}
 
 -- a cone of a number may still take packets, and stands for a weave of its part of the keys of all traces, over files that were

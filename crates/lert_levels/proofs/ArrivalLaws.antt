@@ -1,32 +1,15 @@
 -- What the parts of a flush's merge make: the new bins.
-use Rattle.std.proofs.Common.{ℕ, ◌≡◌, ◌+◌, ◌-◌, ◌*◌, ◌/◌, ◌%◌, ◌^◌, ◌<◌, ◌≤◌, ◌≢◌, zero, suc, cond, true, false, List, [], ◌∷◌, ◌++◌, length, map, take, get_or, Some}
-use Rattle.std.proofs.Common.{None, refl, ap, ap₂, sym, ◌∙◌, arith, inl, inr, subst, flat_map, slice_range}
-use Rattle.std.specs.Prelude.{sum}
-use Rattle.std.specs.List.{All}
-use Rattle.std.proofs.Math.Nat.{mul-suc, mul_comm, mul-mod_left}
-use Rattle.std.proofs.lemmas.Bool.{cases_Bool, cases_eq, eq-eqb}
-use Rattle.std.proofs.lemmas.List.{get_or-map, length-map, length-take, get_or_append_left}
-use Rattle.std.proofs.lemmas.List.Sums.{sum_by-cons}
-use Rattle.lert_spec.specs.declared.numbers.Numbers.{Numbers}
-use Rattle.lert_spec.specs.declared.piece.Piece.{Piece}
-use Rattle.lert_spec.specs.Bins.{Bin, tallied}
-use Rattle.lert_spec.specs.Edges.{span, edge, depth, capacity}
-use Rattle.lert_spec.specs.Limits.{IsValid}
-use Rattle.lert_spec.specs.Table.{count_of, IsTable}
-use Rattle.lert_spec.proofs.EdgeLaws.{steps, moves_by_one, deepest_within}
-use Rattle.lert_spec.proofs.TallyLaws.{IsTable-tallied}
-use Rattle.lert_levels.specs.landing.Summed.{sums_of, AreTables}
-use Rattle.lert_levels.proofs.landing.SummedLaws.{count_in, IsTable-sums_of, count_of-sums_of}
-use Rattle.lert_levels.specs.declared.rows.bin_at.BinAt.{BinAt}
-use Rattle.lert_levels.specs.rows.Loading.{width_of, widths_in, held_in}
-use Rattle.lert_levels.specs.Merged.{streams_of, widths_of, Fills, AreBins}
-use Rattle.lert_levels.specs.Parts.{streams_to, oldest_stream, part_at, list_at, newest_in, in_part, part_table, HaveParts}
-use Rattle.lert_levels.specs.rows.Ranges.{Range, ranges, filled, young_bins}
+use Rattle.std.proofs.Common.{ℕ, ◌≡◌, ◌+◌, ◌-◌, ◌*◌, ◌/◌, ◌%◌, ◌^◌, ◌<◌, ◌≤◌, ◌≢◌, zero, suc, cond, true, false, List, [], ◌∷◌, ◌++◌, length, map, take, get_or, Some, None, refl, ap, ap₂, sym, ◌∙◌}
+use Rattle.std.proofs.{Common.{arith, inl, inr, subst, flat_map, slice_range}, Math.Nat.{mul-suc, mul_comm, mul-mod_left}, lemmas.Bool.{cases_Bool, cases_eq, eq-eqb}}
+use Rattle.std.proofs.{lemmas.List.{get_or-map, length-map, length-take, get_or_append_left}, lemmas.List.Sums.sum_by-cons}
+use Rattle.std.specs.{Prelude.sum, List.All}
+use Rattle.lert_spec.specs.{declared.numbers.Numbers.Numbers, declared.piece.Piece.Piece, Bins.{Bin, tallied}, Edges.{span, edge, depth, capacity}, Limits.IsValid, Table.{count_of, IsTable}}
+use Rattle.lert_spec.proofs.{EdgeLaws.{steps, moves_by_one, deepest_within}, TallyLaws.IsTable-tallied}
+use Rattle.lert_levels.specs.{landing.Summed.{sums_of, AreTables}, declared.rows.bin_at.BinAt.BinAt, rows.Loading.{width_of, widths_in, held_in}, Merged.{streams_of, widths_of, Fills, AreBins}}
+use Rattle.lert_levels.specs.{Parts.{streams_to, oldest_stream, part_at, list_at, newest_in, in_part, part_table, HaveParts}, rows.Ranges.{Range, ranges, filled, young_bins}}
 use Rattle.lert_levels.specs.rows.Rows.{range_of, row_of, IsAt, newest, begins, arrived, tallied_in, no_bin}
-use Rattle.lert_levels.proofs.PartLaws.{streams_more, stream_at}
-use Rattle.lert_levels.proofs.rows.RangeLaws.{range_cuts, oldest_is, oldest_young, depth_moves}
-use Rattle.lert_levels.proofs.rows.RowLaws.{row_among, Arrives, arrives}
-use Rattle.lert_levels.proofs.rows.Windows.{counted, counted-join, window_table, young-ranges}
+use Rattle.lert_levels.proofs.{landing.SummedLaws.{count_in, IsTable-sums_of, count_of-sums_of}, PartLaws.{streams_more, stream_at}, rows.RangeLaws.{range_cuts, oldest_is, oldest_young, depth_moves}}
+use Rattle.lert_levels.proofs.{rows.RowLaws.{row_among, Arrives, arrives}, rows.Windows.{counted, counted-join, window_table, young-ranges}}
 
 -- a level's newest bin among the streams
 newest_at : {X : Type 0} (h : BinAt → X) (first : List X) (rows : List (List BinAt)) (young k : ℕ) (e : X) → length first ≡ young → k < length rows →

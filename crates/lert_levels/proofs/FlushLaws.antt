@@ -1,24 +1,11 @@
 -- What the merge of a flush or a scan makes, in the words of the cone's events.
-use Rattle.std.proofs.Common.{ℕ, ◌≡◌, ◌-◌, ◌<◌, ◌≤◌, List, [], length, map, take, get_or, ap, ◌∙◌, arith, subst, slice_range}
-use Rattle.std.proofs.lemmas.List.{length-map, get_or-map}
+use Rattle.std.proofs.{Common.{ℕ, ◌≡◌, ◌-◌, ◌<◌, ◌≤◌, List, [], length, map, take, get_or, ap, ◌∙◌, arith, subst, slice_range}, lemmas.List.{length-map, get_or-map}}
 use Rattle.std.proofs.lemmas.List.FromFn.{get_or-map-range_with_len, length-map-range_with_len}
 use Rattle.lert_frames.specs.Place.{tail_limit}
-use Rattle.lert_spec.specs.declared.numbers.Numbers.{Numbers}
-use Rattle.lert_spec.specs.declared.piece.Piece.{Piece}
-use Rattle.lert_spec.specs.Bins.{Bin, tallied}
-use Rattle.lert_spec.specs.Edges.{edge, depth, lookback, capacity}
-use Rattle.lert_spec.specs.Limits.{IsValid}
-use Rattle.lert_spec.specs.Table.{IsTable}
-use Rattle.lert_levels.specs.landing.Summed.{sums_of}
-use Rattle.lert_levels.proofs.landing.SummedLaws.{count_in, IsTable-sums_of, count_of-sums_of}
-use Rattle.lert_levels.specs.declared.rows.bin_at.BinAt.{BinAt}
-use Rattle.lert_levels.specs.Flushed.{AreNew, AreEvents, AreAllEvents}
-use Rattle.lert_levels.specs.Merged.{IsMade, streams_of, widths_of}
-use Rattle.lert_levels.specs.Parts.{Part, part_at, parts_at, part_table}
-use Rattle.lert_levels.specs.rows.Ranges.{young_bins}
-use Rattle.lert_levels.specs.rows.Rows.{IsAt, AreRows, tallied_in}
-use Rattle.lert_levels.proofs.ArrivalLaws.{deep, enough, tables_from_bins, part_holds}
-use Rattle.lert_levels.proofs.rows.CoverLaws.{flush_totals, scan_totals}
+use Rattle.lert_spec.specs.{declared.numbers.Numbers.Numbers, declared.piece.Piece.Piece, Bins.{Bin, tallied}, Edges.{edge, depth, lookback, capacity}, Limits.IsValid, Table.IsTable}
+use Rattle.lert_levels.specs.{landing.Summed.sums_of, declared.rows.bin_at.BinAt.BinAt, Flushed.{AreNew, AreEvents, AreAllEvents}, Merged.{IsMade, streams_of, widths_of}}
+use Rattle.lert_levels.specs.{Parts.{Part, part_at, parts_at, part_table}, rows.Ranges.young_bins, rows.Rows.{IsAt, AreRows, tallied_in}}
+use Rattle.lert_levels.proofs.{landing.SummedLaws.{count_in, IsTable-sums_of, count_of-sums_of}, ArrivalLaws.{deep, enough, tables_from_bins, part_holds}, rows.CoverLaws.{flush_totals, scan_totals}}
 use Rattle.lert_levels.proofs.HoldLaws.{rows_stand}
 
 -- a made list behind its place

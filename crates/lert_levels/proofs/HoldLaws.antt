@@ -1,32 +1,16 @@
 -- What the frames hold before a flush and after it.
-use Rattle.std.proofs.Common.{ℕ, ◌≡◌, ◌≢◌, ◌+◌, ◌-◌, ◌/◌, ◌<◌, ◌≤◌, zero, suc, cond, ltb, eqb, List, [], ◌∷◌, ◌++◌, length, take, drop}
-use Rattle.std.proofs.Common.{get_or, Option, Some, ap, ap₂, sym, ◌∙◌, arith, inl, inr, ◌⊎◌, subst, slice_range, length-take}
+use Rattle.std.proofs.Common.{ℕ, ◌≡◌, ◌≢◌, ◌+◌, ◌-◌, ◌/◌, ◌<◌, ◌≤◌, zero, suc, cond, ltb, eqb, List, [], ◌∷◌, ◌++◌, length, take, drop, get_or, Option, Some, ap, ap₂, sym, ◌∙◌, arith, inl, inr, ◌⊎◌}
+use Rattle.std.proofs.{Common.{subst, slice_range, length-take}, lemmas.Bool.{cases_lt, cases_eq, lt-ltb, le-ltb, eq-eqb}, lemmas.List.get_or-take}
+use Rattle.std.proofs.{lemmas.List.Elements.{All-append, All-drop, All-cons, All-nil, Contains-get_or}, lemmas.List.Sums.sum_by-cons}
 use Rattle.std.specs.List.{All}
-use Rattle.std.proofs.lemmas.Bool.{cases_lt, cases_eq, lt-ltb, le-ltb, eq-eqb}
-use Rattle.std.proofs.lemmas.List.{get_or-take}
-use Rattle.std.proofs.lemmas.List.Elements.{All-append, All-drop, All-cons, All-nil, Contains-get_or}
-use Rattle.std.proofs.lemmas.List.Sums.{sum_by-cons}
-use Rattle.lert_bay.specs.declared.bay.TheConstants.{FRAMES}
-use Rattle.lert_bay.specs.Files.{Files, IfTold, Turns}
-use Rattle.lert_frames.specs.Frame.{HoldsFrame, frame_text}
-use Rattle.lert_frames.specs.Place.{frame_len}
-use Rattle.lert_frames.proofs.FrameLaws.{text_within}
-use Rattle.lert_frames.proofs.PlaceLaws.{places_apart}
-use Rattle.lert_spec.specs.declared.numbers.Numbers.{Numbers}
-use Rattle.lert_spec.specs.declared.piece.Piece.{Piece}
-use Rattle.lert_spec.specs.Bins.{tallied}
-use Rattle.lert_spec.specs.Edges.{span, edge, depth}
-use Rattle.lert_spec.specs.Limits.{IsValid}
-use Rattle.lert_spec.proofs.Tables.{count_le-total}
-use Rattle.lert_spec.proofs.TallyLaws.{IsTable-tallied, total-tallied}
-use Rattle.lert_levels.specs.declared.rows.bin_at.BinAt.{BinAt}
-use Rattle.lert_levels.specs.Flushed.{AreNew, InNamed}
-use Rattle.lert_levels.specs.rows.Landing.{LeavesRest, landing_frame, AreApart, AreLanded}
-use Rattle.lert_levels.specs.rows.Loading.{Stands, AllStand}
+use Rattle.lert_bay.specs.{declared.bay.TheConstants.FRAMES, Files.{Files, IfTold, Turns}}
+use Rattle.lert_frames.specs.{Frame.{HoldsFrame, frame_text}, Place.frame_len}
+use Rattle.lert_frames.proofs.{FrameLaws.text_within, PlaceLaws.places_apart}
+use Rattle.lert_spec.specs.{declared.numbers.Numbers.Numbers, declared.piece.Piece.Piece, Bins.tallied, Edges.{span, edge, depth}, Limits.IsValid}
+use Rattle.lert_spec.proofs.{Tables.count_le-total, TallyLaws.{IsTable-tallied, total-tallied}}
+use Rattle.lert_levels.specs.{declared.rows.bin_at.BinAt.BinAt, Flushed.{AreNew, InNamed}, rows.Landing.{LeavesRest, landing_frame, AreApart, AreLanded}, rows.Loading.{Stands, AllStand}}
 use Rattle.lert_levels.specs.rows.Rows.{row_of, IsAt, IsRow, AreRows, HoldsBins, times_named, kept, arrived, moved, tallied_in}
-use Rattle.lert_levels.proofs.rows.LandLaws.{holds_stays, landing_within}
-use Rattle.lert_levels.proofs.rows.RangeLaws.{IsCut, cuts_are, edge_within}
-use Rattle.lert_levels.proofs.rows.RowLaws.{row_among, All-ranges, All-kept, row_of-moved, lowest_is_free}
+use Rattle.lert_levels.proofs.{rows.LandLaws.{holds_stays, landing_within}, rows.RangeLaws.{IsCut, cuts_are, edge_within}, rows.RowLaws.{row_among, All-ranges, All-kept, row_of-moved, lowest_is_free}}
 use Rattle.lert_levels.proofs.rows.Windows.{total-window}
 
 -- ---- what is read

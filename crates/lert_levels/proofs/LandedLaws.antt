@@ -1,42 +1,18 @@
 -- What a merge is given and what it made, of streams that were begun and landings that were started.
 use Rattle.std.proofs.Common.{ℕ, ◌≡◌, ◌≢◌, ◌+◌, ◌<◌, ◌≤◌, List, [], ◌∷◌, length, map, get_or, take, Option, Some, None, refl, ap, sym, ◌∙◌, arith, subst, sum_by, Result}
+use Rattle.std.proofs.{lemmas.List.{length-map, length-take, take_all}, lemmas.Option.none-some}
 use Rattle.std.specs.Prelude.{Ok, Err, OnOk, sum}
-use Rattle.std.proofs.lemmas.List.{length-map, length-take, take_all}
-use Rattle.std.proofs.lemmas.Option.{none-some}
-use Rattle.lert_bay.specs.declared.bay.TheConstants.{FRAMES}
-use Rattle.lert_bay.specs.Files.{Files, IfTold}
-use Rattle.lert_levels.specs.flush.Merged.{AreParts, picked}
-use Rattle.lert_frames.specs.Frame.{HoldsFrame}
-use Rattle.lert_frames.specs.Place.{tail_limit}
-use Rattle.lert_levels.specs.landing.Landings.{AreLandings, IsOutside}
-use Rattle.lert_levels.specs.landing.Summed.{sums_of}
-use Rattle.lert_levels.specs.declared.landing.landing.Landing.{Landing}
-use Rattle.lert_merge.specs.order.Members.{limit_at}
-use Rattle.lert_levels.specs.declared.rows.bin_at.BinAt.{BinAt}
-use Rattle.lert_levels.specs.rows.Landing.{IsApart, landing_frame, AreApart}
-use Rattle.lert_levels.specs.rows.Checked.{rows_left}
-use Rattle.lert_levels.specs.rows.Loading.{AllStand}
-use Rattle.lert_spec.specs.Bins.{Bin}
-use Rattle.lert_spec.specs.Edges.{span}
-use Rattle.lert_spec.specs.Limits.{IsValid}
-use Rattle.lert_spec.specs.Table.{total, AreGiven}
-use Rattle.lert_spec.specs.declared.numbers.Numbers.{Numbers}
-use Rattle.lert_spec.specs.declared.piece.Piece.{Piece}
-use Rattle.lert_levels.specs.streams.Bin.{Bin as Stream, limit_of, wide_of}
-use Rattle.lert_levels.specs.streams.BinSet.{Reads}
-use Rattle.lert_levels.specs.streams.SetLaws.{to_come_at}
-use Rattle.lert_levels.specs.Merged.{IsMade, IsFrames, Fills, streams_of, widths_of}
-use Rattle.lert_levels.specs.Parts.{Part, streams_to, parts_at, part_table, ArePartsOf}
-use Rattle.lert_levels.specs.Ready.{AreStarted, AreReached, HasMade}
-use Rattle.lert_levels.specs.Sources.{sources, pieces_from, width_in, AreBegun}
-use Rattle.lert_levels.proofs.FlushLaws.{made_at}
-use Rattle.lert_levels.proofs.PartLaws.{some_streams}
-use Rattle.lert_levels.proofs.PickLaws.{picked_part}
-use Rattle.lert_levels.proofs.PlacedLaws.{begun_reads}
-use Rattle.lert_levels.proofs.WholeLaws.{begun_whole}
-use Rattle.lert_levels.proofs.ReadyLaws.{first_landings, first_started}
-use Rattle.lert_levels.proofs.SourceLaws.{begun_length, begun_limit, begun_width, begun_told, sources_length, sources_pieces, sources_widths, sources_stand, bins_from}
+use Rattle.lert_bay.specs.{declared.bay.TheConstants.FRAMES, Files.{Files, IfTold}}
+use Rattle.lert_levels.specs.{flush.Merged.{AreParts, picked}, landing.Landings.{AreLandings, IsOutside}, landing.Summed.sums_of, declared.landing.landing.Landing.Landing}
+use Rattle.lert_levels.specs.{declared.rows.bin_at.BinAt.BinAt, rows.Landing.{IsApart, landing_frame, AreApart}, rows.Checked.rows_left, rows.Loading.AllStand}
+use Rattle.lert_levels.specs.{streams.Bin.{Bin as Stream, limit_of, wide_of}, streams.BinSet.Reads, streams.SetLaws.to_come_at, Merged.{IsMade, IsFrames, Fills, streams_of, widths_of}}
+use Rattle.lert_levels.specs.{Parts.{Part, streams_to, parts_at, part_table, ArePartsOf}, Ready.{AreStarted, AreReached, HasMade}, Sources.{sources, pieces_from, width_in, AreBegun}}
 use Rattle.lert_levels.specs.rows.Rows.{AreFirst}
+use Rattle.lert_frames.specs.{Frame.HoldsFrame, Place.tail_limit}
+use Rattle.lert_merge.specs.order.Members.{limit_at}
+use Rattle.lert_spec.specs.{Bins.Bin, Edges.span, Limits.IsValid, Table.{total, AreGiven}, declared.numbers.Numbers.Numbers, declared.piece.Piece.Piece}
+use Rattle.lert_levels.proofs.{FlushLaws.made_at, PartLaws.some_streams, PickLaws.picked_part, PlacedLaws.begun_reads, WholeLaws.begun_whole, ReadyLaws.{first_landings, first_started}}
+use Rattle.lert_levels.proofs.SourceLaws.{begun_length, begun_limit, begun_width, begun_told, sources_length, sources_pieces, sources_widths, sources_stand, bins_from}
 
 pub on_ok : {T E : Type 0} (result : Result T E) (P Q : Type 0) → (P → Q) → OnOk result P → OnOk result Q
 on_ok (Ok value) P Q weaker is = weaker is

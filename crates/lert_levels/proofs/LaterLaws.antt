@@ -1,17 +1,11 @@
 -- The rows and the frames between two flushes, for those who keep a cone: with no event, and with one event more.
-use Rattle.std.proofs.Common.{ℕ, ◌≡◌, ◌-◌, ◌/◌, ◌<◌, ◌≤◌, suc, List, [], ◌++◌, length, map, replicate, ap, sym, ◌∙◌, arith, inl, inr, subst, slice_index_or}
-use Rattle.std.proofs.lemmas.Bool.{cases_lt}
+use Rattle.std.proofs.{Common.{ℕ, ◌≡◌, ◌-◌, ◌/◌, ◌<◌, ◌≤◌, suc, List, [], ◌++◌, length, map, replicate, ap, sym, ◌∙◌, arith, inl, inr, subst, slice_index_or}, lemmas.Bool.cases_lt}
 use Rattle.std.proofs.lemmas.List.{length-replicate}
 use Rattle.lert_frames.specs.Frame.{HoldsFrame}
-use Rattle.lert_spec.specs.declared.numbers.Numbers.{Numbers}
-use Rattle.lert_spec.specs.Bins.{tallied}
-use Rattle.lert_spec.specs.Edges.{span, edge, depth}
+use Rattle.lert_spec.specs.{declared.numbers.Numbers.Numbers, Bins.tallied, Edges.{span, edge, depth}}
 use Rattle.lert_spec.proofs.LookLaws.{slice_range-append}
-use Rattle.lert_levels.specs.declared.rows.bin_at.BinAt.{BinAt}
-use Rattle.lert_levels.specs.rows.Rows.{range_of, row_of, IsAt, HoldsBins, tallied_in}
-use Rattle.lert_levels.proofs.HoldLaws.{bins_end}
-use Rattle.lert_levels.proofs.rows.MoveLaws.{row_of-none}
-use Rattle.lert_levels.proofs.rows.RangeLaws.{cuts_none, edge_within, depth_moves, ranges_still}
+use Rattle.lert_levels.specs.{declared.rows.bin_at.BinAt.BinAt, rows.Rows.{range_of, row_of, IsAt, HoldsBins, tallied_in}}
+use Rattle.lert_levels.proofs.{HoldLaws.bins_end, rows.MoveLaws.row_of-none, rows.RangeLaws.{cuts_none, edge_within, depth_moves, ranges_still}}
 
 -- before the first event no row has a bin
 pub IsAt-none : (s : Numbers) → IsAt s 0 (replicate s.levels [])

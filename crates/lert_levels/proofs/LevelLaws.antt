@@ -1,14 +1,9 @@
 -- The levels on disk, once their rows are others.
 use Rattle.std.proofs.Common.{ℕ, ◌≡◌, ◌-◌, ◌+◌, ◌<◌, ◌≤◌, List, ◌++◌, length, take, drop, ap, sym, ◌∙◌, arith, subst}
 use Rattle.lert_frames.specs.declared.reader.FrameReader.{FrameReader}
-use Rattle.lert_spec.specs.declared.numbers.Numbers.{Numbers}
-use Rattle.lert_spec.specs.Edges.{capacity}
-use Rattle.lert_spec.specs.Limits.{IsValid}
-use Rattle.lert_levels.specs.declared.rows.bin_at.BinAt.{BinAt}
-use Rattle.lert_levels.specs.rows.Rows.{IsAt, AreRows, directory_text, moved}
-use Rattle.lert_levels.specs.OnDisk.{OnDisk, AreKept}
-use Rattle.lert_levels.proofs.rows.MoveLaws.{directory_short, written_back}
-use Rattle.lert_levels.proofs.rows.RowLaws.{AreRows-moved, length-moved}
+use Rattle.lert_spec.specs.{declared.numbers.Numbers.Numbers, Edges.capacity, Limits.IsValid}
+use Rattle.lert_levels.specs.{declared.rows.bin_at.BinAt.BinAt, rows.Rows.{IsAt, AreRows, directory_text, moved}, OnDisk.{OnDisk, AreKept}}
+use Rattle.lert_levels.proofs.{rows.MoveLaws.{directory_short, written_back}, rows.RowLaws.{AreRows-moved, length-moved}}
 
 -- each level has a row
 pub level_row : (s : Numbers) (rows : List (List BinAt)) (seen : OnDisk) → record { settings = s; rows = rows } ≡ seen → AreRows s rows → (level : ℕ) → 1 ≤ level →

@@ -1,16 +1,11 @@
 -- Which streams make up the new bins of a flush.
-use Rattle.std.proofs.Common.{ℕ, ◌≡◌, ◌≢◌, ◌+◌, ◌*◌, ◌-◌, ◌<◌, ◌≤◌, zero, suc, Bool, true, false, cond, List, [], ◌∷◌, ◌++◌, length, take, get_or, set, replicate, Option, Some, None}
-use Rattle.std.proofs.Common.{refl, ap, sym, ◌∙◌, arith, inl, inr, ◌⊎◌, subst, sum_by, flat_map, length-append, add-one}
-use Rattle.std.specs.Prelude.{IfSome}
-use Rattle.std.proofs.Math.Nat.{suc-mul, mul-le-mul_right}
-use Rattle.std.proofs.lemmas.Bool.{cases_lt, cases_eq}
+use Rattle.std.proofs.Common.{ℕ, ◌≡◌, ◌≢◌, ◌+◌, ◌*◌, ◌-◌, ◌<◌, ◌≤◌, zero, suc, Bool, true, false, cond, List, [], ◌∷◌, ◌++◌, length, take, get_or, set, replicate, Option, Some, None, refl, ap, sym}
+use Rattle.std.proofs.{Common.{◌∙◌, arith, inl, inr, ◌⊎◌, subst, sum_by, flat_map, length-append, add-one}, Math.Nat.{suc-mul, mul-le-mul_right}, lemmas.Bool.{cases_lt, cases_eq}}
 use Rattle.std.proofs.lemmas.List.{take_more, get_or-append-add, get_or_append_left, get_or-set_same, get_or-set_other, length-set, length-replicate, append_assoc, replicate-append-replicate}
-use Rattle.std.proofs.lemmas.List.Sums.{sum_by-append, sum_by-cons}
-use Rattle.std.proofs.lemmas.Option.{none-some}
+use Rattle.std.proofs.{lemmas.List.Sums.{sum_by-append, sum_by-cons}, lemmas.Option.none-some}
+use Rattle.std.specs.Prelude.{IfSome}
 use Rattle.lert_spec.specs.declared.numbers.Numbers.{Numbers}
-use Rattle.lert_levels.specs.declared.rows.bin_at.BinAt.{BinAt}
-use Rattle.lert_levels.specs.rows.Rows.{begins}
-use Rattle.lert_levels.specs.Parts.{streams_to, oldest_stream, part_at, IsOfPart, set_two, HaveParts, ArePartsOf}
+use Rattle.lert_levels.specs.{declared.rows.bin_at.BinAt.BinAt, rows.Rows.begins, Parts.{streams_to, oldest_stream, part_at, IsOfPart, set_two, HaveParts, ArePartsOf}}
 
 -- a level more
 pub streams_more : (young : ℕ) (rows : List (List BinAt)) (i : ℕ) → i < length rows → streams_to young rows (i + 1) ≡ streams_to young rows i + length (get_or rows i [])

@@ -1,11 +1,8 @@
 -- What a merge picks for a part: what belongs to its two streams, or its one.
 use Rattle.std.proofs.Common.{ℕ, ◌≡◌, ◌+◌, ◌<◌, ◌≤◌, zero, suc, true, false, List, [], ◌∷◌, length, get_or, Option, Some, None, refl, ap, sym, ◌∙◌, arith, inl, inr, ◌⊎◌}
-use Rattle.std.proofs.lemmas.Bool.{eq-eqb, ne_eqb}
-use Rattle.std.proofs.lemmas.Option.{none-some}
-use Rattle.lert_levels.specs.flush.Merged.{is_of, pick, picked}
-use Rattle.lert_levels.specs.declared.rows.bin_at.BinAt.{BinAt}
+use Rattle.std.proofs.{lemmas.Bool.{eq-eqb, ne_eqb}, lemmas.Option.none-some}
+use Rattle.lert_levels.specs.{flush.Merged.{is_of, pick, picked}, declared.rows.bin_at.BinAt.BinAt, Parts.{streams_to, oldest_stream, newest_in, in_part, part_at, HaveParts, ArePartsOf}}
 use Rattle.lert_spec.specs.declared.numbers.Numbers.{Numbers}
-use Rattle.lert_levels.specs.Parts.{streams_to, oldest_stream, newest_in, in_part, part_at, HaveParts, ArePartsOf}
 use Rattle.lert_levels.proofs.PartLaws.{oldest_below, newest_above, streams_grow}
 
 own_is : (own : Option ℕ) (part : ℕ) → own ≡ Some part → is_of own part ≡ true

@@ -1,28 +1,15 @@
 -- Streams of a flush that leave their format, read a range or are secure, and their bins in the rows.
-use Rattle.std.proofs.Common.{ℕ, zero, suc, ◌≡◌, ◌+◌, ◌-◌, ◌<◌, ◌≤◌, List, [], ◌∷◌, ◌++◌, length, map, get_or, take, Option, Some, refl, ap, ap₂, sym, ◌∙◌, arith, inl, inr, ◌⊎◌}
-use Rattle.std.proofs.Common.{subst, ⊎_elim, append-nil, length-take, min}
+use Rattle.std.proofs.Common.{ℕ, zero, suc, ◌≡◌, ◌+◌, ◌-◌, ◌<◌, ◌≤◌, List, [], ◌∷◌, ◌++◌, length, map, get_or, take, Option, Some, refl, ap, ap₂, sym, ◌∙◌, arith, inl, inr, ◌⊎◌, subst, ⊎_elim}
+use Rattle.std.proofs.{Common.{append-nil, length-take, min}, lemmas.List.{map-append, map_more, take_more, append_assoc, get_or-take}, lemmas.Bool.cases_lt}
 use Rattle.std.specs.Prelude.{Contains}
-use Rattle.std.proofs.lemmas.List.{map-append, map_more, take_more, append_assoc, get_or-take}
-use Rattle.std.proofs.lemmas.Bool.{cases_lt}
-use Rattle.lert_bay.specs.declared.bay.TheConstants.{FRAMES}
-use Rattle.lert_bay.specs.Files.{Files}
-use Rattle.lert_frames.specs.Frame.{frame_left, frame_pieces}
-use Rattle.lert_frames.specs.Place.{frame_place, frame_len}
-use Rattle.lert_frames.specs.Apart.{SamePlace}
+use Rattle.lert_bay.specs.{declared.bay.TheConstants.FRAMES, Files.Files}
+use Rattle.lert_frames.specs.{Frame.{frame_left, frame_pieces}, Place.{frame_place, frame_len}, Apart.SamePlace, declared.reader.FrameReader.FrameReader}
 use Rattle.lert_frames.proofs.ApartLaws.{frame_stays}
-use Rattle.lert_levels.specs.rows.Landing.{LeavesRest}
-use Rattle.lert_frames.specs.declared.reader.FrameReader.{FrameReader}
-use Rattle.lert_levels.specs.declared.rows.bin_at.BinAt.{BinAt}
-use Rattle.lert_levels.specs.rows.Loading.{width_of, OneBreaks}
-use Rattle.lert_spec.specs.Bins.{Bin}
-use Rattle.lert_spec.specs.declared.numbers.Numbers.{Numbers}
-use Rattle.lert_levels.specs.streams.Bin.{Bin as Stream, of_table, of_frame, IsSureBin}
-use Rattle.lert_levels.specs.streams.Asked.{Begins}
-use Rattle.lert_levels.specs.streams.BinSet.{BinSet, Reads, AreSure}
-use Rattle.lert_levels.specs.streams.SetLaws.{LeavesIn}
-use Rattle.lert_levels.specs.Flushed.{InNamed}
-use Rattle.lert_levels.proofs.SourceLaws.{begun_more}
+use Rattle.lert_levels.specs.{rows.Landing.LeavesRest, declared.rows.bin_at.BinAt.BinAt, rows.Loading.{width_of, OneBreaks}, streams.Bin.{Bin as Stream, of_table, of_frame, IsSureBin}}
+use Rattle.lert_levels.specs.{streams.Asked.Begins, streams.BinSet.{BinSet, Reads, AreSure}, streams.SetLaws.LeavesIn, Flushed.InNamed}
 use Rattle.lert_levels.specs.Sources.{Placed, placed_at, placed, Source, of_young, of_bin, sources, IsReaderOf, AreBegun, IsSecure, AreSecure, AnyOf, AllOf}
+use Rattle.lert_spec.specs.{Bins.Bin, declared.numbers.Numbers.Numbers}
+use Rattle.lert_levels.proofs.SourceLaws.{begun_more}
 
 -- ---- one of the bins on disk
 

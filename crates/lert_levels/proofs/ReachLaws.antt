@@ -1,32 +1,14 @@
 -- The rows that a flush reaches, and what an answer says of their frames.
-use Rattle.std.proofs.Common.{ℕ, ◌≡◌, ◌+◌, ◌-◌, ◌<◌, ◌≤◌, List, length, take, Option, Some, refl, sym, ◌∙◌, arith, subst, Result, length-take}
-use Rattle.std.specs.Prelude.{Ok, Err, IfErr, IsErrAnd, OnOk, MatchResult, IsSomeAnd}
-use Rattle.std.specs.List.{All}
-use Rattle.std.proofs.lemmas.Option.{none-some}
-use Rattle.lert_bay.specs.declared.bay.TheConstants.{FRAMES}
-use Rattle.lert_bay.specs.Files.{Files, IfTold, Turns}
+use Rattle.std.proofs.{Common.{ℕ, ◌≡◌, ◌+◌, ◌-◌, ◌<◌, ◌≤◌, List, length, take, Option, Some, refl, sym, ◌∙◌, arith, subst, Result, length-take}, lemmas.Option.none-some}
+use Rattle.std.specs.{Prelude.{Ok, Err, IfErr, IsErrAnd, OnOk, MatchResult, IsSomeAnd}, List.All}
+use Rattle.lert_bay.specs.{declared.bay.TheConstants.FRAMES, Files.{Files, IfTold, Turns}}
 use Rattle.lert_frames.proofs.FrameLaws.{left_is}
-use Rattle.lert_levels.specs.declared.rows.bin_at.BinAt.{BinAt}
-use Rattle.lert_levels.specs.declared.rows.fault.FlushFault.{FlushFault}
-use Rattle.lert_levels.specs.declared.rows.fault.FlushFault.TheVariants.{Failed, Malformed}
-use Rattle.lert_levels.specs.rows.Landing.{LeavesRest, AreApart}
-use Rattle.lert_levels.specs.rows.Loading.{width_of, Stands, AllStand, OneBreaks}
-use Rattle.lert_levels.specs.rows.Rows.{IsAt, AreFirst, AreRows, HoldsBins, moved}
-use Rattle.lert_levels.proofs.rows.RangeLaws.{edge_within}
-use Rattle.lert_levels.proofs.rows.RowLaws.{first_rows}
-use Rattle.lert_spec.specs.Bins.{Bin}
-use Rattle.lert_spec.specs.Edges.{span, edge, depth, capacity}
-use Rattle.lert_spec.specs.Limits.{IsValid}
-use Rattle.lert_spec.specs.declared.numbers.Numbers.{Numbers}
-use Rattle.lert_spec.specs.declared.piece.Piece.{Piece}
-use Rattle.lert_levels.specs.Flushed.{AreEvents, InNamed}
-use Rattle.lert_levels.proofs.rows.LandLaws.{turns_fewer}
-use Rattle.lert_levels.specs.Merged.{IsFrames}
-use Rattle.lert_levels.specs.Ready.{AreReached, HasMade}
-use Rattle.lert_levels.proofs.ArrivalLaws.{deep, enough, part_widths, parts_have}
-use Rattle.lert_levels.proofs.FlushLaws.{made_count, made_new}
-use Rattle.lert_levels.proofs.HoldLaws.{named_apart, written_holds}
-use Rattle.lert_levels.proofs.PlacedLaws.{named_more}
+use Rattle.lert_levels.specs.{declared.rows.bin_at.BinAt.BinAt, declared.rows.fault.FlushFault.FlushFault, declared.rows.fault.FlushFault.TheVariants.{Failed, Malformed}}
+use Rattle.lert_levels.specs.{rows.Landing.{LeavesRest, AreApart}, rows.Loading.{width_of, Stands, AllStand, OneBreaks}, rows.Rows.{IsAt, AreFirst, AreRows, HoldsBins, moved}}
+use Rattle.lert_levels.specs.{Flushed.{AreEvents, InNamed}, Merged.IsFrames, Ready.{AreReached, HasMade}}
+use Rattle.lert_levels.proofs.{rows.RangeLaws.edge_within, rows.RowLaws.first_rows, rows.LandLaws.turns_fewer, ArrivalLaws.{deep, enough, part_widths, parts_have}, FlushLaws.{made_count, made_new}}
+use Rattle.lert_levels.proofs.{HoldLaws.{named_apart, written_holds}, PlacedLaws.named_more}
+use Rattle.lert_spec.specs.{Bins.Bin, Edges.{span, edge, depth, capacity}, Limits.IsValid, declared.numbers.Numbers.Numbers, declared.piece.Piece.Piece}
 
 -- what is so of a thing that is held
 pub held : {R : Type 0} (P : R → Type 0) (a b : Option R) (x : R) → IsSomeAnd a P → b ≡ a → b ≡ Some x → P x

@@ -1,23 +1,13 @@
 -- The landings of the levels, and the memory of merges.
-use Rattle.std.proofs.Common.{ℕ, ◌≡◌, ◌+◌, ◌-◌, ◌<◌, ◌≤◌, List, [], ◌∷◌, ◌++◌, length, map, take, drop, get_or, set, ap, sym, ◌∙◌, arith, inl, inr, subst}
-use Rattle.std.proofs.Common.{length-append, length-set, length-take, length-drop, Option, Some}
-use Rattle.std.proofs.lemmas.Bool.{cases_lt, cases_eq}
+use Rattle.std.proofs.Common.{ℕ, ◌≡◌, ◌+◌, ◌-◌, ◌<◌, ◌≤◌, List, [], ◌∷◌, ◌++◌, length, map, take, drop, get_or, set, ap, sym, ◌∙◌, arith, inl, inr, subst, length-append, length-set, length-take}
+use Rattle.std.proofs.{Common.{length-drop, Option, Some}, lemmas.Bool.{cases_lt, cases_eq}}
 use Rattle.std.proofs.lemmas.List.{get_or-drop, get_or-take, get_or-append-add, length-map, get_or-map, get_or_append_left, get_or_push, get_or-set_same, get_or-set_other}
-use Rattle.lert_levels.specs.landing.Landed.{taken, IsLanding, IsLandingOf}
-use Rattle.lert_bay.specs.declared.bay.TheConstants.{FRAMES}
-use Rattle.lert_bay.specs.Files.{Files, IfTold}
-use Rattle.lert_bay.specs.Kept.{Bays}
-use Rattle.lert_levels.specs.flush.Merged.{picked}
+use Rattle.lert_levels.specs.{landing.Landed.{taken, IsLanding, IsLandingOf}, flush.Merged.picked, landing.Landings.{Home, home, AreLandings, AreLanding, IsOutside, HaveEnded}, landing.Summed.sums_of}
+use Rattle.lert_levels.specs.{declared.landing.landing.Landing.Landing, declared.rows.bin_at.BinAt.BinAt, rows.Landing.{IsApart, LeavesRest, KeepsRest}, Ready.AreStarted}
+use Rattle.lert_bay.specs.{declared.bay.TheConstants.FRAMES, Files.{Files, IfTold}, Kept.Bays}
 use Rattle.lert_frames.specs.Frame.{HoldsFrame}
 use Rattle.lert_frames.proofs.WriteLaws.{turns_back}
-use Rattle.lert_levels.specs.landing.Landings.{Home, home, AreLandings, AreLanding, IsOutside, HaveEnded}
-use Rattle.lert_levels.specs.landing.Summed.{sums_of}
-use Rattle.lert_levels.specs.declared.landing.landing.Landing.{Landing}
-use Rattle.lert_levels.specs.declared.rows.bin_at.BinAt.{BinAt}
-use Rattle.lert_levels.specs.rows.Landing.{IsApart, LeavesRest, KeepsRest}
-use Rattle.lert_spec.specs.declared.piece.Piece.{Piece}
-use Rattle.lert_spec.specs.declared.numbers.Numbers.{Numbers}
-use Rattle.lert_levels.specs.Ready.{AreStarted}
+use Rattle.lert_spec.specs.{declared.piece.Piece.Piece, declared.numbers.Numbers.Numbers}
 
 -- one more
 pub count_more : {A : Type 0} (xs after : List A) (x : A) (n : ℕ) → length xs ≡ n → after ≡ xs ++ x ∷ [] → length after ≡ n + 1

@@ -1,34 +1,17 @@
 -- Streams of the bins of a flush, before anything was read of them.
-use Rattle.std.proofs.Common.{ℕ, zero, suc, ◌≡◌, ◌+◌, ◌*◌, ◌-◌, ◌^◌, ◌<◌, ◌≤◌, List, [], ◌∷◌, ◌++◌, length, map, get_or, Option, Some, None, refl, ap, ap₂, sym, ◌∙◌, arith}
-use Rattle.std.proofs.Common.{subst, sum_by, length-append, add-one}
-use Rattle.std.specs.Prelude.{sum}
-use Rattle.std.proofs.Math.Nat.{suc-mul, mul-le-mul_right}
-use Rattle.std.proofs.lemmas.Nat.{mul-le}
-use Rattle.std.specs.List.{All}
-use Rattle.std.proofs.lemmas.List.{map-append, length-map}
-use Rattle.std.proofs.lemmas.List.Elements.{All-head, All-tail, All-append, All-cons}
-use Rattle.std.proofs.lemmas.List.Sums.{sum_by-cons}
-use Rattle.lert_bay.specs.declared.bay.TheConstants.{FRAMES}
-use Rattle.lert_bay.specs.Files.{Files}
+use Rattle.std.proofs.Common.{ℕ, zero, suc, ◌≡◌, ◌+◌, ◌*◌, ◌-◌, ◌^◌, ◌<◌, ◌≤◌, List, [], ◌∷◌, ◌++◌, length, map, get_or, Option, Some, None, refl, ap, ap₂, sym, ◌∙◌, arith, subst, sum_by}
+use Rattle.std.proofs.{Common.{length-append, add-one}, Math.Nat.{suc-mul, mul-le-mul_right}, lemmas.Nat.mul-le, lemmas.List.{map-append, length-map}}
+use Rattle.std.proofs.{lemmas.List.Elements.{All-head, All-tail, All-append, All-cons}, lemmas.List.Sums.sum_by-cons}
+use Rattle.std.specs.{Prelude.sum, List.All}
+use Rattle.lert_bay.specs.{declared.bay.TheConstants.FRAMES, Files.Files}
 use Rattle.lert_frames.specs.Place.{tail_limit}
-use Rattle.lert_frames.proofs.FrameLaws.{told_begun}
-use Rattle.lert_frames.proofs.PlaceLaws.{span_fits}
+use Rattle.lert_frames.proofs.{FrameLaws.told_begun, PlaceLaws.span_fits}
 use Rattle.lert_merge.specs.order.Members.{given_at, limit_at}
-use Rattle.lert_levels.specs.declared.rows.bin_at.BinAt.{BinAt}
-use Rattle.lert_levels.specs.rows.Loading.{width_of, Stands, AllStand, held_in, widths_in}
-use Rattle.lert_levels.specs.rows.Rows.{AreFirst}
-use Rattle.lert_spec.specs.Bins.{Bin}
-use Rattle.lert_spec.specs.Edges.{span}
-use Rattle.lert_spec.specs.Limits.{IsValid}
-use Rattle.lert_spec.specs.Table.{total, AreGiven}
-use Rattle.lert_spec.specs.declared.numbers.Numbers.{Numbers}
-use Rattle.lert_spec.specs.declared.piece.Piece.{Piece}
-use Rattle.lert_levels.specs.streams.Bin.{Bin as Stream, of_table, of_frame, to_come_of, given_of, limit_of, wide_of}
-use Rattle.lert_levels.specs.streams.BinLaws.{in_order, table_told}
-use Rattle.lert_levels.specs.streams.Tables.{fresh_bin}
-use Rattle.lert_levels.specs.streams.SetLaws.{to_come_at}
-use Rattle.lert_levels.specs.Merged.{streams_of, widths_of, Fills, AreBins}
+use Rattle.lert_levels.specs.{declared.rows.bin_at.BinAt.BinAt, rows.Loading.{width_of, Stands, AllStand, held_in, widths_in}, rows.Rows.AreFirst}
+use Rattle.lert_levels.specs.{streams.Bin.{Bin as Stream, of_table, of_frame, to_come_of, given_of, limit_of, wide_of}, streams.BinLaws.{in_order, table_told}, streams.Tables.fresh_bin}
+use Rattle.lert_levels.specs.{streams.SetLaws.to_come_at, Merged.{streams_of, widths_of, Fills, AreBins}}
 use Rattle.lert_levels.specs.Sources.{placed_at, placed, Source, of_young, of_bin, sources, pieces_from, width_in, IsBegun, AreBegun}
+use Rattle.lert_spec.specs.{Bins.Bin, Edges.span, Limits.IsValid, Table.{total, AreGiven}, declared.numbers.Numbers.Numbers, declared.piece.Piece.Piece}
 
 -- ---- the sources
 

@@ -1,20 +1,11 @@
 -- Frames that are read to their end leave their format nowhere.
-use Rattle.std.proofs.Common.{ℕ, suc, ◌≡◌, ◌≢◌, ◌<◌, List, [], ◌∷◌, length, map, Option, Some, None, refl, ap, sym, ◌∙◌, arith, subst}
-use Rattle.std.proofs.lemmas.List.{map-append}
-use Rattle.lert_bay.specs.declared.bay.TheConstants.{FRAMES}
-use Rattle.lert_bay.specs.Files.{Files}
-use Rattle.lert_frames.specs.ToCome.{if_whole, left_of, pieces_of, told_of}
-use Rattle.lert_frames.specs.declared.reader.FrameReader.{FrameReader}
-use Rattle.lert_spec.specs.Bins.{Bin}
-use Rattle.lert_spec.specs.declared.numbers.Numbers.{Numbers}
-use Rattle.lert_spec.specs.declared.piece.Piece.{Piece}
-use Rattle.lert_levels.specs.declared.rows.bin_at.BinAt.{BinAt}
-use Rattle.lert_levels.specs.rows.Checked.{bin_left, bins_left, first_of, rows_left}
-use Rattle.lert_levels.specs.streams.Bin.{Bin as Stream, of_table, of_frame}
-use Rattle.lert_levels.specs.streams.SetLaws.{to_come_at}
+use Rattle.std.proofs.{Common.{ℕ, suc, ◌≡◌, ◌≢◌, ◌<◌, List, [], ◌∷◌, length, map, Option, Some, None, refl, ap, sym, ◌∙◌, arith, subst}, lemmas.List.map-append}
+use Rattle.lert_bay.specs.{declared.bay.TheConstants.FRAMES, Files.Files}
+use Rattle.lert_frames.specs.{ToCome.{if_whole, left_of, pieces_of, told_of}, declared.reader.FrameReader.FrameReader}
+use Rattle.lert_spec.specs.{Bins.Bin, declared.numbers.Numbers.Numbers, declared.piece.Piece.Piece}
+use Rattle.lert_levels.specs.{declared.rows.bin_at.BinAt.BinAt, rows.Checked.{bin_left, bins_left, first_of, rows_left}, streams.Bin.{Bin as Stream, of_table, of_frame}, streams.SetLaws.to_come_at}
 use Rattle.lert_levels.specs.Sources.{Placed, placed_at, placed, Source, of_young, of_bin, sources, IsReaderOf, AreBegun, AllOf}
-use Rattle.lert_levels.proofs.PlacedLaws.{all_in}
-use Rattle.lert_levels.proofs.rows.CheckLaws.{first_behind}
+use Rattle.lert_levels.proofs.{PlacedLaws.all_in, rows.CheckLaws.first_behind}
 
 -- the frame of a bin leaves its format nowhere
 abbrev pub IsWhole : Numbers → List ℕ → Placed → Type 0

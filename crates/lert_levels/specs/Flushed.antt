@@ -1,14 +1,8 @@
 -- The new bins of a flush, and the frames that it leaves alone.
 use Rattle.std.specs.Prelude.{◌≡◌, ℕ, ◌+◌, ◌-◌, ◌<◌, ◌≤◌, List, [], length, Contains, slice_index_or}
 use Rattle.lert_frames.specs.Place.{frame_place, frame_len}
-use Rattle.lert_spec.specs.declared.numbers.Numbers.{Numbers}
-use Rattle.lert_spec.specs.Bins.{Bin}
-use Rattle.lert_spec.specs.Edges.{edge, capacity}
-use Rattle.lert_spec.specs.declared.piece.Piece.{Piece}
-use Rattle.lert_levels.specs.declared.rows.bin_at.BinAt.{BinAt}
-use Rattle.lert_levels.specs.OnDisk.{OnDisk}
-use Rattle.lert_levels.specs.rows.Ranges.{young_bins}
-use Rattle.lert_levels.specs.rows.Rows.{row_of, IsAt, arrived, tallied_in, HoldsBins}
+use Rattle.lert_spec.specs.{declared.numbers.Numbers.Numbers, Bins.Bin, Edges.{edge, capacity}, declared.piece.Piece.Piece}
+use Rattle.lert_levels.specs.{declared.rows.bin_at.BinAt.BinAt, OnDisk.OnDisk, rows.Ranges.young_bins, rows.Rows.{row_of, IsAt, arrived, tallied_in, HoldsBins}}
 
 -- the new bins, that of level 1 first, are the counts of their positions
 abbrev pub AreNew : Numbers → ℕ → List ℕ → List (List BinAt) → List (List Piece) → Type 0

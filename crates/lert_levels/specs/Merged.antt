@@ -1,17 +1,9 @@
 -- The merge of level 0 with some of the levels on disk.
-use Rattle.std.specs.Prelude.{◌≡◌, ℕ, ◌-◌, ◌≤◌, List, map, ◌++◌, Option, Some, None}
-use Rattle.std.specs.List.{AllZip}
+use Rattle.std.specs.{Prelude.{◌≡◌, ℕ, ◌-◌, ◌≤◌, List, map, ◌++◌, Option, Some, None}, List.AllZip}
 use Rattle.lert_bay.specs.Files.{Files}
-use Rattle.lert_levels.specs.landing.Summed.{sums_of}
-use Rattle.lert_spec.specs.declared.numbers.Numbers.{Numbers}
-use Rattle.lert_spec.specs.Bins.{Bin}
-use Rattle.lert_spec.specs.Table.{total, AreGiven}
-use Rattle.lert_spec.specs.declared.piece.Piece.{Piece}
-use Rattle.lert_levels.specs.declared.rows.bin_at.BinAt.{BinAt}
+use Rattle.lert_levels.specs.{landing.Summed.sums_of, declared.rows.bin_at.BinAt.BinAt, Parts.{Part, part_table}, rows.Checked.rows_left, rows.Loading.{AllStand, held_in, widths_in}}
+use Rattle.lert_spec.specs.{declared.numbers.Numbers.Numbers, Bins.Bin, Table.{total, AreGiven}, declared.piece.Piece.Piece}
 use Rattle.lert_frames.specs.Place.{tail_limit}
-use Rattle.lert_levels.specs.Parts.{Part, part_table}
-use Rattle.lert_levels.specs.rows.Checked.{rows_left}
-use Rattle.lert_levels.specs.rows.Loading.{AllStand, held_in, widths_in}
 
 -- the pieces of its streams: those of the bins of level 0, and those that the frames of the rows' bins hold
 abbrev pub streams_of : List Bin → (BinAt → List Piece) → List (List BinAt) → List (List Piece)

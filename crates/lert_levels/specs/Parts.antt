@@ -2,11 +2,8 @@
 -- of them, and then those of the rows, level by level, each level's oldest first.
 use Rattle.std.specs.Prelude.{ℕ, zero, suc, ◌≡◌, ◌⊎◌, ◌+◌, ◌-◌, ◌<◌, ◌≤◌, false, List, [], ◌∷◌, length, map, take, sum_by, Option, Some, None, if◌then◌else◌, slice_index_or, slice_set}
 use Rattle.std.specs.List.{range_with_len}
-use Rattle.lert_spec.specs.declared.numbers.Numbers.{Numbers}
-use Rattle.lert_spec.specs.declared.piece.Piece.{Piece}
-use Rattle.lert_levels.specs.landing.Summed.{sums_of}
-use Rattle.lert_levels.specs.declared.rows.bin_at.BinAt.{BinAt}
-use Rattle.lert_levels.specs.rows.Rows.{begins}
+use Rattle.lert_spec.specs.{declared.numbers.Numbers.Numbers, declared.piece.Piece.Piece}
+use Rattle.lert_levels.specs.{landing.Summed.sums_of, declared.rows.bin_at.BinAt.BinAt, rows.Rows.begins}
 
 -- how many streams the levels from 0 up to one have
 abbrev pub streams_to : ℕ → List (List BinAt) → ℕ → ℕ

@@ -1,24 +1,12 @@
 -- What a flush reads and writes with, and what it leaves.
 use Rattle.std.specs.Prelude.{ℕ, ◌≡◌, ◌+◌, ◌-◌, ◌*◌, ◌<◌, ◌≤◌, List, [], length, sum, Option, All, slice_index_or}
-use Rattle.lert_bay.specs.declared.bay.TheConstants.{FRAMES}
-use Rattle.lert_bay.specs.Files.{Files, IfTold}
+use Rattle.lert_bay.specs.{declared.bay.TheConstants.FRAMES, Files.{Files, IfTold}}
 use Rattle.lert_frames.specs.Frame.{HoldsFrame}
-use Rattle.lert_levels.specs.flush.Merged.{AreTaken, picked}
-use Rattle.lert_levels.specs.landing.Landings.{AreLandings}
-use Rattle.lert_levels.specs.landing.Landed.{taken, IsLanding}
-use Rattle.lert_levels.specs.landing.Summed.{sums_of}
-use Rattle.lert_levels.specs.declared.landing.landing.Landing.{Landing}
-use Rattle.lert_merge.specs.declared.order.streams.Streams.{Ghosts as StreamsOf}
-use Rattle.lert_levels.specs.declared.rows.bin_at.BinAt.{BinAt}
-use Rattle.lert_levels.specs.rows.Landing.{AreApart, AreLanded, landing_frame}
-use Rattle.lert_levels.specs.rows.Rows.{AreFirst}
-use Rattle.lert_spec.specs.Edges.{span}
-use Rattle.lert_spec.specs.Bins.{Bin}
-use Rattle.lert_spec.specs.declared.numbers.Numbers.{Numbers}
-use Rattle.lert_spec.specs.declared.piece.Piece.{Piece}
-use Rattle.lert_levels.specs.Flushed.{InNamed}
-use Rattle.lert_levels.specs.Merged.{IsMade, IsFrames, widths_of}
+use Rattle.lert_levels.specs.{flush.Merged.{AreTaken, picked}, landing.Landings.AreLandings, landing.Landed.{taken, IsLanding}, landing.Summed.sums_of, declared.landing.landing.Landing.Landing}
+use Rattle.lert_levels.specs.{declared.rows.bin_at.BinAt.BinAt, rows.Landing.{AreApart, AreLanded, landing_frame}, rows.Rows.AreFirst, Flushed.InNamed, Merged.{IsMade, IsFrames, widths_of}}
 use Rattle.lert_levels.specs.Parts.{part_at, parts_at, in_part, HaveParts}
+use Rattle.lert_merge.specs.declared.order.streams.Streams.{Ghosts as StreamsOf}
+use Rattle.lert_spec.specs.{Edges.span, Bins.Bin, declared.numbers.Numbers.Numbers, declared.piece.Piece.Piece}
 
 -- a landing of each level, and room for the part of each stream
 pub record CanLand (s : Numbers) (landings : List Landing) (capacity : ℕ) : Type 0 where

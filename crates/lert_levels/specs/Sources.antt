@@ -1,16 +1,8 @@
 -- What the streams of a flush are read from: the bins of level 0, and those of the rows in their frames.
 use Rattle.std.specs.Prelude.{ℕ, suc, ◌≡◌, ◌⊎◌, ◌+◌, ◌-◌, ◌≤◌, List, [], ◌∷◌, ◌++◌, length, map, None}
-use Rattle.lert_frames.specs.Frame.{frame_left, frame_pieces}
-use Rattle.lert_frames.specs.Place.{frame_place, frame_len, tail_limit}
-use Rattle.lert_frames.specs.ToCome.{left_of, pieces_of}
-use Rattle.lert_frames.specs.declared.reader.FrameReader.{FrameReader}
-use Rattle.lert_levels.specs.declared.rows.bin_at.BinAt.{BinAt}
-use Rattle.lert_levels.specs.rows.Loading.{width_of}
-use Rattle.lert_spec.specs.Bins.{Bin}
-use Rattle.lert_spec.specs.Table.{total, AreGiven}
-use Rattle.lert_spec.specs.declared.numbers.Numbers.{Numbers}
-use Rattle.lert_spec.specs.declared.piece.Piece.{Piece}
-use Rattle.lert_levels.specs.streams.Bin.{TableBin, Bin as Stream, of_table, of_frame}
+use Rattle.lert_frames.specs.{Frame.{frame_left, frame_pieces}, Place.{frame_place, frame_len, tail_limit}, ToCome.{left_of, pieces_of}, declared.reader.FrameReader.FrameReader}
+use Rattle.lert_levels.specs.{declared.rows.bin_at.BinAt.BinAt, rows.Loading.width_of, streams.Bin.{TableBin, Bin as Stream, of_table, of_frame}}
+use Rattle.lert_spec.specs.{Bins.Bin, Table.{total, AreGiven}, declared.numbers.Numbers.Numbers, declared.piece.Piece.Piece}
 
 -- a bin of a level, as it is named
 pub record Placed : Type 0 where

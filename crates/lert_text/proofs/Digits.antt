@@ -1,6 +1,5 @@
 -- Hexadecimal digits that are written from the last one on.
-use Rattle.std.proofs.Common.{◌≡◌, ℕ, ◌+◌, ◌/◌, ◌%◌, ◌<◌, suc, List, [], ◌∷◌, ◌++◌, length, set, drop, ap, sym, ◌∙◌, append_assoc, arith}
-use Rattle.std.proofs.lemmas.List.{drop-set}
+use Rattle.std.proofs.{Common.{◌≡◌, ℕ, ◌+◌, ◌/◌, ◌%◌, ◌<◌, suc, List, [], ◌∷◌, ◌++◌, length, set, drop, ap, sym, ◌∙◌, append_assoc, arith}, lemmas.List.drop-set}
 use Rattle.lert_text.specs.Drill.{hex_digit, hexadecimal}
 
 -- one digit more before those that were written

@@ -1,10 +1,8 @@
 -- The steps of a text that goes to a sink page by page.
-use Rattle.std.proofs.Common.{◌≡◌, ℕ, ◌+◌, ◌<◌, List, [], ◌++◌, length, get_or, take, drop, Option, Some, None, ap, sym, ◌∙◌, append_assoc, append-nil}
-use Rattle.std.specs.List.{flat_map}
-use Rattle.std.proofs.lemmas.Grind.{flat_map-append}
+use Rattle.std.proofs.{Common.{◌≡◌, ℕ, ◌+◌, ◌<◌, List, [], ◌++◌, length, get_or, take, drop, Option, Some, None, ap, sym, ◌∙◌, append_assoc, append-nil}, lemmas.Grind.flat_map-append}
 use Rattle.std.proofs.lemmas.List.{flat_map_more, take-append-drop, take_more}
-use Rattle.lert_spec.specs.declared.report.Report.{Report}
-use Rattle.lert_spec.specs.Lines.{report_line}
+use Rattle.std.specs.List.{flat_map}
+use Rattle.lert_spec.specs.{declared.report.Report.Report, Lines.report_line}
 use Rattle.lert_text.specs.Page.{IsPrinting, IsCut}
 
 module _ (start now : Option (List ℕ)) (page text : List ℕ) (printing : IsPrinting start now page text) where

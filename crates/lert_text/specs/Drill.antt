@@ -1,11 +1,7 @@
 -- The text of a drill: how many events each cone has, how many keys are reported, and the exclusive or of these. Numbers are
 -- decimal but for the last, and each line ends with byte 10.
-use Rattle.std.specs.Prelude.{ℕ, zero, suc, ◌+◌, ◌/◌, ◌%◌, ◌^◌, nat_lt, bit_xor, sum_by, fold, List, [], ◌∷◌, ◌++◌, length, map, codes, decimal, if◌then◌else◌}
-use Rattle.std.specs.List.{range_with_len}
-use Rattle.lert_spec.specs.declared.numbers.Numbers.{Numbers}
-use Rattle.lert_spec.specs.Counts.{heavy}
-use Rattle.lert_spec.specs.Lines.{total_line}
-use Rattle.lert_spec.specs.Mix.{part_of}
+use Rattle.std.specs.{Prelude.{ℕ, zero, suc, ◌+◌, ◌/◌, ◌%◌, ◌^◌, nat_lt, bit_xor, sum_by, fold, List, [], ◌∷◌, ◌++◌, length, map, codes, decimal, if◌then◌else◌}, List.range_with_len}
+use Rattle.lert_spec.specs.{declared.numbers.Numbers.Numbers, Counts.heavy, Lines.total_line, Mix.part_of}
 
 -- what is printed of a cone: how many events it has, and the keys that are reported of it
 pub record Drilled : Type 0 where

@@ -1,19 +1,10 @@
 -- What is said where no line was read: the words broke a rule, or there was no memory.
-use Rattle.std.proofs.Common.{◌≡◌, ◌<◌, ℕ, List, [], length, Option, refl, sym, subst, arith}
-use Rattle.std.proofs.lemmas.Option.{slice_get_within}
-use Rattle.lert_bay.specs.Files.{Files}
-use Rattle.lert_bay.specs.Kept.{Bays}
-use Rattle.lert_top.proofs.cones.AskedLaws.{traces_same}
+use Rattle.std.proofs.{Common.{◌≡◌, ◌<◌, ℕ, List, [], length, Option, refl, sym, subst, arith}, lemmas.Option.slice_get_within}
+use Rattle.lert_bay.specs.{Files.Files, Kept.Bays}
+use Rattle.lert_top.proofs.{cones.AskedLaws.traces_same, recovery.JournalLaws.journals_same, recovery.RecoverEnding.has_recovered, recovery.SoundLaws.sound_same}
 use Rattle.lert_ingest.proofs.BayLaws.{are_same}
-use Rattle.lert_ingest.specs.Bays.{AreLater}
-use Rattle.lert_ingest.specs.Traces.{AreTracesLater}
-use Rattle.lert_ingest.specs.declared.status.Status.TheVariants.{OutOfMemory, PlaceFault, Usage}
-use Rattle.lert_top.proofs.recovery.JournalLaws.{journals_same}
-use Rattle.lert_top.proofs.recovery.RecoverEnding.{has_recovered}
-use Rattle.lert_top.proofs.recovery.SoundLaws.{sound_same}
-use Rattle.lert_top.specs.recovery.Moments.{AreReturnedSpared}
-use Rattle.lert_top.specs.recovery.Recovered.{HasRecovered, unopened, unopened_memory}
-use Rattle.lert_top.specs.runs.Ran.{HasPutBack}
+use Rattle.lert_ingest.specs.{Bays.AreLater, Traces.AreTracesLater, declared.status.Status.TheVariants.{OutOfMemory, PlaceFault, Usage}}
+use Rattle.lert_top.specs.{recovery.Moments.AreReturnedSpared, recovery.Recovered.{HasRecovered, unopened, unopened_memory}, runs.Ran.HasPutBack}
 use Rattle.lert_spec.specs.declared.numbers.Numbers.{Numbers}
 
 pub usage_not_place : (rule : ℕ) → Usage rule ≡ PlaceFault → ⊥

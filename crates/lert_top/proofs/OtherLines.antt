@@ -1,7 +1,5 @@
 -- What a line of one command says of those of another, and a place that handed nothing out.
-use Rattle.std.proofs.Common.{◌≡◌, ◌<◌, ℕ, List, [], length, Option, Some, None, false, sym, ap, ◌∙◌, subst, arith}
-use Rattle.std.proofs.Math.Dec.{eqb}
-use Rattle.std.proofs.lemmas.Bool.{eqb-false}
+use Rattle.std.proofs.{Common.{◌≡◌, ◌<◌, ℕ, List, [], length, Option, Some, None, false, sym, ap, ◌∙◌, subst, arith}, Math.Dec.eqb, lemmas.Bool.eqb-false}
 use Rattle.lert_args.specs.declared.line.Line.{Line}
 use Rattle.lert_args.proofs.SoundLines.{command_number, no_other}
 use Rattle.lert_place.specs.Openings.{AreReturned, AreReturnedSame}

@@ -1,10 +1,8 @@
 -- What a command that generates a trace says of the sink.
 use Rattle.std.specs.Prelude.{◌≡◌, ℕ, ◌<◌, List, ◌++◌, length, take, Option, Some}
 use Rattle.lert_gen.specs.Generated.{generated, trace_of}
-use Rattle.lert_io.specs.Fault.{HasRisen}
-use Rattle.lert_io.specs.Reading.{IfTold}
-use Rattle.lert_ingest.specs.declared.status.Status.{Status}
-use Rattle.lert_ingest.specs.declared.status.Status.TheVariants.{Done, OutFault}
+use Rattle.lert_io.specs.{Fault.HasRisen, Reading.IfTold}
+use Rattle.lert_ingest.specs.{declared.status.Status.Status, declared.status.Status.TheVariants.{Done, OutFault}}
 
 -- the sink took the whole trace, or its count of faults rose and it took a beginning
 module _ {K : Type 0} (taken : K → Option (List ℕ)) (faults : K → ℕ) (seed events : ℕ) (before after : K) where

@@ -1,13 +1,8 @@
 -- One event more of a tail in the bytes of its place.
-use Rattle.std.proofs.Common.{◌≡◌, ℕ, ◌+◌, ◌%◌, ◌<◌, ◌≤◌, List, Bool, true, false, if◌then◌else◌, ◌==◌, length, min, inl, inr, refl, ap, ap₂, sym, ◌∙◌, subst, arith}
+use Rattle.std.proofs.{Common.{◌≡◌, ℕ, ◌+◌, ◌%◌, ◌<◌, ◌≤◌, List, Bool, true, false, if◌then◌else◌, ◌==◌, length, min, inl, inr, refl, ap, ap₂, sym, ◌∙◌, subst, arith}, Math.ListN.get_or}
+use Rattle.std.proofs.{lemmas.Bool.{cases_eq, eqb-true}, lemmas.List.{get_or_default, get_or-set_same, get_or-set_other, length-set}, lemmas.Nat.mod_below}
 use Rattle.std.specs.Prelude.{slice_set}
-use Rattle.std.proofs.Math.ListN.{get_or}
-use Rattle.std.proofs.lemmas.Bool.{cases_eq, eqb-true}
-use Rattle.std.proofs.lemmas.List.{get_or_default, get_or-set_same, get_or-set_other, length-set}
-use Rattle.std.proofs.lemmas.Nat.{mod_below}
-use Rattle.lert_levels.specs.declared.bound.pair.Pair.{Pair}
-use Rattle.lert_levels.specs.bound.Bytes.{nothing, pair_of, risen}
-use Rattle.lert_levels.specs.bound.Covers.{CoversCounts}
+use Rattle.lert_levels.specs.{declared.bound.pair.Pair.Pair, bound.Bytes.{nothing, pair_of, risen}, bound.Covers.CoversCounts}
 
 -- what stands at a tail's place is its pair
 pub pair_at : (pairs : List Pair) (tail len place : ℕ) (pair : Pair) → 1 ≤ length pairs → len ≡ length pairs → place ≡ tail % len → pair ≡ get_or pairs place pair →

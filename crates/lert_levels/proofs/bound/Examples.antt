@@ -1,8 +1,7 @@
 -- The definitions on worked bytes.
 use Rattle.std.proofs.Common.{◌≡◌, [], ◌∷◌, refl, List, map}
 use Rattle.std.specs.Prelude.{slice_set}
-use Rattle.lert_levels.specs.declared.bound.pair.Pair.{Pair}
-use Rattle.lert_levels.specs.bound.Bytes.{nothing, pair_of, risen, turned}
+use Rattle.lert_levels.specs.{declared.bound.pair.Pair.Pair, bound.Bytes.{nothing, pair_of, risen, turned}}
 
 -- three places: an event more of tail 7, whose place is 1
 places : List Pair

@@ -1,11 +1,7 @@
 -- What an answer of the bytes says of how often a tail came.
-use Rattle.std.proofs.Common.{◌≡◌, ℕ, ◌+◌, ◌%◌, ◌<◌, ◌≤◌, List, Bool, false, length, min, ap, ap₂, sym, ◌∙◌, arith}
+use Rattle.std.proofs.{Common.{◌≡◌, ℕ, ◌+◌, ◌%◌, ◌<◌, ◌≤◌, List, Bool, false, length, min, ap, ap₂, sym, ◌∙◌, arith}, Math.ListN.get_or, lemmas.Bool.leb-false}
 use Rattle.std.specs.Prelude.{nat_le}
-use Rattle.std.proofs.Math.ListN.{get_or}
-use Rattle.std.proofs.lemmas.Bool.{leb-false}
-use Rattle.lert_levels.specs.declared.bound.pair.Pair.{Pair}
-use Rattle.lert_levels.specs.bound.Bytes.{pair_of}
-use Rattle.lert_levels.specs.bound.Covers.{CoversCounts}
+use Rattle.lert_levels.specs.{declared.bound.pair.Pair.Pair, bound.Bytes.pair_of, bound.Covers.CoversCounts}
 use Rattle.lert_levels.proofs.bound.Adding.{pair_at}
 
 -- the answer is that of the tail's bytes

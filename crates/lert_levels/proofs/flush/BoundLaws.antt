@@ -1,6 +1,5 @@
 -- What the widths of the streams bound: the sums so far, and how many pieces still come.
-use Rattle.std.proofs.Common.{ℕ, zero, suc, ◌≡◌, ◌≢◌, ◌+◌, ◌-◌, ◌<◌, ◌≤◌, true, Option, None, List, [], ◌∷◌, ◌++◌, length, get_or, sum, ap, sym, ◌∙◌, subst, arith, inl, inr}
-use Rattle.std.proofs.lemmas.Bool.{cases_eq}
+use Rattle.std.proofs.{Common.{ℕ, zero, suc, ◌≡◌, ◌≢◌, ◌+◌, ◌-◌, ◌<◌, ◌≤◌, true, Option, None, List, [], ◌∷◌, ◌++◌, length, get_or, sum, ap, sym, ◌∙◌, subst, arith, inl, inr}, lemmas.Bool.cases_eq}
 use Rattle.lert_frames.{specs.Place.tail_limit, proofs.ReadingLaws.total-append}
 use Rattle.lert_levels.{specs.landing.Landed.{taken, CanTake, IsLandingOf}, specs.landing.Summed.sums_of, specs.landing.Whole.AreUpTo, specs.declared.landing.landing.Landing.Landing}
 use Rattle.lert_levels.{specs.declared.landing.sum.Sum.Sum, specs.flush.Merged.{is_of, picked, with_piece, AreWide}, proofs.flush.PickLaws.{each-picked, sums_less, picked_less}}

@@ -1,6 +1,5 @@
 -- What is picked for a part, as one of the streams gives a piece.
-use Rattle.std.proofs.Common.{ℕ, zero, suc, ◌≡◌, ◌+◌, ◌<◌, ◌≤◌, Bool, true, false, cond, Option, None, List, [], ◌∷◌, length, sum, sum_by, get_or, set, arith}
-use Rattle.std.proofs.lemmas.List.Sums.{sum_by-cons}
+use Rattle.std.proofs.{Common.{ℕ, zero, suc, ◌≡◌, ◌+◌, ◌<◌, ◌≤◌, Bool, true, false, cond, Option, None, List, [], ◌∷◌, length, sum, sum_by, get_or, set, arith}, lemmas.List.Sums.sum_by-cons}
 use Rattle.lert_levels.specs.flush.Merged.{is_of, pick, picked}
 
 module _ {A : Type 0} where

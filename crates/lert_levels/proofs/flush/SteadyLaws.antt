@@ -1,6 +1,5 @@
 -- Bins over a bay: what stays of them through reads, and through writes elsewhere.
-use Rattle.std.proofs.Common.{ℕ, ◌≡◌, ◌≢◌, ◌<◌, ◌≤◌, ◌⊎◌, ◌↔◌, Option, Some, None, List, length, map, get_or, refl, ap, sym, ◌∙◌, subst, arith, inl, inr}
-use Rattle.std.proofs.lemmas.List.{get_or-map, length-map}
+use Rattle.std.proofs.{Common.{ℕ, ◌≡◌, ◌≢◌, ◌<◌, ◌≤◌, ◌⊎◌, ◌↔◌, Option, Some, None, List, length, map, get_or, refl, ap, sym, ◌∙◌, subst, arith, inl, inr}, lemmas.List.{get_or-map, length-map}}
 use Rattle.lert_bay.{specs.declared.bay.TheConstants.FRAMES, specs.Files.{Files, IfTold, Turns}, specs.Kept.{Bays, OnlyReads}, proofs.KeptLaws.{IsLawful, keeps_on}}
 use Rattle.lert_frames.{proofs.WriteLaws.turns_back, proofs.CallLaws.keeps_turned}
 use Rattle.lert_io.specs.Fault.{HasRisen}

@@ -1,21 +1,11 @@
 -- What a landing has in the file stays where the file changes elsewhere.
 use Rattle.std.proofs.Common.{ℕ, ◌≡◌, ◌≢◌, ◌+◌, ◌≤◌, List, length, min, ap, sym, ◌∙◌, subst, inl, inr, arith}
-use Rattle.lert_bay.specs.declared.bay.TheConstants.{FRAMES}
-use Rattle.lert_bay.specs.Files.{Files}
-use Rattle.lert_frames.specs.Apart.{SamePlace}
-use Rattle.lert_frames.specs.Frame.{HoldsFrame, frame_text}
-use Rattle.lert_frames.specs.Place.{frame_place, frame_len, tail_limit}
-use Rattle.lert_frames.proofs.ApartLaws.{writing_stays}
-use Rattle.lert_frames.proofs.FrameLaws.{text_within}
-use Rattle.lert_frames.proofs.PlaceLaws.{places_apart}
-use Rattle.lert_levels.specs.rows.Landing.{IsApart, LeavesRest}
+use Rattle.lert_bay.specs.{declared.bay.TheConstants.FRAMES, Files.Files}
+use Rattle.lert_frames.specs.{Apart.SamePlace, Frame.{HoldsFrame, frame_text}, Place.{frame_place, frame_len, tail_limit}}
+use Rattle.lert_frames.proofs.{ApartLaws.writing_stays, FrameLaws.text_within, PlaceLaws.places_apart}
+use Rattle.lert_levels.specs.{rows.Landing.{IsApart, LeavesRest}, declared.landing.landing.Landing.Landing, landing.Landed.{taken, IsLanding, IsLandingOf}}
 use Rattle.lert_levels.proofs.rows.LandLaws.{holds_stays}
-use Rattle.lert_spec.specs.declared.numbers.Numbers.{Numbers}
-use Rattle.lert_spec.specs.Limits.{IsValid}
-use Rattle.lert_spec.specs.Edges.{span}
-use Rattle.lert_spec.specs.Table.{AscendsFrom}
-use Rattle.lert_levels.specs.declared.landing.landing.Landing.{Landing}
-use Rattle.lert_levels.specs.landing.Landed.{taken, IsLanding, IsLandingOf}
+use Rattle.lert_spec.specs.{declared.numbers.Numbers.Numbers, Limits.IsValid, Edges.span, Table.AscendsFrom}
 
 -- frames of different levels
 module _ (s : Numbers) (level frame other_level other : ℕ) (first : 1 ≤ level) (within : frame ≤ s.bins) (other_first : 1 ≤ other_level) (other_within : other ≤ s.bins)

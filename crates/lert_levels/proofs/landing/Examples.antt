@@ -1,8 +1,7 @@
 -- Worked examples of sums, computed.
 use Rattle.std.proofs.Common.{◌≡◌, ℕ, List, [], ◌∷◌, Some, None, refl}
 use Rattle.lert_spec.specs.declared.piece.Piece.{Piece}
-use Rattle.lert_levels.specs.landing.Whole.{whole}
-use Rattle.lert_levels.specs.landing.Summed.{sums, sums_of, tally}
+use Rattle.lert_levels.specs.{landing.Whole.whole, landing.Summed.{sums, sums_of, tally}}
 
 abbrev of : ℕ → ℕ → Piece
 of tail count = record { tail = tail; count = count }

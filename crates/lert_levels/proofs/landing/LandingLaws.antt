@@ -1,30 +1,15 @@
 -- One landing: what its calls leave, and what it takes.
 use Rattle.std.proofs.Common.{ℕ, ◌≡◌, ◌+◌, ◌^◌, ◌<◌, ◌≤◌, List, [], ◌∷◌, ◌++◌, Option, Some, None, ap, sym, ◌∙◌, subst, arith}
 use Rattle.std.specs.Prelude.{IfSome, IsSomeAnd, option_to_list}
-use Rattle.lert_bay.specs.declared.bay.TheConstants.{FRAMES}
-use Rattle.lert_bay.specs.Files.{Files, IfTold}
-use Rattle.lert_bay.specs.Kept.{Bays, KeepsBay}
+use Rattle.lert_bay.specs.{declared.bay.TheConstants.FRAMES, Files.{Files, IfTold}, Kept.{Bays, KeepsBay}}
 use Rattle.lert_bay.proofs.KeptLaws.{IsLawful, keeps_none}
-use Rattle.lert_frames.specs.Frame.{HoldsFrame}
-use Rattle.lert_frames.specs.Kept.{WritesWithin}
-use Rattle.lert_frames.specs.Place.{frame_place, frame_len, tail_limit}
-use Rattle.lert_frames.specs.Writing.{IsWriting}
-use Rattle.lert_frames.specs.declared.writer.FrameWriter.{FrameWriter}
-use Rattle.lert_frames.proofs.PlaceLaws.{span_fits}
-use Rattle.lert_frames.proofs.ReadingLaws.{given_none}
-use Rattle.lert_levels.specs.rows.Landing.{IsApart, KeepsRest, CanStand}
-use Rattle.lert_levels.proofs.rows.LandLaws.{rest_none, within_rest}
-use Rattle.lert_spec.specs.declared.numbers.Numbers.{Numbers}
-use Rattle.lert_spec.specs.declared.piece.Piece.{Piece}
-use Rattle.lert_spec.specs.Edges.{span}
-use Rattle.lert_spec.specs.Limits.{IsValid}
-use Rattle.lert_spec.specs.Table.{plus, total, AreGiven}
+use Rattle.lert_frames.specs.{Frame.HoldsFrame, Kept.WritesWithin, Place.{frame_place, frame_len, tail_limit}, Writing.IsWriting, declared.writer.FrameWriter.FrameWriter}
+use Rattle.lert_frames.proofs.{PlaceLaws.span_fits, ReadingLaws.given_none}
+use Rattle.lert_levels.specs.{rows.Landing.{IsApart, KeepsRest, CanStand}, declared.landing.landing.Landing.Landing, declared.landing.sum.Sum.Sum}
+use Rattle.lert_levels.specs.{landing.Landed.{taken, IsLanding, CanTake, SameLanding, Lands}, landing.Whole.{whole, AreBelow, IsTaking}}
+use Rattle.lert_levels.proofs.{rows.LandLaws.{rest_none, within_rest}, landing.SumLaws.{last_up_to, last_fits, table_below, front_below, never_none}}
+use Rattle.lert_spec.specs.{declared.numbers.Numbers.Numbers, declared.piece.Piece.Piece, Edges.span, Limits.IsValid, Table.{plus, total, AreGiven}}
 use Rattle.lert_spec.proofs.Tables.{AscendsFrom-plus, total-plus, count_le-total}
-use Rattle.lert_levels.specs.declared.landing.landing.Landing.{Landing}
-use Rattle.lert_levels.specs.declared.landing.sum.Sum.{Sum}
-use Rattle.lert_levels.specs.landing.Landed.{taken, IsLanding, CanTake, SameLanding, Lands}
-use Rattle.lert_levels.specs.landing.Whole.{whole, AreBelow, IsTaking}
-use Rattle.lert_levels.proofs.landing.SumLaws.{last_up_to, last_fits, table_below, front_below, never_none}
 
 -- ---- what is taken
 

@@ -1,21 +1,14 @@
 -- Several landings: one of them takes a piece, and one after the other ends.
-use Rattle.std.proofs.Common.{ℕ, ◌≡◌, ◌≢◌, ◌+◌, ◌<◌, ◌≤◌, List, [], length, map, get_or, set, Some, refl, ap, sym, ◌∙◌, subst, inl, inr, arith}
-use Rattle.std.proofs.lemmas.Bool.{cases_eq, cases_lt}
+use Rattle.std.proofs.{Common.{ℕ, ◌≡◌, ◌≢◌, ◌+◌, ◌<◌, ◌≤◌, List, [], length, map, get_or, set, Some, refl, ap, sym, ◌∙◌, subst, inl, inr, arith}, lemmas.Bool.{cases_eq, cases_lt}}
 use Rattle.std.proofs.lemmas.List.{get_or-set_same, get_or-set_other, get_or_default, get_or-map, length-set, map-set, set-get_or}
-use Rattle.lert_bay.specs.declared.bay.TheConstants.{FRAMES}
-use Rattle.lert_bay.specs.Files.{Files, IfTold}
-use Rattle.lert_bay.specs.Kept.{Bays, KeepsBay}
+use Rattle.lert_bay.specs.{declared.bay.TheConstants.FRAMES, Files.{Files, IfTold}, Kept.{Bays, KeepsBay}}
 use Rattle.lert_bay.proofs.KeptLaws.{IsLawful, keeps_on, keeps_as}
 use Rattle.lert_frames.specs.Frame.{HoldsFrame}
 use Rattle.lert_frames.proofs.WriteLaws.{turns_back}
-use Rattle.lert_levels.specs.rows.Landing.{IsApart, LeavesRest, KeepsRest}
-use Rattle.lert_levels.proofs.rows.LandLaws.{rest_on, rest_fewer}
-use Rattle.lert_spec.specs.declared.numbers.Numbers.{Numbers}
-use Rattle.lert_levels.specs.declared.landing.landing.Landing.{Landing}
-use Rattle.lert_levels.specs.landing.Landed.{taken, IsLanding, IsLandingOf, SameLanding, Lands}
+use Rattle.lert_levels.specs.{rows.Landing.{IsApart, LeavesRest, KeepsRest}, declared.landing.landing.Landing.Landing, landing.Landed.{taken, IsLanding, IsLandingOf, SameLanding, Lands}}
 use Rattle.lert_levels.specs.landing.Landings.{home, AreLandings, AreLanding, IsOutside, HaveEnded}
-use Rattle.lert_levels.proofs.landing.ApartLaws.{same_place, frame_within, landing_stays, landed_stays}
-use Rattle.lert_levels.proofs.landing.LandingLaws.{holds_turned}
+use Rattle.lert_levels.proofs.{rows.LandLaws.{rest_on, rest_fewer}, landing.ApartLaws.{same_place, frame_within, landing_stays, landed_stays}, landing.LandingLaws.holds_turned}
+use Rattle.lert_spec.specs.declared.numbers.Numbers.{Numbers}
 
 -- ---- one of several
 

@@ -1,12 +1,10 @@
 -- A sum that is open behind what was handed on.
 use Rattle.std.proofs.Common.{ℕ, ◌≡◌, ◌+◌, ◌<◌, ◌≤◌, List, [], ◌∷◌, ◌++◌, Option, Some, None, refl, ap, sym, ◌∙◌, subst, arith, append_assoc}
-use Rattle.std.specs.Prelude.{IfSome, IsSomeAnd, option_to_list}
 use Rattle.std.proofs.lemmas.List.Elements.{All-nil, All-cons, All-head, All-tail, All-append, All-contains, All-weaker, Contains-push}
-use Rattle.lert_spec.specs.declared.piece.Piece.{Piece}
-use Rattle.lert_spec.specs.Table.{plus, total, AscendsFrom}
+use Rattle.std.specs.Prelude.{IfSome, IsSomeAnd, option_to_list}
+use Rattle.lert_spec.specs.{declared.piece.Piece.Piece, Table.{plus, total, AscendsFrom}}
 use Rattle.lert_spec.proofs.Tables.{plus_here, plus_behind}
-use Rattle.lert_levels.specs.declared.landing.sum.Sum.{Sum}
-use Rattle.lert_levels.specs.landing.Whole.{whole, AreBelow, AreUpTo, Takes}
+use Rattle.lert_levels.specs.{declared.landing.sum.Sum.Sum, landing.Whole.{whole, AreBelow, AreUpTo, Takes}}
 
 -- ---- one piece more
 

@@ -1,15 +1,9 @@
 -- Sums of pieces in any order are the table of their counts.
-use Rattle.std.proofs.Common.{ℕ, suc, ◌≡◌, ◌+◌, ◌<◌, ◌≤◌, cond, eqb, List, [], ◌∷◌, fold, sum_by}
-use Rattle.std.proofs.Common.{refl, ap, sym, subst, arith, inl, inr}
-use Rattle.std.proofs.lemmas.Bool.{cases_eq, cases_order, eq-eqb, ne_eqb}
-use Rattle.std.proofs.lemmas.List.Elements.{All-nil, All-cons, All-head, All-tail}
-use Rattle.std.proofs.lemmas.List.Sums.{sum_by-cons}
-use Rattle.lert_spec.specs.declared.piece.Piece.{Piece}
-use Rattle.lert_spec.specs.Table.{count_of, total, plus, AscendsFrom, IsTable}
-use Rattle.lert_spec.proofs.Tables.{plus_here, plus_before, plus_behind, AscendsFrom-plus, count_of-plus, count_of-below, total-plus}
-use Rattle.lert_spec.proofs.TallyLaws.{count_of-cons_same, count_of-cons_other}
-use Rattle.lert_levels.specs.landing.Summed.{summed, sums_of, tally, AreCounted, AreTables}
-use Rattle.lert_levels.specs.landing.Whole.{AreUpTo}
+use Rattle.std.proofs.{Common.{ℕ, suc, ◌≡◌, ◌+◌, ◌<◌, ◌≤◌, cond, eqb, List, [], ◌∷◌, fold, sum_by, refl, ap, sym, subst, arith, inl, inr}, lemmas.Bool.{cases_eq, cases_order, eq-eqb, ne_eqb}}
+use Rattle.std.proofs.{lemmas.List.Elements.{All-nil, All-cons, All-head, All-tail}, lemmas.List.Sums.sum_by-cons}
+use Rattle.lert_spec.specs.{declared.piece.Piece.Piece, Table.{count_of, total, plus, AscendsFrom, IsTable}}
+use Rattle.lert_spec.proofs.{Tables.{plus_here, plus_before, plus_behind, AscendsFrom-plus, count_of-plus, count_of-below, total-plus}, TallyLaws.{count_of-cons_same, count_of-cons_other}}
+use Rattle.lert_levels.specs.{landing.Summed.{summed, sums_of, tally, AreCounted, AreTables}, landing.Whole.AreUpTo}
 
 -- ---- sums of pieces
 

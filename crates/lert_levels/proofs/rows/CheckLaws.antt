@@ -1,25 +1,13 @@
 -- Where a check of the frames stops: at the first bin of the first level that leaves its format.
-use Rattle.std.proofs.Common.{ℕ, ◌≡◌, ◌+◌, ◌-◌, ◌<◌, ◌≤◌, suc, List, [], ◌∷◌, ◌++◌, length, map, get_or, take, drop, Option, Some, None, refl, ap}
-use Rattle.std.proofs.Common.{ap₂, sym, ◌∙◌, ◌⊎◌, arith, inl, inr, subst, Result, append-nil, length-take}
-use Rattle.std.specs.Prelude.{Ok, Err, IfErr, IsErrAnd}
-use Rattle.std.specs.List.{All}
-use Rattle.std.proofs.Math.Seq.{drop-cons}
-use Rattle.std.proofs.lemmas.List.{map-append, map_more, append_assoc, take-append-drop, take_more}
-use Rattle.std.proofs.lemmas.List.Elements.{All-head, All-tail}
+use Rattle.std.proofs.Common.{ℕ, ◌≡◌, ◌+◌, ◌-◌, ◌<◌, ◌≤◌, suc, List, [], ◌∷◌, ◌++◌, length, map, get_or, take, drop, Option, Some, None, refl, ap, ap₂, sym, ◌∙◌, ◌⊎◌, arith, inl, inr, subst, Result}
+use Rattle.std.proofs.{Common.{append-nil, length-take}, Math.Seq.drop-cons, lemmas.List.{map-append, map_more, append_assoc, take-append-drop, take_more}, lemmas.List.Elements.{All-head, All-tail}}
 use Rattle.std.proofs.lemmas.Option.{none-some}
-use Rattle.lert_base.specs.declared.pieces.PieceFault.{PieceFault}
-use Rattle.lert_base.specs.declared.pieces.PieceFault.TheVariants.{Failed as PieceFailed, Malformed as PieceMalformed}
+use Rattle.std.specs.{Prelude.{Ok, Err, IfErr, IsErrAnd}, List.All}
+use Rattle.lert_base.specs.{declared.pieces.PieceFault.PieceFault, declared.pieces.PieceFault.TheVariants.{Failed as PieceFailed, Malformed as PieceMalformed}}
 use Rattle.lert_frames.proofs.FrameLaws.{left_is}
-use Rattle.lert_spec.specs.declared.numbers.Numbers.{Numbers}
-use Rattle.lert_spec.specs.declared.piece.Piece.{Piece}
-use Rattle.lert_spec.specs.Edges.{span}
-use Rattle.lert_spec.specs.Limits.{IsValid}
-use Rattle.lert_levels.specs.declared.rows.bin_at.BinAt.{BinAt}
-use Rattle.lert_levels.specs.declared.rows.fault.FlushFault.{FlushFault}
-use Rattle.lert_levels.specs.declared.rows.fault.FlushFault.TheVariants.{Failed, Malformed}
-use Rattle.lert_levels.specs.rows.Checked.{bin_left, bins_left, first_of, row_left, rows_left}
-use Rattle.lert_levels.specs.rows.Loading.{width_of, flush_fault, Stands, AllStand}
-use Rattle.lert_levels.specs.rows.Rows.{IsRow, AreRows}
+use Rattle.lert_spec.specs.{declared.numbers.Numbers.Numbers, declared.piece.Piece.Piece, Edges.span, Limits.IsValid}
+use Rattle.lert_levels.specs.{declared.rows.bin_at.BinAt.BinAt, declared.rows.fault.FlushFault.FlushFault, declared.rows.fault.FlushFault.TheVariants.{Failed, Malformed}}
+use Rattle.lert_levels.specs.{rows.Checked.{bin_left, bins_left, first_of, row_left, rows_left}, rows.Loading.{width_of, flush_fault, Stands, AllStand}, rows.Rows.{IsRow, AreRows}}
 
 -- ---- the first place of several
 

@@ -1,22 +1,10 @@
 -- What the bins of several levels count together, and what the new bins of a flush hold.
-use Rattle.std.proofs.Common.{ℕ, ◌≡◌, ◌+◌, ◌-◌, ◌^◌, ◌≤◌, zero, suc, List, [], ◌∷◌, ◌++◌, length, map, get_or, take, ap, sym, ◌∙◌, arith, subst, sum_by}
-use Rattle.std.proofs.Common.{flat_map, slice_range, append-nil}
-use Rattle.std.proofs.lemmas.Grind.{flat_map-append}
-use Rattle.std.proofs.lemmas.List.{take_more, take_all}
-use Rattle.std.proofs.lemmas.List.Sums.{sum_by-append}
-use Rattle.lert_spec.specs.declared.numbers.Numbers.{Numbers}
-use Rattle.lert_spec.specs.declared.piece.Piece.{Piece}
-use Rattle.lert_spec.specs.Bins.{Bin, tallied}
-use Rattle.lert_spec.specs.Edges.{edge, depth, lookback, capacity}
-use Rattle.lert_spec.specs.Limits.{IsValid}
-use Rattle.lert_spec.specs.Table.{count_of, IsTable}
+use Rattle.std.proofs.Common.{ℕ, ◌≡◌, ◌+◌, ◌-◌, ◌^◌, ◌≤◌, zero, suc, List, [], ◌∷◌, ◌++◌, length, map, get_or, take, ap, sym, ◌∙◌, arith, subst, sum_by, flat_map, slice_range, append-nil}
+use Rattle.std.proofs.{lemmas.Grind.flat_map-append, lemmas.List.{take_more, take_all}, lemmas.List.Sums.sum_by-append}
+use Rattle.lert_spec.specs.{declared.numbers.Numbers.Numbers, declared.piece.Piece.Piece, Bins.{Bin, tallied}, Edges.{edge, depth, lookback, capacity}, Limits.IsValid, Table.{count_of, IsTable}}
 use Rattle.lert_spec.proofs.EdgeLaws.{edge_descends_to, deepest_within, span_pos}
-use Rattle.lert_levels.specs.declared.rows.bin_at.BinAt.{BinAt}
-use Rattle.lert_levels.specs.rows.Loading.{held_in}
-use Rattle.lert_levels.specs.rows.Ranges.{Range, young_bins}
-use Rattle.lert_levels.specs.rows.Rows.{range_of, row_of, IsAt, tallied_in}
-use Rattle.lert_levels.proofs.rows.RangeLaws.{edge_within, oldest_edge}
-use Rattle.lert_levels.proofs.rows.Windows.{counted, counted-none, counted-join, ranges_cover, sum_by-map, young_cover, window_table}
+use Rattle.lert_levels.specs.{declared.rows.bin_at.BinAt.BinAt, rows.Loading.held_in, rows.Ranges.{Range, young_bins}, rows.Rows.{range_of, row_of, IsAt, tallied_in}}
+use Rattle.lert_levels.proofs.{rows.RangeLaws.{edge_within, oldest_edge}, rows.Windows.{counted, counted-none, counted-join, ranges_cover, sum_by-map, young_cover, window_table}}
 
 abbrev of_tail : ℕ → List Piece → ℕ
 of_tail tail pieces = count_of pieces tail

@@ -1,11 +1,8 @@
 -- How long a directory is.
 use Rattle.std.proofs.Common.{ℕ, ◌≡◌, ◌+◌, ◌<◌, ◌≤◌, List, ◌∷◌, length, map, take, get_or, ap, ap₂, sym, ◌∙◌, arith, [], ◌++◌, append-nil}
-use Rattle.std.proofs.lemmas.List.{length-map, take_more, map-append, append_assoc, length-append, length-take-le}
-use Rattle.std.proofs.lemmas.Grind.{flat_map-append}
-use Rattle.std.proofs.lemmas.List.Concat.{length-flat_map}
+use Rattle.std.proofs.{lemmas.List.{length-map, take_more, map-append, append_assoc, length-append, length-take-le}, lemmas.Grind.flat_map-append, lemmas.List.Concat.length-flat_map}
 use Rattle.std.proofs.lemmas.List.Sums.{sum_by_more_le}
-use Rattle.lert_levels.specs.declared.rows.bin_at.BinAt.{BinAt}
-use Rattle.lert_levels.specs.rows.Rows.{directory_text}
+use Rattle.lert_levels.specs.{declared.rows.bin_at.BinAt.BinAt, rows.Rows.directory_text}
 
 abbrev pub row_text : List BinAt → List ℕ
 row_text row = length row ∷ map (λ bin. bin.frame) row

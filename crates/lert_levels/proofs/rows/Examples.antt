@@ -3,14 +3,8 @@
 use Rattle.std.proofs.Common.{◌≡◌, ℕ, List, [], ◌∷◌, ◌++◌, refl, map, replicate, Some}
 use Rattle.std.specs.List.{range_with_len}
 use Rattle.lert_slotbits.specs.Bits.{word_bits}
-use Rattle.lert_spec.specs.declared.numbers.Numbers.{Numbers}
-use Rattle.lert_spec.specs.declared.piece.Piece.{Piece}
-use Rattle.lert_spec.specs.Bins.{bins}
-use Rattle.lert_levels.specs.declared.rows.bin_at.BinAt.{BinAt}
-use Rattle.lert_levels.specs.rows.Ranges.{ranges, filled, young_bins}
-use Rattle.lert_levels.specs.rows.Checked.{level_of, rows_left}
-use Rattle.lert_levels.specs.rows.Named.{frames_text}
-use Rattle.lert_levels.specs.rows.Rows.{moved, directory_text}
+use Rattle.lert_spec.specs.{declared.numbers.Numbers.Numbers, declared.piece.Piece.Piece, Bins.bins}
+use Rattle.lert_levels.specs.{declared.rows.bin_at.BinAt.BinAt, rows.Ranges.{ranges, filled, young_bins}, rows.Checked.{level_of, rows_left}, rows.Named.frames_text, rows.Rows.{moved, directory_text}}
 use Rattle.lert_levels.specs.rows.Young.{times_in}
 
 abbrev small : Numbers

@@ -1,21 +1,13 @@
 -- After a check that found each frame whole: what the frames hold, by the bin alone.
-use Rattle.std.proofs.Common.{ℕ, ◌≡◌, ◌+◌, ◌-◌, ◌/◌, ◌<◌, ◌≤◌, zero, suc, cond, List, [], length, map, get_or, ap, sym, ◌∙◌, arith, inl, inr, subst}
-use Rattle.std.specs.List.{All, range_with_len}
-use Rattle.std.proofs.lemmas.Bool.{cases_lt, lt-ltb, le-ltb}
+use Rattle.std.proofs.{Common.{ℕ, ◌≡◌, ◌+◌, ◌-◌, ◌/◌, ◌<◌, ◌≤◌, zero, suc, cond, List, [], length, map, get_or, ap, sym, ◌∙◌, arith, inl, inr, subst}, lemmas.Bool.{cases_lt, lt-ltb, le-ltb}}
 use Rattle.std.proofs.lemmas.List.{length-map, get_or-map}
-use Rattle.lert_frames.specs.Frame.{IsBin, HoldsFrame}
-use Rattle.lert_frames.specs.Place.{tail_limit}
-use Rattle.lert_spec.specs.declared.numbers.Numbers.{Numbers}
-use Rattle.lert_spec.specs.Edges.{span, edge}
+use Rattle.std.specs.List.{All, range_with_len}
+use Rattle.lert_frames.specs.{Frame.{IsBin, HoldsFrame}, Place.tail_limit}
+use Rattle.lert_spec.specs.{declared.numbers.Numbers.Numbers, Edges.{span, edge}}
 use Rattle.lert_spec.proofs.EdgeLaws.{edge_descends_to, span_pos}
-use Rattle.lert_levels.specs.declared.rows.bin_at.BinAt.{BinAt}
-use Rattle.lert_levels.specs.rows.Checked.{pieces_in, level_of, held_after, EachStands}
-use Rattle.lert_levels.specs.rows.Loading.{width_of, AllStand}
-use Rattle.lert_levels.specs.rows.Ranges.{Range, range_at, ranges}
+use Rattle.lert_levels.specs.{declared.rows.bin_at.BinAt.BinAt, rows.Checked.{pieces_in, level_of, held_after, EachStands}, rows.Loading.{width_of, AllStand}, rows.Ranges.{Range, range_at, ranges}}
 use Rattle.lert_levels.specs.rows.Rows.{range_of, IsAt}
-use Rattle.lert_levels.proofs.rows.NamedLaws.{ranges_run}
-use Rattle.lert_levels.proofs.rows.RangeLaws.{IsCut, cuts_are}
-use Rattle.lert_levels.proofs.rows.RowLaws.{All-ranges}
+use Rattle.lert_levels.proofs.{rows.NamedLaws.ranges_run, rows.RangeLaws.{IsCut, cuts_are}, rows.RowLaws.All-ranges}
 
 module _ (s : Numbers) (base : 1 ≤ s.base) (ratio : 1 ≤ s.ratio) (n : ℕ) where
   level_is : (top below to : ℕ) → below < top → edge s (suc below) n < to → to ≤ edge s below n → level_of s n top to ≡ suc below

@@ -1,25 +1,14 @@
 -- Calls that write some frames and leave the rest, one after the other.
-use Rattle.std.proofs.Common.{ℕ, ◌≡◌, ◌≢◌, ◌+◌, ◌-◌, ◌<◌, ◌≤◌, List, length, take, refl, ap, sym, ◌∙◌, arith, inl, inr, ◌⊎◌, subst, Option, Some}
-use Rattle.std.proofs.Common.{Result, length-take, length-drop}
-use Rattle.std.specs.Prelude.{Ok, Err, OnOk, OnErr}
+use Rattle.std.proofs.Common.{ℕ, ◌≡◌, ◌≢◌, ◌+◌, ◌-◌, ◌<◌, ◌≤◌, List, length, take, refl, ap, sym, ◌∙◌, arith, inl, inr, ◌⊎◌, subst, Option, Some, Result, length-take, length-drop}
 use Rattle.std.proofs.lemmas.Bool.{cases_eq, cases_lt}
-use Rattle.lert_bay.specs.declared.bay.TheConstants.{FRAMES}
-use Rattle.lert_bay.specs.Files.{Files, Turns, Changes, LeftByFailure}
-use Rattle.lert_bay.specs.Images.{Elapses, Settles, KeepsImages}
-use Rattle.lert_bay.specs.Kept.{Bays, KeepsBay, OnlyReads}
+use Rattle.std.specs.Prelude.{Ok, Err, OnOk, OnErr}
+use Rattle.lert_bay.specs.{declared.bay.TheConstants.FRAMES, Files.{Files, Turns, Changes, LeftByFailure}, Images.{Elapses, Settles, KeepsImages}, Kept.{Bays, KeepsBay, OnlyReads}}
 use Rattle.lert_bay.specs.Settled.{part, Keeps, IsSettled}
-use Rattle.lert_bay.proofs.KeptLaws.{IsLawful}
-use Rattle.lert_bay.proofs.Settling.{part_none, part_torn}
-use Rattle.lert_frames.specs.Frame.{HoldsFrame, frame_text}
-use Rattle.lert_frames.specs.Kept.{WritesWithin}
-use Rattle.lert_frames.specs.Place.{frame_place, frame_len}
-use Rattle.lert_frames.proofs.WithinLaws.{within_outside}
-use Rattle.lert_frames.proofs.WriteLaws.{either_way}
-use Rattle.lert_spec.specs.declared.numbers.Numbers.{Numbers}
-use Rattle.lert_spec.specs.declared.piece.Piece.{Piece}
-use Rattle.lert_levels.specs.declared.rows.bin_at.BinAt.{BinAt}
-use Rattle.lert_levels.specs.rows.Landing.{IsApart, LeavesRest, KeepsRest}
-use Rattle.lert_levels.specs.rows.Rows.{IsRow, arrived}
+use Rattle.lert_bay.proofs.{KeptLaws.IsLawful, Settling.{part_none, part_torn}}
+use Rattle.lert_frames.specs.{Frame.{HoldsFrame, frame_text}, Kept.WritesWithin, Place.{frame_place, frame_len}}
+use Rattle.lert_frames.proofs.{WithinLaws.within_outside, WriteLaws.either_way}
+use Rattle.lert_spec.specs.{declared.numbers.Numbers.Numbers, declared.piece.Piece.Piece}
+use Rattle.lert_levels.specs.{declared.rows.bin_at.BinAt.BinAt, rows.Landing.{IsApart, LeavesRest, KeepsRest}, rows.Rows.{IsRow, arrived}}
 use Rattle.lert_levels.proofs.rows.RowLaws.{lowest_is_free}
 
 -- fewer ranges

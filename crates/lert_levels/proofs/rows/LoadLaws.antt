@@ -1,19 +1,10 @@
 -- The tables of level 0 that are in use, as the pieces of its bins.
-use Rattle.std.proofs.Common.{ℕ, zero, suc, ◌≡◌, ◌+◌, ◌-◌, ◌*◌, ◌^◌, ◌<◌, ◌≤◌, min, List, [], ◌∷◌, All, length, get_or, map}
-use Rattle.std.proofs.Common.{take, refl, ap, sym, ◌∙◌, subst, arith, inl, inr}
-use Rattle.std.proofs.Math.Nat.{mul-le-mul_right, suc-mul}
-use Rattle.std.proofs.lemmas.Bool.{cases_lt}
-use Rattle.std.proofs.lemmas.List.{get_or-map, length-map, take-map}
-use Rattle.std.proofs.lemmas.List.Elements.{All-take}
-use Rattle.lert_spec.specs.declared.piece.Piece.{Piece}
-use Rattle.lert_spec.specs.Table.{total}
+use Rattle.std.proofs.Common.{ℕ, zero, suc, ◌≡◌, ◌+◌, ◌-◌, ◌*◌, ◌^◌, ◌<◌, ◌≤◌, min, List, [], ◌∷◌, All, length, get_or, map, take, refl, ap, sym, ◌∙◌, subst, arith, inl, inr}
+use Rattle.std.proofs.{Math.Nat.{mul-le-mul_right, suc-mul}, lemmas.Bool.cases_lt, lemmas.List.{get_or-map, length-map, take-map}, lemmas.List.Elements.All-take}
+use Rattle.lert_spec.specs.{declared.piece.Piece.Piece, Table.total, declared.numbers.Numbers.Numbers, Bins.Bin, Edges.span}
 use Rattle.lert_base.specs.declared.count_table.CountTable.{Ghosts as TablesOf}
-use Rattle.lert_spec.specs.declared.numbers.Numbers.{Numbers}
-use Rattle.lert_spec.specs.Bins.{Bin}
-use Rattle.lert_spec.specs.Edges.{span}
 use Rattle.lert_levels.specs.rows.Young.{seen_as, Young, bins_of, IsOfZero, IsFilled, AreFilled, AreNumbered}
-use Rattle.lert_levels.proofs.rows.YoungLaws.{bins_of-none, bins_of-some, bins_of-length, bits_of_zero}
-use Rattle.lert_levels.proofs.rows.YoungCounts.{width_within}
+use Rattle.lert_levels.proofs.{rows.YoungLaws.{bins_of-none, bins_of-some, bins_of-length, bits_of_zero}, rows.YoungCounts.width_within}
 
 -- ---- the tables in use
 

@@ -1,19 +1,12 @@
 -- Rows with no bin, rows that move on one by one, and what a directory needs.
-use Rattle.std.proofs.Common.{ℕ, ◌≡◌, ◌+◌, ◌-◌, ◌*◌, ◌<◌, ◌≤◌, List, [], ◌∷◌, ◌++◌, length, take, drop, get_or, set, replicate, ap}
-use Rattle.std.proofs.Common.{ap₂, sym, ◌∙◌, arith, inl, inr, subst, Bool, true, false}
-use Rattle.std.specs.Prelude.{nat_lt, if◌then◌else◌}
+use Rattle.std.proofs.Common.{ℕ, ◌≡◌, ◌+◌, ◌-◌, ◌*◌, ◌<◌, ◌≤◌, List, [], ◌∷◌, ◌++◌, length, take, drop, get_or, set, replicate, ap, ap₂, sym, ◌∙◌, arith, inl, inr, subst, Bool, true, false}
 use Rattle.std.proofs.lemmas.Bool.{cases_lt, cond-true, cond-false, le-ltb}
 use Rattle.std.proofs.lemmas.List.{length-map, get_or-replicate, get_or_past, length-replicate, same_lists, take_at, get_or-set_same, get_or-set_other, get_or_default}
-use Rattle.std.proofs.lemmas.List.Concat.{length-flat_map}
-use Rattle.std.proofs.lemmas.List.Elements.{All-nil}
-use Rattle.std.proofs.lemmas.List.FromFn.{get_or-map-range_with_len, length-map-range_with_len}
-use Rattle.std.proofs.lemmas.List.Sums.{sum_by-le}
-use Rattle.lert_spec.specs.declared.numbers.Numbers.{Numbers}
-use Rattle.lert_spec.specs.Edges.{span, depth}
-use Rattle.lert_levels.specs.declared.rows.bin_at.BinAt.{BinAt}
-use Rattle.lert_levels.specs.rows.Rows.{row_of, IsRow, AreRows, directory_text, begins, kept, arrived, moved_row, moved}
-use Rattle.lert_levels.proofs.rows.RowLaws.{all_rows}
-use Rattle.lert_levels.proofs.rows.DirectoryLaws.{row_text}
+use Rattle.std.proofs.{lemmas.List.Concat.length-flat_map, lemmas.List.Elements.All-nil, lemmas.List.FromFn.{get_or-map-range_with_len, length-map-range_with_len}, lemmas.List.Sums.sum_by-le}
+use Rattle.std.specs.Prelude.{nat_lt, if◌then◌else◌}
+use Rattle.lert_spec.specs.{declared.numbers.Numbers.Numbers, Edges.{span, depth}}
+use Rattle.lert_levels.specs.{declared.rows.bin_at.BinAt.BinAt, rows.Rows.{row_of, IsRow, AreRows, directory_text, begins, kept, arrived, moved_row, moved}}
+use Rattle.lert_levels.proofs.{rows.RowLaws.all_rows, rows.DirectoryLaws.row_text}
 
 -- rows with no bin
 pub row_of-none : (n level : ℕ) → row_of (replicate n []) level ≡ []

@@ -1,23 +1,14 @@
 -- What a directory names: where the bins of a level lie, and that the frames and the positions say which rows they are.
-use Rattle.std.proofs.Common.{ℕ, ◌≡◌, ◌+◌, ◌-◌, ◌*◌, ◌/◌, ◌^◌, ◌<◌, ◌≤◌, zero, suc, cond, List, [], ◌∷◌, ◌++◌, length, map, get_or, take, drop, max}
-use Rattle.std.proofs.Common.{refl, ap, ap₂, sym, ◌∙◌, arith, inl, inr, add-mul, add-suc, le_trans, subst, set, slice_index, slice_range, append-nil, length-append}
-use Rattle.std.specs.List.{range_with_len}
-use Rattle.std.proofs.lemmas.Bool.{cases_lt, lt-ltb, le-ltb}
-use Rattle.std.proofs.Math.Seq.{drop-cons, drop-append-add, get_or-append_seam}
-use Rattle.std.proofs.lemmas.Grind.{flat_map-append}
-use Rattle.std.proofs.lemmas.List.{append_cancel_left, length-map, take_at, take_more, take-append-drop, get_or-set_same, get_or-set_other, get_or_default}
-use Rattle.std.proofs.lemmas.Nat.{mul-le}
+use Rattle.std.proofs.Common.{ℕ, ◌≡◌, ◌+◌, ◌-◌, ◌*◌, ◌/◌, ◌^◌, ◌<◌, ◌≤◌, zero, suc, cond, List, [], ◌∷◌, ◌++◌, length, map, get_or, take, drop, max, refl, ap, ap₂, sym, ◌∙◌, arith, inl, inr, add-mul}
+use Rattle.std.proofs.{Common.{add-suc, le_trans, subst, set, slice_index, slice_range, append-nil, length-append}, lemmas.Bool.{cases_lt, lt-ltb, le-ltb}}
+use Rattle.std.proofs.{Math.Seq.{drop-cons, drop-append-add, get_or-append_seam}, lemmas.Grind.flat_map-append}
+use Rattle.std.proofs.{lemmas.List.{append_cancel_left, length-map, take_at, take_more, take-append-drop, get_or-set_same, get_or-set_other, get_or_default}, lemmas.Nat.mul-le}
 use Rattle.std.proofs.Math.Nat.{mul-le-mul_right, suc-mul, mul_comm, mul-div-le, div-add-mod, mod-lt}
-use Rattle.lert_spec.specs.declared.numbers.Numbers.{Numbers}
-use Rattle.lert_spec.specs.Edges.{span, edge, capacity}
-use Rattle.lert_spec.specs.Limits.{IsValid}
+use Rattle.std.specs.List.{range_with_len}
+use Rattle.lert_spec.specs.{declared.numbers.Numbers.Numbers, Edges.{span, edge, capacity}, Limits.IsValid}
 use Rattle.lert_spec.proofs.LimitLaws.{capacity_to, span_within}
-use Rattle.lert_levels.specs.declared.rows.bin_at.BinAt.{BinAt}
-use Rattle.lert_levels.specs.rows.Named.{AreNamed}
-use Rattle.lert_levels.specs.rows.Ranges.{Range, range_at, ranges}
-use Rattle.lert_levels.specs.rows.Rows.{range_of, IsAt, directory_text}
-use Rattle.lert_levels.proofs.rows.DirectoryLaws.{row_text}
-use Rattle.lert_levels.proofs.rows.RangeLaws.{range_cuts, edge_within}
+use Rattle.lert_levels.specs.{declared.rows.bin_at.BinAt.BinAt, rows.Named.AreNamed, rows.Ranges.{Range, range_at, ranges}, rows.Rows.{range_of, IsAt, directory_text}}
+use Rattle.lert_levels.proofs.{rows.DirectoryLaws.row_text, rows.RangeLaws.{range_cuts, edge_within}}
 
 -- ---- the intervals that hold a level's positions follow one another
 

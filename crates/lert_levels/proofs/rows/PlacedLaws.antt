@@ -1,20 +1,12 @@
 -- A directory from lists of frames, one for each level: there are rows that it names.
-use Rattle.std.proofs.Common.{ℕ, ◌≡◌, ◌≢◌, ◌+◌, ◌-◌, ◌*◌, ◌/◌, ◌<◌, ◌≤◌, zero, suc, cond, ltb, eqb, List, [], ◌∷◌, ◌++◌, length, map, filter}
-use Rattle.std.proofs.Common.{get_or, min, max, count_by, refl, ap, ap₂, sym, ◌∙◌, arith, inl, inr, subst}
+use Rattle.std.proofs.Common.{ℕ, ◌≡◌, ◌≢◌, ◌+◌, ◌-◌, ◌*◌, ◌/◌, ◌<◌, ◌≤◌, zero, suc, cond, ltb, eqb, List, [], ◌∷◌, ◌++◌, length, map, filter, get_or, min, max, count_by, refl, ap, ap₂, sym, ◌∙◌}
+use Rattle.std.proofs.{Common.{arith, inl, inr, subst}, lemmas.Bool.{cases_eq, cases_lt, eq-eqb, ne_eqb, lt-ltb, le-ltb}, lemmas.List.{length-map, get_or-map}}
+use Rattle.std.proofs.{lemmas.List.Elements.{All-head, All-tail}, lemmas.List.Sums.sum_by-cons}
 use Rattle.std.specs.List.{All, AllPairs, range_with_len}
-use Rattle.std.proofs.lemmas.Bool.{cases_eq, cases_lt, eq-eqb, ne_eqb, lt-ltb, le-ltb}
-use Rattle.std.proofs.lemmas.List.{length-map, get_or-map}
-use Rattle.std.proofs.lemmas.List.Elements.{All-head, All-tail}
-use Rattle.std.proofs.lemmas.List.Sums.{sum_by-cons}
-use Rattle.lert_spec.specs.declared.numbers.Numbers.{Numbers}
-use Rattle.lert_spec.specs.Edges.{span, edge, capacity}
-use Rattle.lert_spec.specs.Limits.{IsValid}
-use Rattle.lert_levels.specs.declared.rows.bin_at.BinAt.{BinAt}
-use Rattle.lert_levels.specs.rows.Named.{AreFramesAt, IsDirectory, frames_text}
-use Rattle.lert_levels.specs.rows.Ranges.{Range, range_at, ranges}
+use Rattle.lert_spec.specs.{declared.numbers.Numbers.Numbers, Edges.{span, edge, capacity}, Limits.IsValid}
+use Rattle.lert_levels.specs.{declared.rows.bin_at.BinAt.BinAt, rows.Named.{AreFramesAt, IsDirectory, frames_text}, rows.Ranges.{Range, range_at, ranges}}
 use Rattle.lert_levels.specs.rows.Rows.{range_of, row_of, IsRow, times_named, directory_text}
-use Rattle.lert_levels.proofs.rows.DirectoryLaws.{row_text}
-use Rattle.lert_levels.proofs.rows.RowLaws.{row_at}
+use Rattle.lert_levels.proofs.{rows.DirectoryLaws.row_text, rows.RowLaws.row_at}
 
 -- ---- bins of some positions, in these frames
 

@@ -1,14 +1,10 @@
 -- How the positions of a level's bins change as the edges around it move.
-use Rattle.std.proofs.Common.{ℕ, ◌≡◌, ◌≢◌, ◌+◌, ◌-◌, ◌*◌, ◌/◌, ◌%◌, ◌<◌, ◌≤◌, zero, suc, Bool, true, false, cond, ltb, List, [], ◌∷◌, ◌++◌}
-use Rattle.std.proofs.Common.{length, map, filter, min, max, drop, refl, ap, ap₂, sym, ◌∙◌, arith, inl, inr, subst}
-use Rattle.std.specs.List.{All, range_with_len}
-use Rattle.std.proofs.lemmas.Bool.{cases_lt, cases_eq, lt-ltb, le-ltb, eq-eqb, ne_eqb}
-use Rattle.std.proofs.lemmas.List.{map-append, nil_from_length}
+use Rattle.std.proofs.Common.{ℕ, ◌≡◌, ◌≢◌, ◌+◌, ◌-◌, ◌*◌, ◌/◌, ◌%◌, ◌<◌, ◌≤◌, zero, suc, Bool, true, false, cond, ltb, List, [], ◌∷◌, ◌++◌, length, map, filter, min, max, drop, refl, ap, ap₂, sym}
+use Rattle.std.proofs.{Common.{◌∙◌, arith, inl, inr, subst}, lemmas.Bool.{cases_lt, cases_eq, lt-ltb, le-ltb, eq-eqb, ne_eqb}, lemmas.List.{map-append, nil_from_length}}
 use Rattle.std.proofs.lemmas.List.Elements.{All-nil, All-cons}
 use Rattle.std.proofs.Math.Nat.{mul-div-le, div-add-mod, mod-lt, mul-suc, mul_comm, mul-le-mul_left, mul-le-mul_right, mul_assoc, suc-mul, le-div_iff_mul-le, div-eq_of_lt-le, add-zero, add-suc}
-use Rattle.lert_spec.specs.declared.numbers.Numbers.{Numbers}
-use Rattle.lert_spec.specs.Bins.{Bin, bins, bin_at}
-use Rattle.lert_spec.specs.Edges.{span, offset, edge, depth, deepest}
+use Rattle.std.specs.List.{All, range_with_len}
+use Rattle.lert_spec.specs.{declared.numbers.Numbers.Numbers, Bins.{Bin, bins, bin_at}, Edges.{span, offset, edge, depth, deepest}}
 use Rattle.lert_spec.proofs.BinLaws.{cuts, made, cuts-enough, cuts-drop, cuts-newest, cuts-front}
 use Rattle.lert_spec.proofs.EdgeLaws.{span_pos, span-suc, steps, div_never_falls, deepest_reaches, steps-suc, moves_together, edge_descends, moves_by_one, deepest_within}
 use Rattle.lert_levels.specs.rows.Ranges.{Range, range_at, ranges, filled}

@@ -1,16 +1,10 @@
 -- The rows of bins as a check reads them, and what its faults say.
-use Rattle.std.proofs.Common.{ℕ, ◌≡◌, ◌<◌, List, [], length, get_or, refl, ap, sym, ◌∙◌, subst, Result}
+use Rattle.std.proofs.{Common.{ℕ, ◌≡◌, ◌<◌, List, [], length, get_or, refl, ap, sym, ◌∙◌, subst, Result}, lemmas.List.get_or_default}
 use Rattle.std.specs.Prelude.{Ok, Err, IsErrAnd, OnOk}
-use Rattle.std.proofs.lemmas.List.{get_or_default}
-use Rattle.lert_base.specs.declared.pieces.PieceFault.{PieceFault}
-use Rattle.lert_base.specs.declared.pieces.PieceFault.TheVariants.{Failed as PieceFailed, Malformed as PieceMalformed}
-use Rattle.lert_frames.specs.Frame.{HoldsFrame, IsBin, frame_pieces}
-use Rattle.lert_frames.specs.Place.{tail_limit}
+use Rattle.lert_base.specs.{declared.pieces.PieceFault.PieceFault, declared.pieces.PieceFault.TheVariants.{Failed as PieceFailed, Malformed as PieceMalformed}}
+use Rattle.lert_frames.specs.{Frame.{HoldsFrame, IsBin, frame_pieces}, Place.tail_limit}
 use Rattle.lert_spec.specs.declared.numbers.Numbers.{Numbers}
-use Rattle.lert_levels.specs.declared.rows.bin_at.BinAt.{BinAt}
-use Rattle.lert_levels.specs.declared.rows.fault.FlushFault.{FlushFault}
-use Rattle.lert_levels.specs.declared.rows.fault.FlushFault.TheVariants.{Failed, Malformed}
-use Rattle.lert_levels.specs.rows.Checked.{pieces_in}
+use Rattle.lert_levels.specs.{declared.rows.bin_at.BinAt.BinAt, declared.rows.fault.FlushFault.FlushFault, declared.rows.fault.FlushFault.TheVariants.{Failed, Malformed}, rows.Checked.pieces_in}
 use Rattle.lert_levels.specs.rows.Loading.{width_of, Stands, flush_fault}
 
 -- what holds of a reader's settings and level holds of those that it was begun with

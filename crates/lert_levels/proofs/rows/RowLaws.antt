@@ -1,19 +1,14 @@
 -- What a flush makes of the rows: the bins of the levels after it, each in a frame of its own.
-use Rattle.std.proofs.Common.{ℕ, ◌≡◌, ◌+◌, ◌-◌, ◌/◌, ◌%◌, ◌<◌, ◌≤◌, zero, suc, Bool, true, false, cond, ltb, eqb, List, [], ◌∷◌, ◌++◌, length, map}
-use Rattle.std.proofs.Common.{get_or, take, drop, Some, ap, ap₂, sym, ◌∙◌, arith, inl, inr, subst, find, unwrap_or, count_by, append-nil, length-append, length-take}
-use Rattle.std.specs.List.{All, range_with_len}
+use Rattle.std.proofs.Common.{ℕ, ◌≡◌, ◌+◌, ◌-◌, ◌/◌, ◌%◌, ◌<◌, ◌≤◌, zero, suc, Bool, true, false, cond, ltb, eqb, List, [], ◌∷◌, ◌++◌, length, map, get_or, take, drop, Some, ap, ap₂, sym, ◌∙◌, arith}
+use Rattle.std.proofs.Common.{inl, inr, subst, find, unwrap_or, count_by, append-nil, length-append, length-take}
 use Rattle.std.proofs.lemmas.Bool.{cases_lt, cases_eq, cases_order, cases_Bool, lt-ltb, le-ltb, eq-eqb, ne_eqb, eqb-true, eqb-false, false≢true}
 use Rattle.std.proofs.lemmas.List.{get_or-take, length-map, map_push, take-map, drop-map, get_or-map, get_or_at, take_at, take_all, take-append-drop}
-use Rattle.std.proofs.lemmas.List.Elements.{All-append, All-take, All-drop, All-cons, All-nil}
-use Rattle.std.proofs.lemmas.List.FromFn.{get_or-map-range_with_len, length-map-range_with_len}
+use Rattle.std.proofs.{lemmas.List.Elements.{All-append, All-take, All-drop, All-cons, All-nil}, lemmas.List.FromFn.{get_or-map-range_with_len, length-map-range_with_len}}
 use Rattle.std.proofs.lemmas.List.Sums.{sum_by-cons, sum_by-append, count_by-le-length}
-use Rattle.lert_spec.specs.declared.numbers.Numbers.{Numbers}
-use Rattle.lert_spec.specs.Edges.{span, offset, edge, depth, capacity}
-use Rattle.lert_spec.specs.Limits.{IsValid}
-use Rattle.lert_spec.proofs.LimitLaws.{capacity_to}
-use Rattle.lert_spec.proofs.EdgeLaws.{span_pos}
-use Rattle.lert_levels.specs.declared.rows.bin_at.BinAt.{BinAt}
-use Rattle.lert_levels.specs.rows.Ranges.{Range, ranges}
+use Rattle.std.specs.List.{All, range_with_len}
+use Rattle.lert_spec.specs.{declared.numbers.Numbers.Numbers, Edges.{span, offset, edge, depth, capacity}, Limits.IsValid}
+use Rattle.lert_spec.proofs.{LimitLaws.capacity_to, EdgeLaws.span_pos}
+use Rattle.lert_levels.specs.{declared.rows.bin_at.BinAt.BinAt, rows.Ranges.{Range, ranges}}
 use Rattle.lert_levels.specs.rows.Rows.{range_of, row_of, IsAt, IsRow, AreFirst, AreRows, times_named, lowest_free, no_bin, newest, begins, kept, arrived, moved_row, moved}
 use Rattle.lert_levels.proofs.rows.RangeLaws.{IsCut, Enters, cuts_are, enters, ranges_still, ranges_few, edge_within}
 

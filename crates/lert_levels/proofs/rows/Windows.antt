@@ -1,19 +1,10 @@
 -- The counts of the keys at some positions in a row, of those positions cut in two, and of a level's positions bin by bin.
-use Rattle.std.proofs.Common.{ℕ, ◌≡◌, ◌+◌, ◌-◌, ◌*◌, ◌/◌, ◌^◌, ◌≤◌, zero, suc, cond, List, [], ◌∷◌, ◌++◌, length, map, take, drop, min, max, ap, ap₂}
-use Rattle.std.proofs.Common.{sym, ◌∙◌, arith, inl, inr, subst, sum_by, slice_range, length-drop}
-use Rattle.std.proofs.Math.Nat.{mul-le-mul_right, suc-mul, div-add-mod, mod-lt, mul_comm}
-use Rattle.std.proofs.Math.Seq.{take-add}
-use Rattle.std.proofs.lemmas.Bool.{cases_lt, lt-ltb, le-ltb}
-use Rattle.std.proofs.lemmas.List.{drop-drop, length-take}
-use Rattle.std.proofs.lemmas.List.Sums.{sum_by-cons}
+use Rattle.std.proofs.Common.{ℕ, ◌≡◌, ◌+◌, ◌-◌, ◌*◌, ◌/◌, ◌^◌, ◌≤◌, zero, suc, cond, List, [], ◌∷◌, ◌++◌, length, map, take, drop, min, max, ap, ap₂, sym, ◌∙◌, arith, inl, inr, subst, sum_by}
+use Rattle.std.proofs.{Common.{slice_range, length-drop}, Math.Nat.{mul-le-mul_right, suc-mul, div-add-mod, mod-lt, mul_comm}, Math.Seq.take-add, lemmas.Bool.{cases_lt, lt-ltb, le-ltb}}
+use Rattle.std.proofs.{lemmas.List.{drop-drop, length-take}, lemmas.List.Sums.sum_by-cons}
 use Rattle.std.specs.List.{range_with_len}
-use Rattle.lert_spec.specs.declared.numbers.Numbers.{Numbers}
-use Rattle.lert_spec.specs.declared.piece.Piece.{Piece}
-use Rattle.lert_spec.specs.Bins.{Bin, tallied}
-use Rattle.lert_spec.specs.Edges.{span, edge}
-use Rattle.lert_spec.specs.Table.{count_of, total, IsTable}
-use Rattle.lert_spec.proofs.EdgeLaws.{span_pos, edge_descends}
-use Rattle.lert_spec.proofs.TallyLaws.{tails, tails-append, IsTable-tallied, count_of-tallied, total-tallied, one_table}
+use Rattle.lert_spec.specs.{declared.numbers.Numbers.Numbers, declared.piece.Piece.Piece, Bins.{Bin, tallied}, Edges.{span, edge}, Table.{count_of, total, IsTable}}
+use Rattle.lert_spec.proofs.{EdgeLaws.{span_pos, edge_descends}, TallyLaws.{tails, tails-append, IsTable-tallied, count_of-tallied, total-tallied, one_table}}
 use Rattle.lert_levels.specs.rows.Ranges.{Range, range_at, ranges, filled, young_bins}
 use Rattle.lert_levels.proofs.rows.RangeLaws.{range_cuts, filled_cuts, edge_within}
 

@@ -1,13 +1,8 @@
 -- Level 0 as one more event is added.
-use Rattle.std.proofs.Common.{ℕ, suc, ◌≡◌, ◌+◌, ◌-◌, ◌*◌, ◌/◌, ◌^◌, ◌<◌, ◌≤◌, cond, eqb, List, [], length, get_or, set, map, ap, ap₂, sym, ◌∙◌, subst}
-use Rattle.std.proofs.Common.{arith, inl, inr, length-set, get_or-set_same, get_or-set_other}
-use Rattle.std.proofs.Math.Nat.{mul-le-mul_right, suc-mul}
-use Rattle.std.proofs.lemmas.Bool.{eq-eqb, ne_eqb, cases_lt, cases_eq}
-use Rattle.std.proofs.lemmas.List.{map-set, get_or-map, length-map}
+use Rattle.std.proofs.Common.{ℕ, suc, ◌≡◌, ◌+◌, ◌-◌, ◌*◌, ◌/◌, ◌^◌, ◌<◌, ◌≤◌, cond, eqb, List, [], length, get_or, set, map, ap, ap₂, sym, ◌∙◌, subst, arith, inl, inr, length-set, get_or-set_same}
+use Rattle.std.proofs.{Common.get_or-set_other, Math.Nat.{mul-le-mul_right, suc-mul}, lemmas.Bool.{eq-eqb, ne_eqb, cases_lt, cases_eq}, lemmas.List.{map-set, get_or-map, length-map}}
 use Rattle.lert_base.specs.declared.count_table.CountTable.{Ghosts as TablesOf}
-use Rattle.lert_spec.specs.declared.numbers.Numbers.{Numbers}
-use Rattle.lert_spec.specs.Edges.{span, capacity}
-use Rattle.lert_spec.specs.Table.{total, plus}
+use Rattle.lert_spec.specs.{declared.numbers.Numbers.Numbers, Edges.{span, capacity}, Table.{total, plus}}
 use Rattle.lert_spec.proofs.Tables.{total-plus}
 use Rattle.lert_levels.specs.rows.Young.{seen_as, Young, added, with_event, IsNextPosition, bins_of, IsFilled, AreFilled}
 use Rattle.lert_levels.proofs.rows.YoungLaws.{bins_of-none, bins_of-begin, bins_of-grow, IsPlace, place_of, added-begin, added-grow, some_bins, bits_of_zero, same_numbers}

@@ -1,19 +1,10 @@
 -- The bins of level 0 as events come and the oldest one is dropped.
-use Rattle.std.proofs.Common.{ℕ, zero, suc, ◌≡◌, ◌+◌, ◌-◌, ◌*◌, ◌/◌, ◌%◌, ◌≤◌, cond, ltb, max, min, List, [], ◌∷◌, ◌++◌, length, refl, ap, ap₂, sym}
-use Rattle.std.proofs.Common.{◌∙◌, arith, inl, inr, slice_range, length-append, append-nil, take, drop, length-drop}
-use Rattle.std.proofs.Math.Nat.{div-add-mod, mod-lt, mul-le-mul_right, mul-mod_left, suc-mul, mul_comm}
-use Rattle.std.proofs.lemmas.Bool.{lt-ltb, le-ltb, cases_lt}
+use Rattle.std.proofs.Common.{ℕ, zero, suc, ◌≡◌, ◌+◌, ◌-◌, ◌*◌, ◌/◌, ◌%◌, ◌≤◌, cond, ltb, max, min, List, [], ◌∷◌, ◌++◌, length, refl, ap, ap₂, sym, ◌∙◌, arith, inl, inr, slice_range, length-append}
+use Rattle.std.proofs.{Common.{append-nil, take, drop, length-drop}, Math.Nat.{div-add-mod, mod-lt, mul-le-mul_right, mul-mod_left, suc-mul, mul_comm}, lemmas.Bool.{lt-ltb, le-ltb, cases_lt}}
 use Rattle.std.proofs.lemmas.List.{drop-append-le, take_all}
-use Rattle.lert_spec.specs.declared.numbers.Numbers.{Numbers}
-use Rattle.lert_spec.specs.Bins.{Bin, tallied}
-use Rattle.lert_spec.specs.Edges.{span}
-use Rattle.lert_spec.specs.Mix.{tail_of}
-use Rattle.lert_spec.specs.Table.{plus}
-use Rattle.lert_spec.proofs.BinLaws.{made, cuts, cuts-newest, cuts-front, cuts-append, cuts-drop}
-use Rattle.lert_spec.proofs.EdgeLaws.{div_never_falls}
-use Rattle.lert_spec.proofs.TallyLaws.{tallied-push}
-use Rattle.lert_levels.specs.rows.Ranges.{young_bins}
-use Rattle.lert_levels.specs.rows.Young.{grown, added}
+use Rattle.lert_spec.specs.{declared.numbers.Numbers.Numbers, Bins.{Bin, tallied}, Edges.span, Mix.tail_of, Table.plus}
+use Rattle.lert_spec.proofs.{BinLaws.{made, cuts, cuts-newest, cuts-front, cuts-append, cuts-drop}, EdgeLaws.div_never_falls, TallyLaws.tallied-push}
+use Rattle.lert_levels.specs.{rows.Ranges.young_bins, rows.Young.{grown, added}}
 use Rattle.lert_levels.proofs.rows.YoungLaws.{added-begin, added-grow}
 
 -- only the last bin grows

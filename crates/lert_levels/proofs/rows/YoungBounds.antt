@@ -1,25 +1,12 @@
 -- What the bound of level 0 covers, as an event is added and the oldest bin is dropped.
-use Rattle.std.proofs.Common.{ℕ, zero, suc, ◌≡◌, ◌≢◌, ◌+◌, ◌-◌, ◌*◌, ◌/◌, ◌%◌, ◌<◌, ◌≤◌, cond, eqb, List, [], ◌∷◌, ◌++◌, length, get_or}
-use Rattle.std.proofs.Common.{set, refl, ap, sym, ◌∙◌}
-use Rattle.std.proofs.Common.{subst, arith, inl, inr, take, drop, sum_by}
-use Rattle.std.proofs.Math.Nat.{div-add-mod, mul-le-mul_right, suc-mul, mul_comm}
-use Rattle.std.proofs.lemmas.Bool.{cases_lt, cases_eq, cases_order}
-use Rattle.std.proofs.lemmas.Bool.Decides.{nat_tests}
+use Rattle.std.proofs.Common.{ℕ, zero, suc, ◌≡◌, ◌≢◌, ◌+◌, ◌-◌, ◌*◌, ◌/◌, ◌%◌, ◌<◌, ◌≤◌, cond, eqb, List, [], ◌∷◌, ◌++◌, length, get_or, set, refl, ap, sym, ◌∙◌, subst, arith, inl, inr, take, drop}
+use Rattle.std.proofs.{Common.sum_by, Math.Nat.{div-add-mod, mul-le-mul_right, suc-mul, mul_comm}, lemmas.Bool.{cases_lt, cases_eq, cases_order}, lemmas.Bool.Decides.nat_tests}
 use Rattle.std.proofs.lemmas.List.Sums.{sum_by-cons, sum_by_push, sum_by-set, sum_by-take-drop, sum_by-take-le}
-use Rattle.lert_levels.specs.declared.bound.pair.Pair.{Pair}
-use Rattle.lert_levels.specs.bound.Covers.{CoversCounts}
+use Rattle.lert_levels.specs.{declared.bound.pair.Pair.Pair, bound.Covers.CoversCounts, rows.Young.{seen_as, Young, AreFilled, AreBounded, times_in}}
 use Rattle.lert_base.specs.declared.count_table.CountTable.{Ghosts as TablesOf}
-use Rattle.lert_spec.specs.declared.numbers.Numbers.{Numbers}
-use Rattle.lert_spec.specs.declared.piece.Piece.{Piece}
-use Rattle.lert_spec.specs.Bins.{Bin}
-use Rattle.lert_spec.specs.Edges.{span}
-use Rattle.lert_spec.specs.Table.{count_of, plus}
+use Rattle.lert_spec.specs.{declared.numbers.Numbers.Numbers, declared.piece.Piece.Piece, Bins.Bin, Edges.span, Table.{count_of, plus}}
 use Rattle.lert_spec.proofs.Tables.{plus_here, plus_before, plus_behind}
-use Rattle.lert_levels.specs.rows.Young.{seen_as, Young, AreFilled, AreBounded, times_in}
-use Rattle.lert_levels.proofs.rows.YoungLaws.{AreEmpty, some_bins}
-use Rattle.lert_levels.proofs.rows.YoungAdds.{Adds, add_place, add_behind}
-use Rattle.lert_levels.proofs.rows.YoungCounts.{counts_are}
-use Rattle.lert_levels.proofs.rows.YoungDrops.{Drops}
+use Rattle.lert_levels.proofs.{rows.YoungLaws.{AreEmpty, some_bins}, rows.YoungAdds.{Adds, add_place, add_behind}, rows.YoungCounts.counts_are, rows.YoungDrops.Drops}
 
 -- fewer events are covered too
 covers_fewer : (pairs : List Pair) (before present before' present' : ℕ → ℕ) → CoversCounts pairs before present →

@@ -1,18 +1,9 @@
 -- How often a tail stands in the tables of level 0.
-use Rattle.std.proofs.Common.{ℕ, suc, ◌≡◌, ◌+◌, ◌*◌, ◌^◌, ◌<◌, ◌≤◌, min, List, [], ◌∷◌, length, get_or, map, refl, ap, ap₂, sym, ◌∙◌, subst, arith, inl}
-use Rattle.std.proofs.Common.{inr, sum_by, take}
-use Rattle.std.proofs.Math.Nat.{suc-mul, pow-zero}
-use Rattle.std.proofs.lemmas.Bool.{cases_lt, cases_eq}
-use Rattle.std.proofs.lemmas.List.{take_all}
+use Rattle.std.proofs.Common.{ℕ, suc, ◌≡◌, ◌+◌, ◌*◌, ◌^◌, ◌<◌, ◌≤◌, min, List, [], ◌∷◌, length, get_or, map, refl, ap, ap₂, sym, ◌∙◌, subst, arith, inl, inr, sum_by, take}
+use Rattle.std.proofs.{Math.Nat.{suc-mul, pow-zero}, lemmas.Bool.{cases_lt, cases_eq}, lemmas.List.take_all, lemmas.List.Sums.{sum_by-cons, sum_by_more}}
 use Rattle.lert_base.specs.declared.count_table.CountTable.{Ghosts as TablesOf}
-use Rattle.lert_spec.specs.declared.numbers.Numbers.{Numbers}
-use Rattle.lert_spec.specs.declared.piece.Piece.{Piece}
-use Rattle.lert_spec.specs.Bins.{Bin}
-use Rattle.lert_spec.specs.Edges.{span}
-use Rattle.lert_spec.specs.Limits.{IsValid}
-use Rattle.lert_spec.specs.Table.{count_of, total}
+use Rattle.lert_spec.specs.{declared.numbers.Numbers.Numbers, declared.piece.Piece.Piece, Bins.Bin, Edges.span, Limits.IsValid, Table.{count_of, total}}
 use Rattle.lert_spec.proofs.TallyLaws.{count_of-cons_same, count_of-cons_other}
-use Rattle.std.proofs.lemmas.List.Sums.{sum_by-cons, sum_by_more}
 use Rattle.lert_levels.specs.rows.Young.{seen_as, Young, bins_of, AreFilled}
 use Rattle.lert_levels.proofs.rows.YoungLaws.{bins_of-none, bins_of-some}
 

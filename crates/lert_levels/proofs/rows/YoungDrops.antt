@@ -1,17 +1,8 @@
 -- Level 0 as its oldest bin is dropped.
-use Rattle.std.proofs.Common.{ℕ, suc, ◌≡◌, ◌+◌, ◌*◌, ◌≤◌, cond, ltb, min, List, [], ◌∷◌, ◌++◌, length, get_or, set, map, drop, ap, sym, ◌∙◌, subst, arith}
-use Rattle.std.proofs.Common.{inl, inr, length-append, take}
-use Rattle.std.proofs.Math.Nat.{div-add-mod, suc-mul}
-use Rattle.std.proofs.lemmas.Bool.{cases_lt}
-use Rattle.std.proofs.Math.ListN.{get_or-append}
-use Rattle.std.proofs.Math.Seq.{get_or-append_seam}
-use Rattle.std.proofs.lemmas.List.{map-append, length-map}
+use Rattle.std.proofs.Common.{ℕ, suc, ◌≡◌, ◌+◌, ◌*◌, ◌≤◌, cond, ltb, min, List, [], ◌∷◌, ◌++◌, length, get_or, set, map, drop, ap, sym, ◌∙◌, subst, arith, inl, inr, length-append, take}
+use Rattle.std.proofs.{Math.Nat.{div-add-mod, suc-mul}, lemmas.Bool.cases_lt, Math.ListN.get_or-append, Math.Seq.get_or-append_seam, lemmas.List.{map-append, length-map}}
 use Rattle.lert_base.specs.declared.count_table.CountTable.{Ghosts as TablesOf}
-use Rattle.lert_spec.specs.declared.numbers.Numbers.{Numbers}
-use Rattle.lert_spec.specs.declared.piece.Piece.{Piece}
-use Rattle.lert_spec.specs.Bins.{Bin}
-use Rattle.lert_spec.specs.Edges.{span}
-use Rattle.lert_spec.specs.Table.{total}
+use Rattle.lert_spec.specs.{declared.numbers.Numbers.Numbers, declared.piece.Piece.Piece, Bins.Bin, Edges.span, Table.total}
 use Rattle.lert_levels.specs.rows.Young.{seen_as, Young, bins_of, IsFilled, AreFilled}
 use Rattle.lert_levels.proofs.rows.YoungLaws.{bins_of-none, bins_of-some, rest_of, some_bins, same_numbers}
 

@@ -1,18 +1,9 @@
 -- How the tables of level 0 change, as its bins.
-use Rattle.std.proofs.Common.{ℕ, zero, suc, ◌≡◌, ◌+◌, ◌-◌, ◌*◌, ◌/◌, ◌%◌, ◌<◌, ◌≤◌, cond, min, List, [], ◌∷◌, ◌++◌, length, get_or, set, map, refl}
-use Rattle.std.proofs.Common.{ap, ap₂, sym, ◌∙◌, subst, arith, inl, inr, length-append}
-use Rattle.std.proofs.Math.Nat.{div-add-mod, mod-lt, suc-mul}
-use Rattle.std.proofs.lemmas.Bool.{lt-ltb, le-ltb, eq-eqb, ne_eqb, cases_lt}
-use Rattle.std.proofs.Math.ListN.{get_or-append}
-use Rattle.std.proofs.Math.Seq.{get_or-append_seam}
+use Rattle.std.proofs.Common.{ℕ, zero, suc, ◌≡◌, ◌+◌, ◌-◌, ◌*◌, ◌/◌, ◌%◌, ◌<◌, ◌≤◌, cond, min, List, [], ◌∷◌, ◌++◌, length, get_or, set, map, refl, ap, ap₂, sym, ◌∙◌, subst, arith, inl, inr}
+use Rattle.std.proofs.{Common.length-append, Math.Nat.{div-add-mod, mod-lt, suc-mul}, lemmas.Bool.{lt-ltb, le-ltb, eq-eqb, ne_eqb, cases_lt}, Math.ListN.get_or-append, Math.Seq.get_or-append_seam}
 use Rattle.std.proofs.lemmas.Nat.{mod-mul-add}
 use Rattle.lert_base.specs.declared.count_table.CountTable.{Ghosts as TablesOf}
-use Rattle.lert_spec.specs.declared.numbers.Numbers.{Numbers}
-use Rattle.lert_spec.specs.declared.piece.Piece.{Piece}
-use Rattle.lert_spec.specs.Bins.{Bin}
-use Rattle.lert_spec.specs.Edges.{span, quotient_bits, width}
-use Rattle.lert_spec.specs.Limits.{IsValid}
-use Rattle.lert_spec.specs.Table.{total, plus}
+use Rattle.lert_spec.specs.{declared.numbers.Numbers.Numbers, declared.piece.Piece.Piece, Bins.Bin, Edges.{span, quotient_bits, width}, Limits.IsValid, Table.{total, plus}}
 use Rattle.lert_spec.proofs.LimitLaws.{quotient_bits_by_zeros}
 use Rattle.lert_levels.specs.rows.Young.{Young, grown, begun, added, bins_of, IsOfZero, IsFilled, AreFilled}
 

@@ -1,12 +1,8 @@
 -- The numbers that level 0 keeps of its bins, as an event is added and the oldest bin is dropped.
-use Rattle.std.proofs.Common.{ℕ, suc, ◌≡◌, ◌≢◌, ◌+◌, ◌-◌, ◌*◌, ◌/◌, ◌^◌, ◌<◌, ◌≤◌, cond, eqb, List, ap, sym, ◌∙◌, subst, arith, inl, inr}
-use Rattle.std.proofs.Math.Nat.{mul-le-mul_right, suc-mul}
-use Rattle.std.proofs.lemmas.Bool.{eq-eqb, ne_eqb, cases_lt, cases_eq}
-use Rattle.std.proofs.lemmas.Nat.{div-mul-add}
+use Rattle.std.proofs.{Common.{ℕ, suc, ◌≡◌, ◌≢◌, ◌+◌, ◌-◌, ◌*◌, ◌/◌, ◌^◌, ◌<◌, ◌≤◌, cond, eqb, List, ap, sym, ◌∙◌, subst, arith, inl, inr}, Math.Nat.{mul-le-mul_right, suc-mul}}
+use Rattle.std.proofs.{lemmas.Bool.{eq-eqb, ne_eqb, cases_lt, cases_eq}, lemmas.Nat.div-mul-add}
 use Rattle.lert_base.specs.declared.count_table.CountTable.{Ghosts as TablesOf}
-use Rattle.lert_spec.specs.declared.numbers.Numbers.{Numbers}
-use Rattle.lert_spec.specs.Edges.{span}
-use Rattle.lert_spec.specs.Limits.{IsValid}
+use Rattle.lert_spec.specs.{declared.numbers.Numbers.Numbers, Edges.span, Limits.IsValid}
 use Rattle.lert_spec.proofs.EdgeLaws.{span_pos}
 use Rattle.lert_levels.specs.rows.Young.{seen_as, Young, IsNextPosition, AreFilled, AreNumbered}
 use Rattle.lert_levels.proofs.rows.YoungCounts.{width_within}

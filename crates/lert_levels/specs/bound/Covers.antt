@@ -1,7 +1,6 @@
 -- What the bytes say of the events of two generations.
 use Rattle.std.specs.Prelude.{ℕ, ◌≤◌, List, min}
-use Rattle.lert_levels.specs.declared.bound.pair.Pair.{Pair}
-use Rattle.lert_levels.specs.bound.Bytes.{pair_of}
+use Rattle.lert_levels.specs.{declared.bound.pair.Pair.Pair, bound.Bytes.pair_of}
 
 -- each tail came in a generation at most as often as its byte says, unless that is 255
 pub record CoversCounts (pairs : List Pair) (before present : ℕ → ℕ) : Type 0 where

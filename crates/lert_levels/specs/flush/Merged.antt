@@ -1,16 +1,9 @@
 -- What a merge takes of some bins: the sums of all, and for each part those of its bins.
 use Rattle.std.specs.Prelude.{ℕ, ◌≡◌, ◌+◌, ◌<◌, ◌≤◌, ◌==◌, ◌^◌, Bool, true, false, Option, Some, None, IfSome, List, [], ◌∷◌, length, sum, slice_index_or}
 use Rattle.lert_frames.specs.Place.{tail_limit}
-use Rattle.lert_levels.specs.landing.Landed.{taken}
-use Rattle.lert_levels.specs.landing.Landings.{AreLandings}
-use Rattle.lert_levels.specs.landing.Summed.{sums_of}
-use Rattle.lert_levels.specs.declared.landing.landing.Landing.{Landing}
-use Rattle.lert_merge.specs.order.Ordering.{Ordering}
-use Rattle.lert_merge.specs.declared.order.streams.Streams.{Ghosts as StreamsOf}
-use Rattle.lert_spec.specs.declared.numbers.Numbers.{Numbers}
-use Rattle.lert_spec.specs.declared.piece.Piece.{Piece}
-use Rattle.lert_spec.specs.Edges.{span}
-use Rattle.lert_spec.specs.Table.{total, plus, AreGiven}
+use Rattle.lert_levels.specs.{landing.Landed.taken, landing.Landings.AreLandings, landing.Summed.sums_of, declared.landing.landing.Landing.Landing}
+use Rattle.lert_merge.specs.{order.Ordering.Ordering, declared.order.streams.Streams.{Ghosts as StreamsOf}}
+use Rattle.lert_spec.specs.{declared.numbers.Numbers.Numbers, declared.piece.Piece.Piece, Edges.span, Table.{total, plus, AreGiven}}
 
 -- ---- parts
 

@@ -1,11 +1,7 @@
 -- What the landings of a merge write.
 use Rattle.std.specs.Prelude.{◌≡◌, List, map}
-use Rattle.lert_bay.specs.declared.bay.TheConstants.{FRAMES}
-use Rattle.lert_bay.specs.Files.{IfTold}
-use Rattle.lert_bay.specs.Kept.{Bays, KeepsBay}
-use Rattle.lert_levels.specs.landing.Landings.{home, AreLandings, AreLanding, IsOutside}
-use Rattle.lert_levels.specs.declared.landing.landing.Landing.{Landing}
-use Rattle.lert_levels.specs.rows.Landing.{KeepsRest}
+use Rattle.lert_bay.specs.{declared.bay.TheConstants.FRAMES, Files.IfTold, Kept.{Bays, KeepsBay}}
+use Rattle.lert_levels.specs.{landing.Landings.{home, AreLandings, AreLanding, IsOutside}, declared.landing.landing.Landing.Landing, rows.Landing.KeepsRest}
 use Rattle.lert_spec.specs.declared.numbers.Numbers.{Numbers}
 
 -- Whatever calls answered: the same landings wrote into the places of their frames alone, and what they took stands there.

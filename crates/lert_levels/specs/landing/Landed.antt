@@ -1,17 +1,9 @@
 -- What a landing took, and what of it stands in the file.
 use Rattle.std.specs.Prelude.{ℕ, ◌≡◌, ◌+◌, ◌<◌, ◌≤◌, List}
-use Rattle.lert_bay.specs.declared.bay.TheConstants.{FRAMES}
-use Rattle.lert_bay.specs.Files.{IfTold}
-use Rattle.lert_bay.specs.Kept.{Bays, KeepsBay}
-use Rattle.lert_frames.specs.Place.{tail_limit}
-use Rattle.lert_frames.specs.Writing.{IsWriting}
-use Rattle.lert_levels.specs.rows.Landing.{IsApart, KeepsRest}
-use Rattle.lert_spec.specs.declared.numbers.Numbers.{Numbers}
-use Rattle.lert_spec.specs.declared.piece.Piece.{Piece}
-use Rattle.lert_spec.specs.Edges.{span}
-use Rattle.lert_spec.specs.Table.{total}
-use Rattle.lert_levels.specs.declared.landing.landing.Landing.{Landing}
-use Rattle.lert_levels.specs.landing.Whole.{whole, AreUpTo}
+use Rattle.lert_bay.specs.{declared.bay.TheConstants.FRAMES, Files.IfTold, Kept.{Bays, KeepsBay}}
+use Rattle.lert_frames.specs.{Place.tail_limit, Writing.IsWriting}
+use Rattle.lert_levels.specs.{rows.Landing.{IsApart, KeepsRest}, declared.landing.landing.Landing.Landing, landing.Whole.{whole, AreUpTo}}
+use Rattle.lert_spec.specs.{declared.numbers.Numbers.Numbers, declared.piece.Piece.Piece, Edges.span, Table.total}
 
 -- the table of the sums of its pieces
 abbrev pub taken : Landing → List Piece

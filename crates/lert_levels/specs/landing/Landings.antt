@@ -1,10 +1,8 @@
 -- The landings of several levels, that of level 1 first.
 use Rattle.std.specs.Prelude.{ℕ, ◌+◌, ◌<◌, List, All, length, slice_index_or}
 use Rattle.lert_frames.specs.Frame.{HoldsFrame}
-use Rattle.lert_levels.specs.rows.Landing.{IsApart}
+use Rattle.lert_levels.specs.{rows.Landing.IsApart, declared.landing.landing.Landing.Landing, landing.Landed.{taken, IsLanding, IsLandingOf}}
 use Rattle.lert_spec.specs.declared.numbers.Numbers.{Numbers}
-use Rattle.lert_levels.specs.declared.landing.landing.Landing.{Landing}
-use Rattle.lert_levels.specs.landing.Landed.{taken, IsLanding, IsLandingOf}
 
 -- which frame a landing is to stand in
 pub record Home : Type 0 where

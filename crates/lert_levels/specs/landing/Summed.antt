@@ -1,7 +1,6 @@
 -- The sums of the counts of pieces that come in any order.
 use Rattle.std.specs.Prelude.{ℕ, ◌<◌, ◌≤◌, ◌==◌, List, [], All, fold, length, sum_by, if◌then◌else◌, slice_index_or}
-use Rattle.lert_spec.specs.declared.piece.Piece.{Piece}
-use Rattle.lert_spec.specs.Table.{plus, IsTable}
+use Rattle.lert_spec.specs.{declared.piece.Piece.Piece, Table.{plus, IsTable}}
 
 -- a table with the counts of more pieces
 abbrev pub summed : List Piece → List Piece → List Piece

@@ -1,11 +1,8 @@
 -- What a check of the frames finds, level by level from the first on, each level's oldest bin first.
 use Rattle.std.specs.Prelude.{ℕ, zero, suc, ◌+◌, ◌<◌, nat_lt, if◌then◌else◌, List, [], ◌∷◌, ◌++◌, length, map, All, Option, Some, None, slice_index_or}
 use Rattle.lert_frames.specs.Frame.{frame_left, frame_pieces}
-use Rattle.lert_spec.specs.declared.numbers.Numbers.{Numbers}
-use Rattle.lert_spec.specs.Edges.{edge}
-use Rattle.lert_spec.specs.declared.piece.Piece.{Piece}
-use Rattle.lert_levels.specs.declared.rows.bin_at.BinAt.{BinAt}
-use Rattle.lert_levels.specs.rows.Loading.{width_of, Stands}
+use Rattle.lert_spec.specs.{declared.numbers.Numbers.Numbers, Edges.edge, declared.piece.Piece.Piece}
+use Rattle.lert_levels.specs.{declared.rows.bin_at.BinAt.BinAt, rows.Loading.{width_of, Stands}}
 
 -- the pieces that a file says in the frame of a bin of a level
 abbrev pub pieces_in : Numbers → List ℕ → ℕ → BinAt → List Piece

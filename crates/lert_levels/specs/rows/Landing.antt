@@ -1,17 +1,9 @@
 -- What calls that write some frames leave of the rest of the files.
 use Rattle.std.specs.Prelude.{◌≡◌, ◌≢◌, ◌⊎◌, ℕ, ◌+◌, ◌<◌, ◌≤◌, List, [], length, Some, slice_index_or}
-use Rattle.lert_bay.specs.declared.bay.TheConstants.{FRAMES}
-use Rattle.lert_bay.specs.Files.{Files, Turns}
-use Rattle.lert_bay.specs.Kept.{Bays}
-use Rattle.lert_bay.specs.Settled.{part, Keeps, IsSettled}
-use Rattle.lert_frames.specs.Frame.{HoldsFrame}
-use Rattle.lert_frames.specs.Place.{frame_place, frame_len, tail_limit}
-use Rattle.lert_spec.specs.declared.numbers.Numbers.{Numbers}
-use Rattle.lert_spec.specs.declared.piece.Piece.{Piece}
-use Rattle.lert_spec.specs.Edges.{span}
-use Rattle.lert_spec.specs.Table.{total, AreGiven}
-use Rattle.lert_levels.specs.declared.rows.bin_at.BinAt.{BinAt}
-use Rattle.lert_levels.specs.rows.Rows.{arrived}
+use Rattle.lert_bay.specs.{declared.bay.TheConstants.FRAMES, Files.{Files, Turns}, Kept.Bays, Settled.{part, Keeps, IsSettled}}
+use Rattle.lert_frames.specs.{Frame.HoldsFrame, Place.{frame_place, frame_len, tail_limit}}
+use Rattle.lert_spec.specs.{declared.numbers.Numbers.Numbers, declared.piece.Piece.Piece, Edges.span, Table.{total, AreGiven}}
+use Rattle.lert_levels.specs.{declared.rows.bin_at.BinAt.BinAt, rows.Rows.arrived}
 
 -- a range of the file of frames stands before the place of a frame or behind it
 abbrev pub IsApart : Numbers → ℕ → ℕ → ℕ → ℕ → Type 0

@@ -1,14 +1,9 @@
 -- The bins of some levels as they are read, level by level from the first on, each level's oldest first.
 use Rattle.std.specs.Prelude.{◌≡◌, ℕ, ◌+◌, ◌-◌, ◌<◌, List, [], length, map, flat_map, All, Contains, Some, slice_index_or}
-use Rattle.lert_frames.specs.Frame.{HoldsFrame, IsBin, frame_left}
-use Rattle.lert_frames.specs.Place.{tail_limit}
-use Rattle.lert_base.specs.declared.pieces.PieceFault.{PieceFault}
-use Rattle.lert_base.specs.declared.pieces.PieceFault.TheVariants.{Failed as PieceFailed, Malformed as PieceMalformed}
-use Rattle.lert_spec.specs.declared.numbers.Numbers.{Numbers}
-use Rattle.lert_spec.specs.declared.piece.Piece.{Piece}
-use Rattle.lert_levels.specs.declared.rows.bin_at.BinAt.{BinAt}
-use Rattle.lert_levels.specs.declared.rows.fault.FlushFault.{FlushFault}
-use Rattle.lert_levels.specs.declared.rows.fault.FlushFault.TheVariants.{Failed, Malformed}
+use Rattle.lert_frames.specs.{Frame.{HoldsFrame, IsBin, frame_left}, Place.tail_limit}
+use Rattle.lert_base.specs.{declared.pieces.PieceFault.PieceFault, declared.pieces.PieceFault.TheVariants.{Failed as PieceFailed, Malformed as PieceMalformed}}
+use Rattle.lert_spec.specs.{declared.numbers.Numbers.Numbers, declared.piece.Piece.Piece}
+use Rattle.lert_levels.specs.{declared.rows.bin_at.BinAt.BinAt, declared.rows.fault.FlushFault.FlushFault, declared.rows.fault.FlushFault.TheVariants.{Failed, Malformed}}
 
 abbrev pub width_of : BinAt → ℕ
 width_of bin = bin.to - bin.from

@@ -1,10 +1,7 @@
 -- What a directory names: the bins of the levels, in its frames.
-use Rattle.std.specs.Prelude.{◌≡◌, ◌≢◌, ℕ, ◌≤◌, List, ◌∷◌, length, flat_map, All}
-use Rattle.std.specs.List.{AllPairs}
+use Rattle.std.specs.{Prelude.{◌≡◌, ◌≢◌, ℕ, ◌≤◌, List, ◌∷◌, length, flat_map, All}, List.AllPairs}
 use Rattle.lert_spec.specs.declared.numbers.Numbers.{Numbers}
-use Rattle.lert_levels.specs.declared.rows.bin_at.BinAt.{BinAt}
-use Rattle.lert_levels.specs.rows.Ranges.{ranges}
-use Rattle.lert_levels.specs.rows.Rows.{IsAt, AreRows, directory_text}
+use Rattle.lert_levels.specs.{declared.rows.bin_at.BinAt.BinAt, rows.Ranges.ranges, rows.Rows.{IsAt, AreRows, directory_text}}
 
 -- the rows have the bins of the levels after n events, each in a frame of its own, and this is their directory
 pub record AreNamed (s : Numbers) (n : ℕ) (text : List ℕ) (rows : List (List BinAt)) : Type 0 where

@@ -1,9 +1,6 @@
 -- The positions of a level's bins, by themselves, and the bins of level 0 above a position.
-use Rattle.std.specs.Prelude.{ℕ, suc, ◌-◌, ◌*◌, ◌/◌, nat_lt, min, max, filter, map, List, length, slice_range}
-use Rattle.std.specs.List.{range_with_len}
-use Rattle.lert_spec.specs.declared.numbers.Numbers.{Numbers}
-use Rattle.lert_spec.specs.Bins.{Bin, bin_at, tallied}
-use Rattle.lert_spec.specs.Edges.{span, edge}
+use Rattle.std.specs.{Prelude.{ℕ, suc, ◌-◌, ◌*◌, ◌/◌, nat_lt, min, max, filter, map, List, length, slice_range}, List.range_with_len}
+use Rattle.lert_spec.specs.{declared.numbers.Numbers.Numbers, Bins.{Bin, bin_at, tallied}, Edges.{span, edge}}
 
 -- the positions above `from`, up to `to`
 pub record Range : Type 0 where

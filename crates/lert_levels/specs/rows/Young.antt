@@ -1,15 +1,8 @@
 -- Level 0 in memory: the bins of the newest positions, oldest first, each with a table of its own.
-use Rattle.std.specs.Prelude.{ℕ, suc, ◌≡◌, ◌≢◌, ◌+◌, ◌-◌, ◌*◌, ◌%◌, ◌<◌, ◌≤◌, ◌==◌, nat_lt, min, List, [], ◌∷◌, ◌++◌, length, map}
-use Rattle.std.specs.Prelude.{if◌then◌else◌, slice_index_or, take, drop, sum_by}
-use Rattle.lert_levels.specs.declared.bound.pair.Pair.{Pair}
-use Rattle.lert_levels.specs.bound.Covers.{CoversCounts}
+use Rattle.std.specs.Prelude.{ℕ, suc, ◌≡◌, ◌≢◌, ◌+◌, ◌-◌, ◌*◌, ◌%◌, ◌<◌, ◌≤◌, ◌==◌, nat_lt, min, List, [], ◌∷◌, ◌++◌, length, map, if◌then◌else◌, slice_index_or, take, drop, sum_by}
+use Rattle.lert_levels.specs.{declared.bound.pair.Pair.Pair, bound.Covers.CoversCounts}
 use Rattle.lert_base.specs.declared.count_table.CountTable.{Ghosts as TablesOf}
-use Rattle.lert_spec.specs.declared.numbers.Numbers.{Numbers}
-use Rattle.lert_spec.specs.declared.piece.Piece.{Piece}
-use Rattle.lert_spec.specs.Bins.{Bin}
-use Rattle.lert_spec.specs.Edges.{span, capacity, quotient_bits, width}
-use Rattle.lert_spec.specs.Limits.{IsValid}
-use Rattle.lert_spec.specs.Table.{count_of, total, plus}
+use Rattle.lert_spec.specs.{declared.numbers.Numbers.Numbers, declared.piece.Piece.Piece, Bins.Bin, Edges.{span, capacity, quotient_bits, width}, Limits.IsValid, Table.{count_of, total, plus}}
 
 -- what level 0 is seen as: its settings, and the bins of the positions above `from`, up to `to`
 pub record Young : Type 0 where

@@ -1,18 +1,10 @@
 -- A stream of a set that was asked, and a frame that was begun.
 use Rattle.std.specs.Prelude.{ℕ, ◌≡◌, ◌≢◌, ◌+◌, ◌↔◌, Option, Some, None, MatchOption, Result, Ok, Err, IfOk, OnErr, List, [], ◌∷◌, ◌++◌, option_to_list, slice_index_or, slice_set}
-use Rattle.lert_base.specs.declared.pieces.PieceFault.{PieceFault}
-use Rattle.lert_base.specs.declared.pieces.PieceFault.TheVariants.{Malformed}
-use Rattle.lert_bay.specs.declared.bay.TheConstants.{FRAMES}
-use Rattle.lert_bay.specs.Files.{Files}
-use Rattle.lert_frames.specs.Frame.{frame_left, frame_pieces}
-use Rattle.lert_frames.specs.Place.{frame_place}
-use Rattle.lert_frames.specs.ToCome.{left_of, pieces_of, if_whole}
-use Rattle.lert_frames.specs.declared.reader.FrameReader.{FrameReader}
-use Rattle.lert_spec.specs.declared.numbers.Numbers.{Numbers}
-use Rattle.lert_spec.specs.declared.piece.Piece.{Piece}
-use Rattle.lert_spec.specs.Table.{AreGiven}
-use Rattle.lert_levels.specs.streams.Bin.{Bin, of_frame, to_come_of, given_of, limit_of, LeavesAt, IsSameBin}
-use Rattle.lert_levels.specs.streams.BinSet.{BinSet}
+use Rattle.lert_base.specs.{declared.pieces.PieceFault.PieceFault, declared.pieces.PieceFault.TheVariants.Malformed}
+use Rattle.lert_bay.specs.{declared.bay.TheConstants.FRAMES, Files.Files}
+use Rattle.lert_frames.specs.{Frame.{frame_left, frame_pieces}, Place.frame_place, ToCome.{left_of, pieces_of, if_whole}, declared.reader.FrameReader.FrameReader}
+use Rattle.lert_spec.specs.{declared.numbers.Numbers.Numbers, declared.piece.Piece.Piece, Table.AreGiven}
+use Rattle.lert_levels.specs.{streams.Bin.{Bin, of_frame, to_come_of, given_of, limit_of, LeavesAt, IsSameBin}, streams.BinSet.BinSet}
 
 -- a stream before and after it was asked, in bays that tell these files
 pub record Answers (before after : Option Files) (was becomes : Bin) (result : Result (Option Piece) PieceFault) : Type 0 where

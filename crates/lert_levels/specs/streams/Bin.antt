@@ -1,12 +1,8 @@
 -- A bin of a flush as a stream: of a table, or of a frame.
 use Rattle.std.specs.Prelude.{ℕ, ◌≡◌, ◌+◌, ◌≤◌, ◌^◌, ◌&&◌, nat_lt, nat_le, Bool, true, if◌then◌else◌, Option, Some, None, List, [], ◌∷◌, ◌++◌}
 use Rattle.lert_bay.specs.Files.{Files}
-use Rattle.lert_frames.specs.Apart.{IsSure}
-use Rattle.lert_frames.specs.Place.{frame_len, tail_limit}
-use Rattle.lert_frames.specs.ToCome.{told_of, Breaks}
-use Rattle.lert_frames.specs.declared.reader.FrameReader.{FrameReader}
-use Rattle.lert_spec.specs.declared.piece.Piece.{Piece}
-use Rattle.lert_spec.specs.Table.{total}
+use Rattle.lert_frames.specs.{Apart.IsSure, Place.{frame_len, tail_limit}, ToCome.{told_of, Breaks}, declared.reader.FrameReader.FrameReader}
+use Rattle.lert_spec.specs.{declared.piece.Piece.Piece, Table.total}
 
 -- a table of tails below a limit: the pieces that it gave, and those that are left
 pub record TableBin : Type 0 where

@@ -1,14 +1,10 @@
 -- The laws of the bins of a flush.
-use Rattle.std.proofs.Common.{ℕ, ◌≡◌, ◌≤◌, ◌^◌, ◌+◌, ◌&&◌, ◌++◌, ◌↔◌, All, nat_le, nat_lt, true, Option, Some, None, List, [], ◌∷◌, get_or}
-use Rattle.std.proofs.Common.{refl, sym, ap, ◌∙◌, subst, inl, inr, lt-ltb}
-use Rattle.std.proofs.lemmas.Bool.{and_parts, and_from, leb-true, ltb-true, le-leb, cases_Bool, cond-true, cond-false}
-use Rattle.std.proofs.lemmas.List.Recursion.{and_at, and_from_places}
+use Rattle.std.proofs.Common.{ℕ, ◌≡◌, ◌≤◌, ◌^◌, ◌+◌, ◌&&◌, ◌++◌, ◌↔◌, All, nat_le, nat_lt, true, Option, Some, None, List, [], ◌∷◌, get_or, refl, sym, ap, ◌∙◌, subst, inl, inr, lt-ltb}
+use Rattle.std.proofs.{lemmas.Bool.{and_parts, and_from, leb-true, ltb-true, le-leb, cases_Bool, cond-true, cond-false}, lemmas.List.Recursion.{and_at, and_from_places}}
 use Rattle.lert_bay.specs.Files.{Files}
 use Rattle.lert_frames.specs.InOrder.{in_order as frame_in_order, breaks_same}
-use Rattle.lert_spec.specs.declared.piece.Piece.{Piece}
-use Rattle.lert_spec.specs.Table.{AreGiven, AscendsFrom}
-use Rattle.lert_levels.specs.streams.Bin.{TableBin, Bin, of_table, of_frame, all_of, ascend, are_small, is_in_order, table_to_come, to_come_of, given_of, limit_of, LeavesAt}
-use Rattle.lert_levels.specs.streams.Bin.{IsSameBin}
+use Rattle.lert_spec.specs.{declared.piece.Piece.Piece, Table.{AreGiven, AscendsFrom}}
+use Rattle.lert_levels.specs.streams.Bin.{TableBin, Bin, of_table, of_frame, all_of, ascend, are_small, is_in_order, table_to_come, to_come_of, given_of, limit_of, LeavesAt, IsSameBin}
 use Rattle.lert_levels.specs.streams.BinSet.{BinSet, AreSameBins, IsSameSet}
 
 -- ---- the test of a table's order

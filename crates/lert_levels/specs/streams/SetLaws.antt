@@ -1,12 +1,9 @@
 -- The laws of a set of bins.
-use Rattle.std.proofs.Common.{ℕ, zero, suc, ◌≡◌, ◌<◌, ◌++◌, ◌↔◌, Option, Some, List, [], ◌∷◌, length}
-use Rattle.std.proofs.Common.{sym, ap, ◌∙◌, subst, arith}
+use Rattle.std.proofs.Common.{ℕ, zero, suc, ◌≡◌, ◌<◌, ◌++◌, ◌↔◌, Option, Some, List, [], ◌∷◌, length, sym, ap, ◌∙◌, subst, arith}
 use Rattle.lert_bay.specs.Files.{Files}
 use Rattle.lert_merge.specs.order.Members.{told_at, given_at, limit_at, BreaksAt}
-use Rattle.lert_spec.specs.declared.piece.Piece.{Piece}
-use Rattle.lert_spec.specs.Table.{AreGiven}
-use Rattle.lert_levels.specs.streams.Bin.{Bin, to_come_of, given_of, limit_of, LeavesAt}
-use Rattle.lert_levels.specs.streams.BinLaws.{in_order}
+use Rattle.lert_spec.specs.{declared.piece.Piece.Piece, Table.AreGiven}
+use Rattle.lert_levels.specs.{streams.Bin.{Bin, to_come_of, given_of, limit_of, LeavesAt}, streams.BinLaws.in_order}
 
 -- what is to come of the bin at a place, what it gave, and where it leaves its format
 abbrev pub to_come_at : Option Files → List Bin → ℕ → Option (List Piece)

@@ -1,21 +1,12 @@
 -- What bins have to come stays through writes outside of what they read; and what they gave, and which bins they are.
-use Rattle.std.proofs.Common.{ℕ, zero, suc, ◌≡◌, ◌<◌, ◌≤◌, ◌+◌, ◌↔◌, min, Option, Some, None, List, [], ◌∷◌, length}
-use Rattle.std.proofs.Common.{refl, sym, ap, ◌∙◌, inl, inr, ⊎_elim, arith}
-use Rattle.lert_bay.specs.declared.bay.TheConstants.{FRAMES}
-use Rattle.lert_bay.specs.Files.{Files}
-use Rattle.lert_frames.specs.Apart.{SamePlace}
-use Rattle.lert_frames.specs.Place.{frame_len}
-use Rattle.lert_frames.specs.ToCome.{left_of, Breaks}
-use Rattle.lert_frames.specs.declared.reader.FrameReader.{FrameReader}
-use Rattle.lert_frames.proofs.ApartLaws.{told_stays, breaks_stay, sure_stays as reader_sure}
-use Rattle.lert_frames.proofs.ReadingLaws.{total-append}
-use Rattle.lert_frames.proofs.ToComeLaws.{given_within}
+use Rattle.std.proofs.Common.{ℕ, zero, suc, ◌≡◌, ◌<◌, ◌≤◌, ◌+◌, ◌↔◌, min, Option, Some, None, List, [], ◌∷◌, length, refl, sym, ap, ◌∙◌, inl, inr, ⊎_elim, arith}
+use Rattle.lert_bay.specs.{declared.bay.TheConstants.FRAMES, Files.Files}
+use Rattle.lert_frames.specs.{Apart.SamePlace, Place.frame_len, ToCome.{left_of, Breaks}, declared.reader.FrameReader.FrameReader}
+use Rattle.lert_frames.proofs.{ApartLaws.{told_stays, breaks_stay, sure_stays as reader_sure}, ReadingLaws.total-append, ToComeLaws.given_within}
 use Rattle.lert_merge.specs.order.Members.{given_at, limit_at}
-use Rattle.lert_levels.specs.rows.Landing.{LeavesRest}
+use Rattle.lert_levels.specs.{rows.Landing.LeavesRest, streams.Bin.{Bin, of_table, of_frame, to_come_of, given_of, LeavesAt, wide_of, ReadsIn, IsSureBin, IsSameBin, IsFrameOf}}
+use Rattle.lert_levels.specs.{streams.BinSet.{Reads, AreSure, AreSameBins}, streams.SetLaws.{to_come_at, LeavesIn}}
 use Rattle.lert_spec.specs.Table.{total}
-use Rattle.lert_levels.specs.streams.Bin.{Bin, of_table, of_frame, to_come_of, given_of, LeavesAt, wide_of, ReadsIn, IsSureBin, IsSameBin, IsFrameOf}
-use Rattle.lert_levels.specs.streams.BinSet.{Reads, AreSure, AreSameBins}
-use Rattle.lert_levels.specs.streams.SetLaws.{to_come_at, LeavesIn}
 
 -- ---- widths
 

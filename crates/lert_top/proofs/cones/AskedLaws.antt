@@ -1,15 +1,10 @@
 -- What was asked, handed out and put back.
 use Rattle.std.proofs.Common.{◌≡◌, ℕ, ◌+◌, ◌<◌, true, List, [], ◌∷◌, ◌++◌, length, get_or, take, Option, option_map, Some, slice_get, refl, ap, sym, ◌∙◌, subst, arith}
-use Rattle.std.proofs.lemmas.List.{map-append, take_more, take-map}
-use Rattle.std.proofs.lemmas.Option.{get_or_from_slice_get, slice_get-get_or, slice_get-map, slice_get_within, same_Some}
-use Rattle.lert_args.specs.Names.{names_of}
-use Rattle.lert_args.specs.Word.{word_at}
-use Rattle.lert_place.specs.declared.opening.Opening.{Opening}
-use Rattle.lert_place.specs.Openings.{AreReturned, AreReturnedSame, trace_asked}
+use Rattle.std.proofs.{lemmas.List.{map-append, take_more, take-map}, lemmas.Option.{get_or_from_slice_get, slice_get-get_or, slice_get-map, slice_get_within, same_Some}}
+use Rattle.lert_args.specs.{Names.names_of, Word.word_at}
+use Rattle.lert_place.specs.{declared.opening.Opening.Opening, Openings.{AreReturned, AreReturnedSame, trace_asked}}
 use Rattle.lert_bay.specs.Files.{Files}
-use Rattle.lert_ingest.specs.Bays.{AreLater, AreMarked}
-use Rattle.lert_ingest.specs.Traces.{AreTracesLater}
-use Rattle.lert_ingest.specs.declared.status.Status.{Status}
+use Rattle.lert_ingest.specs.{Bays.{AreLater, AreMarked}, Traces.AreTracesLater, declared.status.Status.Status}
 use Rattle.lert_ingest.proofs.BayLaws.{slice_get-some, still_marked}
 use Rattle.lert_top.specs.cones.Asked.{IsAskedForBays, traces_opened}
 use Rattle.lert_top.proofs.cones.ConeLaws.{none_left}

@@ -1,21 +1,13 @@
 -- Cones that were finished leave closed journals, whatever a crash leaves of them.
-use Rattle.std.proofs.Common.{◌≡◌, ℕ, ◌^◌, ◌<◌, Bool, true, List, length, Option, slice_get, ap, sym, ◌∙◌, subst, arith}
-use Rattle.std.proofs.lemmas.List.{length-map}
-use Rattle.std.proofs.lemmas.Option.{slice_get_within}
+use Rattle.std.proofs.{Common.{◌≡◌, ℕ, ◌^◌, ◌<◌, Bool, true, List, length, Option, slice_get, ap, sym, ◌∙◌, subst, arith}, lemmas.List.length-map, lemmas.Option.slice_get_within}
 use Rattle.lert_base.specs.declared.cone_fault.ConeFault.{ConeFault}
 use Rattle.lert_base.specs.declared.cone_fault.ConeFault.TheVariants as fault
 use Rattle.lert_bay.specs.Files.{Files}
-use Rattle.lert_cone.specs.Listing.{Listing}
-use Rattle.lert_cone.specs.Sound.{IsKept, IsSoundAs}
-use Rattle.lert_cone.specs.Stands.{Standing, is_broken}
+use Rattle.lert_cone.specs.{Listing.Listing, Sound.{IsKept, IsSoundAs}, Stands.{Standing, is_broken}}
 use Rattle.lert_spec.specs.declared.numbers.Numbers.{Numbers}
-use Rattle.lert_ingest.specs.Bays.{bays_of}
-use Rattle.lert_ingest.specs.Status.{cone_status}
-use Rattle.lert_ingest.specs.Stops.{AreWeaving, IsWeaving}
-use Rattle.lert_ingest.specs.declared.status.Status.TheVariants.{BayFault, CapacityFull, Done, Malformed, OutOfMemory, PlaceFault}
+use Rattle.lert_ingest.specs.{Bays.bays_of, Status.cone_status, Stops.{AreWeaving, IsWeaving}, declared.status.Status.TheVariants.{BayFault, CapacityFull, Done, Malformed, OutOfMemory, PlaceFault}}
 use Rattle.lert_ingest.proofs.BayLaws.{bay_is, slice_get-some}
-use Rattle.lert_top.specs.cones.Closed.{AreClosedInEach, AreReturnedClosed, IsClosedInEach}
-use Rattle.lert_top.specs.cones.Finish.{AreFinished, IsFinished}
+use Rattle.lert_top.specs.{cones.Closed.{AreClosedInEach, AreReturnedClosed, IsClosedInEach}, cones.Finish.{AreFinished, IsFinished}}
 use Rattle.lert_top.proofs.cones.FinishLaws.{sound_still}
 
 -- ---- a status that no finished cones have

@@ -1,21 +1,13 @@
 -- Cones that are made over bays one by one.
-use Rattle.std.proofs.Common.{◌≡◌, ℕ, ◌+◌, ◌<◌, ◌≤◌, List, [], ◌∷◌, ◌++◌, length, get_or, Option, Some, slice_get, refl, ap, sym, ◌∙◌, subst, inl, inr}
-use Rattle.std.proofs.Common.{arith, length-append}
-use Rattle.std.proofs.lemmas.Bool.{cases_eq}
-use Rattle.std.proofs.lemmas.List.{length-map}
-use Rattle.std.proofs.lemmas.Option.{slice_get-get_or, slice_get_within, same_Some}
+use Rattle.std.proofs.{Common.{◌≡◌, ℕ, ◌+◌, ◌<◌, ◌≤◌, List, [], ◌∷◌, ◌++◌, length, get_or, Option, Some, slice_get, refl, ap, sym, ◌∙◌, subst, inl, inr, arith, length-append}, lemmas.Bool.cases_eq}
+use Rattle.std.proofs.{lemmas.List.length-map, lemmas.Option.{slice_get-get_or, slice_get_within, same_Some}}
 use Rattle.lert_bay.specs.Files.{Files, IfTold, Turns}
-use Rattle.lert_cone.specs.Sound.{AreEmpty, FramesStay}
-use Rattle.lert_cone.specs.Stands.{Standing}
-use Rattle.lert_cone.specs.declared.refusal.CreateFault.{CreateFault}
+use Rattle.lert_cone.specs.{Sound.{AreEmpty, FramesStay}, Stands.Standing, declared.refusal.CreateFault.CreateFault}
 use Rattle.lert_cone.specs.declared.refusal.CreateFault.TheVariants as create_fault
 use Rattle.lert_io.specs.Fault.{HasRisen}
 use Rattle.lert_spec.specs.declared.numbers.Numbers.{Numbers}
-use Rattle.lert_ingest.specs.Bays.{AreFresh, AreKept, AreLater, AreUnused, AreUnusedBut, IsLater, IsUnused, bays_of}
-use Rattle.lert_ingest.specs.Cones.{IsNew}
+use Rattle.lert_ingest.specs.{Bays.{AreFresh, AreKept, AreLater, AreUnused, AreUnusedBut, IsLater, IsUnused, bays_of}, Cones.IsNew, Status.create_status, declared.status.Status.Status}
 use Rattle.lert_top.specs.cones.Unmade.{IsUnmade, unmade_stale, unmade_failed, unmade_memory}
-use Rattle.lert_ingest.specs.Status.{create_status}
-use Rattle.lert_ingest.specs.declared.status.Status.{Status}
 use Rattle.lert_ingest.proofs.BayLaws.{are_more, bays_of-push, failed_since, later_seam, slice_get-first, slice_get-seam, slice_get-some}
 use Rattle.lert_ingest.proofs.EachLaws.{but_more, each_seam, kept_more, kept_refused, kept_unused, new_unused, unused_all, unused_more}
 

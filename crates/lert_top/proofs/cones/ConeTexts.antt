@@ -1,8 +1,6 @@
 -- The texts of cones, one behind the other.
-use Rattle.std.proofs.Common.{◌≡◌, ℕ, ◌+◌, ◌≤◌, zero, suc, List, [], ◌∷◌, ◌++◌, length, map, slice_get, take, drop, sum_by, Option, Some, ap, sym}
-use Rattle.std.proofs.Common.{◌∙◌, subst, arith, append_assoc, append-nil}
-use Rattle.std.proofs.lemmas.List.{length-map, length-take-le, take-append-drop}
-use Rattle.std.proofs.lemmas.Option.{same_Some, slice_get_within}
+use Rattle.std.proofs.Common.{◌≡◌, ℕ, ◌+◌, ◌≤◌, zero, suc, List, [], ◌∷◌, ◌++◌, length, map, slice_get, take, drop, sum_by, Option, Some, ap, sym, ◌∙◌, subst, arith, append_assoc, append-nil}
+use Rattle.std.proofs.{lemmas.List.{length-map, length-take-le, take-append-drop}, lemmas.Option.{same_Some, slice_get_within}}
 use Rattle.lert_base.specs.Beginning.{BeginsWith}
 use Rattle.lert_cone.specs.Stands.{Standing}
 use Rattle.lert_spec.specs.Lines.{Printed, cone_text, cone_texts, lines, total_line}

@@ -1,29 +1,16 @@
 -- What the end of all cones says of their journals and of what is printed.
-use Rattle.std.proofs.Common.{◌≡◌, ◌⊎◌, ℕ, ◌+◌, ◌^◌, ◌<◌, ◌≤◌, zero, suc, false, List, [], ◌∷◌, length, map, Option, Some, None, slice_get, refl, ap, sym}
-use Rattle.std.proofs.Common.{◌∙◌, subst, inl, inr, arith}
-use Rattle.std.proofs.lemmas.Bool.{cases_eq, cases_lt}
-use Rattle.std.proofs.lemmas.List.{length-map}
-use Rattle.std.proofs.lemmas.Nat.{pow_pos}
-use Rattle.std.proofs.lemmas.Option.{slice_get_within, same_Some}
+use Rattle.std.proofs.Common.{◌≡◌, ◌⊎◌, ℕ, ◌+◌, ◌^◌, ◌<◌, ◌≤◌, zero, suc, false, List, [], ◌∷◌, length, map, Option, Some, None, slice_get, refl, ap, sym, ◌∙◌, subst, inl, inr, arith}
+use Rattle.std.proofs.{lemmas.Bool.{cases_eq, cases_lt}, lemmas.List.length-map, lemmas.Nat.pow_pos, lemmas.Option.{slice_get_within, same_Some}}
 use Rattle.lert_bay.specs.Files.{Files, IfTold}
-use Rattle.lert_cone.specs.Sound.{IsSound, IsSoundAs}
-use Rattle.lert_cone.specs.Stands.{Standing, is_broken}
+use Rattle.lert_cone.specs.{Sound.{IsSound, IsSoundAs}, Stands.{Standing, is_broken}}
 use Rattle.lert_base.specs.declared.cone_fault.ConeFault.{ConeFault}
 use Rattle.lert_base.specs.declared.cone_fault.ConeFault.TheVariants as fault
-use Rattle.lert_spec.specs.declared.numbers.Numbers.{Numbers}
-use Rattle.lert_spec.specs.Limits.{IsValid}
-use Rattle.lert_spec.specs.Lines.{Printed, lines}
-use Rattle.lert_ingest.specs.Bays.{AreLater, AreWoven, HoldsAll, HoldsWeave, IfHeld, IsLater, bays_of}
-use Rattle.lert_ingest.specs.Status.{cone_status}
-use Rattle.lert_ingest.specs.Stops.{AreWeaving}
-use Rattle.lert_ingest.specs.Traces.{AllFit}
-use Rattle.lert_ingest.specs.declared.status.Status.{Status}
+use Rattle.lert_spec.specs.{declared.numbers.Numbers.Numbers, Limits.IsValid, Lines.{Printed, lines}}
+use Rattle.lert_ingest.specs.{Bays.{AreLater, AreWoven, HoldsAll, HoldsWeave, IfHeld, IsLater, bays_of}, Status.cone_status, Stops.AreWeaving, Traces.AllFit, declared.status.Status.Status}
 use Rattle.lert_ingest.proofs.BayLaws.{bay_at, bay_is, slice_get-some}
 use Rattle.lert_top.specs.cones.Finish.{AreClosed, AreEndedTo, AreFinished, AreFinishedTo, EndShows, end_failed, end_malformed, HasBroken, HasStopped, IsEnded, IsFinished}
-use Rattle.lert_top.specs.cones.Print.{ArePrintable, printed_as}
-use Rattle.lert_top.specs.cones.Printed.{IsPrinted}
-use Rattle.lert_top.proofs.cones.FinishLaws.{ended_as, ended_same, ended_woven, events_fit, finished_printed, finished_reports, still_valid}
-use Rattle.lert_top.proofs.cones.PrintedLaws.{printed_all}
+use Rattle.lert_top.specs.{cones.Print.{ArePrintable, printed_as}, cones.Printed.IsPrinted}
+use Rattle.lert_top.proofs.{cones.FinishLaws.{ended_as, ended_same, ended_woven, events_fit, finished_printed, finished_reports, still_valid}, cones.PrintedLaws.printed_all}
 use Rattle.lert_top.proofs.cones.WovenLaws.{woven_length}
 
 -- what is printed of a cone stands at its place

@@ -1,28 +1,15 @@
 -- Cones that took all keys, and are finished one by one.
-use Rattle.std.proofs.Common.{◌≡◌, ℕ, ◌+◌, ◌≤◌, Bool, true, false, List, length, set, Option, Some, None, slice_get, refl, ap, sym}
-use Rattle.std.proofs.Common.{◌∙◌, subst, inl, inr, arith}
-use Rattle.std.proofs.lemmas.Bool.{cases_eq}
-use Rattle.std.proofs.lemmas.List.{length-set}
-use Rattle.std.proofs.lemmas.Option.{slice_get_within, same_Some}
+use Rattle.std.proofs.{Common.{◌≡◌, ℕ, ◌+◌, ◌≤◌, Bool, true, false, List, length, set, Option, Some, None, slice_get, refl, ap, sym, ◌∙◌, subst, inl, inr, arith}, lemmas.Bool.cases_eq}
+use Rattle.std.proofs.{lemmas.List.length-set, lemmas.Option.{slice_get_within, same_Some}}
 use Rattle.lert_base.specs.Packet.{Packet, events_of}
 use Rattle.lert_bay.specs.Files.{Files, IfTold}
-use Rattle.lert_cone.specs.Listing.{Listing, reports_of}
-use Rattle.lert_cone.specs.Sound.{IsSound, IsSoundAs, IsSoundOver}
-use Rattle.lert_cone.specs.Stands.{IsSameCone, Standing, StandsFor, WasSound, is_broken, is_finished}
+use Rattle.lert_cone.specs.{Listing.{Listing, reports_of}, Sound.{IsSound, IsSoundAs, IsSoundOver}, Stands.{IsSameCone, Standing, StandsFor, WasSound, is_broken, is_finished}}
 use Rattle.lert_cone.specs.declared.state.ConeState.TheVariants.{Finished}
-use Rattle.lert_spec.specs.declared.numbers.Numbers.{Numbers}
-use Rattle.lert_spec.specs.Edges.{capacity}
-use Rattle.lert_spec.specs.Limits.{IsValid}
-use Rattle.lert_spec.specs.Look.{closing}
-use Rattle.lert_spec.specs.Timely.{IsTimely}
+use Rattle.lert_spec.specs.{declared.numbers.Numbers.Numbers, Edges.capacity, Limits.IsValid, Look.closing, Timely.IsTimely}
 use Rattle.lert_spec.proofs.TimeBound.{IsTimely-closing}
-use Rattle.lert_ingest.specs.Bays.{HoldsAll}
-use Rattle.lert_ingest.specs.Stops.{IsWeaving}
-use Rattle.lert_ingest.specs.Traces.{part_length}
+use Rattle.lert_ingest.specs.{Bays.HoldsAll, Stops.IsWeaving, Traces.part_length}
 use Rattle.lert_ingest.proofs.BayLaws.{later_same, slice_get-set_other, slice_get-set_same}
-use Rattle.lert_top.specs.cones.Finish.{AreFinishedTo, IsEnded, IsFinished}
-use Rattle.lert_top.specs.cones.Print.{printed_as}
-use Rattle.lert_top.specs.cones.Printed.{HoldsReported, IsPrinted}
+use Rattle.lert_top.specs.{cones.Finish.{AreFinishedTo, IsEnded, IsFinished}, cones.Print.printed_as, cones.Printed.{HoldsReported, IsPrinted}}
 use Rattle.lert_top.proofs.cones.WovenLaws.{woven_length}
 
 module _ {B : Type 0} (files : B → Option Files) (leaves : B → Files → Type 0) (faults mark : B → ℕ) where

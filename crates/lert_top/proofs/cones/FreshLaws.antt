@@ -1,17 +1,13 @@
 -- What one more look at a bay says of all.
-use Rattle.std.proofs.Common.{◌≡◌, ℕ, ◌+◌, ◌<◌, ◌≤◌, List, length, set, Option, Some, slice_get, ap, sym, ◌∙◌, subst, inl, inr, arith}
-use Rattle.std.proofs.lemmas.Bool.{cases_eq}
-use Rattle.std.proofs.lemmas.List.{length-set}
+use Rattle.std.proofs.{Common.{◌≡◌, ℕ, ◌+◌, ◌<◌, ◌≤◌, List, length, set, Option, Some, slice_get, ap, sym, ◌∙◌, subst, inl, inr, arith}, lemmas.Bool.cases_eq, lemmas.List.length-set}
 use Rattle.std.proofs.lemmas.Option.{slice_get_within, same_Some}
 use Rattle.lert_bay.specs.Files.{Files, IfTold}
 use Rattle.lert_cone.specs.Sound.{AreEmpty}
 use Rattle.lert_io.specs.Fault.{HasRisen}
 use Rattle.lert_spec.specs.declared.numbers.Numbers.{Numbers}
-use Rattle.lert_ingest.specs.declared.status.Status.TheVariants.{BayFault, NotFresh}
-use Rattle.lert_ingest.specs.Bays.{AreFresh, AreFreshBelow, AreKept, AreLater, HasFailed, IfHeld, IsLater, IsStale}
+use Rattle.lert_ingest.specs.{declared.status.Status.TheVariants.{BayFault, NotFresh}, Bays.{AreFresh, AreFreshBelow, AreKept, AreLater, HasFailed, IfHeld, IsLater, IsStale}}
 use Rattle.lert_top.specs.cones.Unmade.{IsUnmade, unmade_stale, unmade_failed}
-use Rattle.lert_ingest.proofs.BayLaws.{are_more, later_set, slice_get-set_other, slice_get-set_same}
-use Rattle.lert_ingest.proofs.EachLaws.{kept_more, kept_set, kept_unused}
+use Rattle.lert_ingest.proofs.{BayLaws.{are_more, later_set, slice_get-set_other, slice_get-set_same}, EachLaws.{kept_more, kept_set, kept_unused}}
 
 -- a look at a bay, behind looks at those below it
 pub record IsLooked {B : Type 0} (files : B → Option Files) (faults mark : B → ℕ) (bays now : List B) (cone : ℕ) (old new : B) : Type 0 where

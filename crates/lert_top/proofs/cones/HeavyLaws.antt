@@ -1,16 +1,9 @@
 -- The keys that occur often enough.
-use Rattle.std.proofs.Common.{◌≡◌, ◌≢◌, ℕ, ◌+◌, ◌-◌, ◌*◌, ◌/◌, ◌^◌, ◌<◌, ◌≤◌, zero, suc, Bool, cond, leb, List, [], ◌∷◌, length, get_or}
-use Rattle.std.proofs.Common.{lit<, ap, sym, ◌∙◌, inl, inr, arith, refl}
+use Rattle.std.proofs.{Common.{◌≡◌, ◌≢◌, ℕ, ◌+◌, ◌-◌, ◌*◌, ◌/◌, ◌^◌, ◌<◌, ◌≤◌, zero, suc, Bool, cond, leb, List, [], ◌∷◌, length, get_or, lit<, ap, sym, ◌∙◌, inl, inr, arith, refl}, Math.Nat.mod-lt}
+use Rattle.std.proofs.{lemmas.Bool.{cases_lt, cases_eq, lt-leb, le-leb}, lemmas.Bool.Decides.nat_tests, lemmas.Nat.{xor_lt, shr_le, shr_below}}
 use Rattle.std.specs.Prelude.{Contains}
-use Rattle.std.proofs.Math.Nat.{mod-lt}
-use Rattle.std.proofs.lemmas.Bool.{cases_lt, cases_eq, lt-leb, le-leb}
-use Rattle.std.proofs.lemmas.Bool.Decides.{nat_tests}
-use Rattle.std.proofs.lemmas.Nat.{xor_lt, shr_le, shr_below}
-use Rattle.lert_spec.specs.declared.numbers.Numbers.{Numbers}
-use Rattle.lert_spec.specs.Counts.{count, distinct, heavy, insert_key}
-use Rattle.lert_spec.specs.Mix.{cone_of, folded, mix, scaled}
-use Rattle.lert_spec.proofs.CountLaws.{count-whole}
-use Rattle.lert_spec.proofs.ReportLaws.{times, times-cons_other, times-cons_same, times-filter}
+use Rattle.lert_spec.specs.{declared.numbers.Numbers.Numbers, Counts.{count, distinct, heavy, insert_key}, Mix.{cone_of, folded, mix, scaled}}
+use Rattle.lert_spec.proofs.{CountLaws.count-whole, ReportLaws.{times, times-cons_other, times-cons_same, times-filter}}
 
 -- a list has what stands in it at least once
 pub Contains-times : (key : ℕ) (keys : List ℕ) (k : ℕ) → k < length keys → get_or keys k key ≡ key → 1 ≤ times key keys

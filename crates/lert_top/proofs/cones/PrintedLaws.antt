@@ -1,29 +1,16 @@
 -- What is printed of all cones: the keys that occur often enough in all traces, each once.
-use Rattle.std.proofs.Common.{◌≡◌, ◌≢◌, ℕ, ◌+◌, ◌^◌, ◌<◌, ◌≤◌, Bool, cond, eqb}
-use Rattle.std.proofs.Common.{List, [], ◌∷◌, ◌++◌, length, get_or, flat_map, sum_by, Option, Some, slice_get}
-use Rattle.std.proofs.Common.{refl, ap, sym, ◌∙◌, subst, inl, inr, arith}
-use Rattle.std.specs.Prelude.{◌↔◌, Contains}
-use Rattle.std.proofs.lemmas.Bool.{cases_eq, cases_lt, eq-eqb, ne_eqb}
-use Rattle.std.proofs.lemmas.List.FromFn.{fill_by_all}
-use Rattle.std.proofs.lemmas.List.Sums.{sum_by-append, sum_by-cons}
+use Rattle.std.proofs.Common.{◌≡◌, ◌≢◌, ℕ, ◌+◌, ◌^◌, ◌<◌, ◌≤◌, Bool, cond, eqb, List, [], ◌∷◌, ◌++◌, length, get_or, flat_map, sum_by, Option, Some, slice_get, refl, ap, sym, ◌∙◌, subst, inl, inr}
+use Rattle.std.proofs.{Common.arith, lemmas.Bool.{cases_eq, cases_lt, eq-eqb, ne_eqb}, lemmas.List.FromFn.fill_by_all, lemmas.List.Sums.{sum_by-append, sum_by-cons}}
 use Rattle.std.proofs.lemmas.Option.{slice_get-get_or, slice_get_within}
+use Rattle.std.specs.Prelude.{◌↔◌, Contains}
 use Rattle.lert_base.specs.Packet.{events_of}
 use Rattle.lert_bay.specs.Files.{Files}
-use Rattle.lert_spec.specs.declared.numbers.Numbers.{Numbers}
-use Rattle.lert_spec.specs.declared.report.Report.{Report}
-use Rattle.lert_spec.specs.Counts.{heavy}
-use Rattle.lert_spec.specs.Limits.{IsValid}
-use Rattle.lert_spec.specs.Lines.{Printed}
-use Rattle.lert_spec.specs.Look.{closing}
-use Rattle.lert_spec.specs.Mix.{cone_of, part_of}
-use Rattle.lert_spec.specs.Timely.{times_listed}
-use Rattle.lert_spec.proofs.CountLaws.{count-whole}
-use Rattle.lert_spec.proofs.ReportLaws.{times}
+use Rattle.lert_spec.specs.{declared.numbers.Numbers.Numbers, declared.report.Report.Report, Counts.heavy, Limits.IsValid, Lines.Printed, Look.closing, Mix.{cone_of, part_of}, Timely.times_listed}
+use Rattle.lert_spec.proofs.{CountLaws.count-whole, ReportLaws.times}
 use Rattle.lert_ingest.specs.Bays.{AreTold}
 use Rattle.lert_ingest.proofs.BayLaws.{slice_get-some}
 use Rattle.lert_top.specs.cones.Printed.{ArePrinted, HoldsReported, IsPrinted, printed_of}
-use Rattle.lert_top.proofs.cones.HeavyLaws.{cone_any, enough_heavy, heavy_enough}
-use Rattle.lert_top.proofs.cones.TraceSums.{by_place, joined, nothing_in, one_in}
+use Rattle.lert_top.proofs.{cones.HeavyLaws.{cone_any, enough_heavy, heavy_enough}, cones.TraceSums.{by_place, joined, nothing_in, one_in}}
 use Rattle.lert_top.proofs.cones.WovenLaws.{all_keys, times_other, times_own, woven_one}
 
 -- the reports of all cones, one behind the other

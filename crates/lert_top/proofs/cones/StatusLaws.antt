@@ -1,12 +1,10 @@
 -- What statuses, counts of faults and bays exclude.
-use Rattle.std.proofs.Common.{◌≡◌, ℕ, ◌^◌, ◌<◌, ◌≤◌, List, Option, Some, Result, Ok, Err, subst, arith, lit<}
-use Rattle.std.proofs.Math.Nat.{pow-le-pow_right}
+use Rattle.std.proofs.{Common.{◌≡◌, ℕ, ◌^◌, ◌<◌, ◌≤◌, List, Option, Some, Result, Ok, Err, subst, arith, lit<}, Math.Nat.pow-le-pow_right}
 use Rattle.std.specs.Prelude.{IfErr, OnOk}
 use Rattle.lert_spec.specs.declared.numbers.Numbers.{Numbers}
 use Rattle.lert_bay.specs.Files.{Files}
 use Rattle.lert_io.specs.Fault.{HasRisen, IsFaultless}
-use Rattle.lert_ingest.specs.declared.status.Status.TheVariants.{Done, Usage, PlaceFault, OutOfMemory}
-use Rattle.lert_ingest.specs.Bays.{AreFaultless, AreTold, AreToldFresh, HasFailed, IsStale, IsUntold}
+use Rattle.lert_ingest.specs.{declared.status.Status.TheVariants.{Done, Usage, PlaceFault, OutOfMemory}, Bays.{AreFaultless, AreTold, AreToldFresh, HasFailed, IsStale, IsUntold}}
 use Rattle.lert_ingest.proofs.BayLaws.{slice_get-some}
 
 pub some_is : {X : Type 0} {x y : X} → Some x ≡ Some y → x ≡ y

@@ -1,12 +1,7 @@
 -- Sums over packets, taken trace by trace.
-use Rattle.std.proofs.Common.{◌≡◌, ◌≢◌, ℕ, ◌+◌, ◌<◌, ◌≤◌, zero, suc, Bool, cond, List}
-use Rattle.std.proofs.Common.{[], ◌∷◌, ◌++◌, length, flat_map, sum_by, Some, slice_get, refl, ap, sym}
-use Rattle.std.proofs.Common.{◌∙◌, inl, inr, arith}
+use Rattle.std.proofs.Common.{◌≡◌, ◌≢◌, ℕ, ◌+◌, ◌<◌, ◌≤◌, zero, suc, Bool, cond, List, [], ◌∷◌, ◌++◌, length, flat_map, sum_by, Some, slice_get, refl, ap, sym, ◌∙◌, inl, inr, arith}
+use Rattle.std.proofs.{lemmas.Bool.{cases_eq, eq-eqb, ne_eqb}, lemmas.List.Concat.flat_map-cons, lemmas.List.Elements.{All-head, All-tail}, lemmas.List.Sums.sum_by-cons}
 use Rattle.std.specs.Prelude.{All}
-use Rattle.std.proofs.lemmas.Bool.{cases_eq, eq-eqb, ne_eqb}
-use Rattle.std.proofs.lemmas.List.Concat.{flat_map-cons}
-use Rattle.std.proofs.lemmas.List.Elements.{All-head, All-tail}
-use Rattle.std.proofs.lemmas.List.Sums.{sum_by-cons}
 use Rattle.lert_base.specs.Packet.{Packet, of_trace}
 
 -- the sum of a function of so many numbers, from one on

@@ -1,11 +1,8 @@
 -- A weave has the keys of its parts of all traces, in another order.
-use Rattle.std.proofs.Common.{◌≡◌, ◌≢◌, ℕ, ◌+◌, ◌<◌, Bool, eqb, cond, List, [], ◌∷◌, ◌++◌, length, flat_map, sum_by, ap, sym, ◌∙◌, refl, arith, length-append}
-use Rattle.std.proofs.lemmas.Bool.{eq-eqb, ne_eqb}
+use Rattle.std.proofs.{Common.{◌≡◌, ◌≢◌, ℕ, ◌+◌, ◌<◌, Bool, eqb, cond, List, [], ◌∷◌, ◌++◌, length, flat_map, sum_by, ap, sym, ◌∙◌, refl, arith, length-append}, lemmas.Bool.{eq-eqb, ne_eqb}}
 use Rattle.std.proofs.lemmas.List.Sums.{sum_by-append}
-use Rattle.lert_base.specs.Packet.{Packet, events_of, of_trace}
-use Rattle.lert_base.specs.Weave.{IsBrought, IsWoven}
-use Rattle.lert_spec.specs.declared.numbers.Numbers.{Numbers}
-use Rattle.lert_spec.specs.Mix.{cone_of, part_of}
+use Rattle.lert_base.specs.{Packet.{Packet, events_of, of_trace}, Weave.{IsBrought, IsWoven}}
+use Rattle.lert_spec.specs.{declared.numbers.Numbers.Numbers, Mix.{cone_of, part_of}}
 use Rattle.lert_spec.proofs.ReportLaws.{times, times-filter}
 use Rattle.lert_ingest.specs.Traces.{part_length}
 use Rattle.lert_top.proofs.cones.TraceSums.{by_place, by_trace, joined, of_first, sum_by-none, sum_by-same}

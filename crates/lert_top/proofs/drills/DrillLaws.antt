@@ -1,34 +1,19 @@
 -- What cones that took all generated keys say once they are finished.
-use Rattle.std.proofs.Common.{◌≡◌, ℕ, ◌+◌, ◌^◌, zero, suc, List, [], ◌∷◌, length, map, Option, Some, slice_get, refl, ap, sym, ◌∙◌, subst, arith}
-use Rattle.std.specs.List.{range_with_len}
-use Rattle.std.proofs.lemmas.List.{length-map}
+use Rattle.std.proofs.{Common.{◌≡◌, ℕ, ◌+◌, ◌^◌, zero, suc, List, [], ◌∷◌, length, map, Option, Some, slice_get, refl, ap, sym, ◌∙◌, subst, arith}, lemmas.List.length-map}
 use Rattle.std.proofs.lemmas.Option.{slice_get_within, same_Some}
+use Rattle.std.specs.List.{range_with_len}
 use Rattle.lert_base.specs.Packet.{events_of}
 use Rattle.lert_bay.specs.Files.{Files}
 use Rattle.lert_cone.specs.Stands.{Standing}
-use Rattle.lert_top.specs.drills.Dealt.{AreDealt, all_dealt}
-use Rattle.lert_top.specs.drills.Drilled.{DrillShows, Fits, drill_full, drill_memory, drill_status}
-use Rattle.lert_top.specs.drills.Print.{drilled_as, keys_of}
-use Rattle.lert_top.proofs.drills.DealtLaws.{dealt_keys, part_length_is, sum_of_parts}
-use Rattle.lert_top.proofs.drills.DrillTexts.{IsSameText, same_each, same_lines}
-use Rattle.lert_top.proofs.drills.HeavyTimes.{timely_times}
-use Rattle.lert_top.proofs.drills.SameKeys.{same_keys}
+use Rattle.lert_top.specs.{drills.Dealt.{AreDealt, all_dealt}, drills.Drilled.{DrillShows, Fits, drill_full, drill_memory, drill_status}, drills.Print.{drilled_as, keys_of}, cones.Finish.AreFinished}
+use Rattle.lert_top.specs.{cones.Print.printed_as, cones.Printed.HoldsReported}
+use Rattle.lert_top.proofs.{drills.DealtLaws.{dealt_keys, part_length_is, sum_of_parts}, drills.DrillTexts.{IsSameText, same_each, same_lines}, drills.HeavyTimes.timely_times}
+use Rattle.lert_top.proofs.{drills.SameKeys.same_keys, cones.EndLaws.{all_fit, all_valid, ends_later, finished_ended, one_printed, printed_at}, cones.WovenLaws.{of_events, times-append}}
 use Rattle.lert_gen.specs.Generated.{generated}
-use Rattle.lert_ingest.specs.Bays.{AreTold, bays_of}
-use Rattle.lert_ingest.specs.Stops.{AreWeaving, StopShows, trace_fault, bad_trace, too_long, bay_fault, malformed, capacity_full, out_of_memory}
-use Rattle.lert_ingest.specs.Traces.{AllFit, part_length}
-use Rattle.lert_ingest.specs.declared.status.Status.{Status}
+use Rattle.lert_ingest.specs.{Bays.{AreTold, bays_of}, Stops.{AreWeaving, StopShows, trace_fault, bad_trace, too_long, bay_fault, malformed, capacity_full, out_of_memory}}
+use Rattle.lert_ingest.specs.{Traces.{AllFit, part_length}, declared.status.Status.Status}
 use Rattle.lert_ingest.proofs.BayLaws.{bay_at, slice_get-some, told_later}
-use Rattle.lert_top.specs.cones.Finish.{AreFinished}
-use Rattle.lert_top.specs.cones.Print.{printed_as}
-use Rattle.lert_top.specs.cones.Printed.{HoldsReported}
-use Rattle.lert_top.proofs.cones.EndLaws.{all_fit, all_valid, ends_later, finished_ended, one_printed, printed_at}
-use Rattle.lert_top.proofs.cones.WovenLaws.{of_events, times-append}
-use Rattle.lert_spec.specs.declared.numbers.Numbers.{Numbers}
-use Rattle.lert_spec.specs.declared.report.Report.{Report}
-use Rattle.lert_spec.specs.Counts.{heavy}
-use Rattle.lert_spec.specs.Limits.{IsValid}
-use Rattle.lert_spec.specs.Mix.{part_of}
+use Rattle.lert_spec.specs.{declared.numbers.Numbers.Numbers, declared.report.Report.Report, Counts.heavy, Limits.IsValid, Mix.part_of}
 use Rattle.lert_spec.proofs.ReportLaws.{times}
 use Rattle.lert_text.specs.Drill.{Drilled, exclusive_or, drill_lines, drilled, drilled_of}
 

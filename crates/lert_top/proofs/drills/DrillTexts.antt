@@ -1,10 +1,7 @@
 -- The texts of cones of a drill, one behind the other.
-use Rattle.std.proofs.Common.{◌≡◌, ℕ, ◌+◌, ◌≤◌, zero, suc, List, [], ◌∷◌, ◌++◌, length, map, slice_get, take, drop, sum_by, Some, refl, ap, sym}
-use Rattle.std.proofs.Common.{◌∙◌, subst, arith, append_assoc, append-nil}
+use Rattle.std.proofs.Common.{◌≡◌, ℕ, ◌+◌, ◌≤◌, zero, suc, List, [], ◌∷◌, ◌++◌, length, map, slice_get, take, drop, sum_by, Some, refl, ap, sym, ◌∙◌, subst, arith, append_assoc, append-nil}
+use Rattle.std.proofs.{lemmas.List.{length-map, length-take-le, take-append-drop}, lemmas.List.Sums.sum_by-cons, lemmas.Option.{same_Some, slice_get_within}}
 use Rattle.std.specs.List.{range_with_len}
-use Rattle.std.proofs.lemmas.List.{length-map, length-take-le, take-append-drop}
-use Rattle.std.proofs.lemmas.List.Sums.{sum_by-cons}
-use Rattle.std.proofs.lemmas.Option.{same_Some, slice_get_within}
 use Rattle.lert_base.specs.Beginning.{BeginsWith}
 use Rattle.lert_cone.specs.Stands.{Standing}
 use Rattle.lert_top.specs.drills.Print.{drilled_as}

@@ -1,12 +1,8 @@
 -- Reports that are in time list the keys that occur often enough, each once.
-use Rattle.std.proofs.Common.{◌≡◌, ℕ, ◌+◌, ◌<◌, ◌≤◌, suc, Bool, cond, eqb, List, [], ◌∷◌, length, refl, ap, sym, ◌∙◌, inl, inr, arith}
-use Rattle.std.proofs.lemmas.Bool.{cases_lt, cases_eq, lt-leb, le-leb}
+use Rattle.std.proofs.{Common.{◌≡◌, ℕ, ◌+◌, ◌<◌, ◌≤◌, suc, Bool, cond, eqb, List, [], ◌∷◌, length, refl, ap, sym, ◌∙◌, inl, inr, arith}, lemmas.Bool.{cases_lt, cases_eq, lt-leb, le-leb}}
 use Rattle.std.proofs.lemmas.List.Sums.{sum_by-cons}
-use Rattle.lert_spec.specs.declared.report.Report.{Report}
-use Rattle.lert_spec.specs.Counts.{count, distinct, heavy, insert_key}
-use Rattle.lert_spec.specs.Timely.{IsTimely, times_listed}
-use Rattle.lert_spec.proofs.CountLaws.{count-whole}
-use Rattle.lert_spec.proofs.ReportLaws.{times, times-cons_other, times-cons_same}
+use Rattle.lert_spec.specs.{declared.report.Report.Report, Counts.{count, distinct, heavy, insert_key}, Timely.{IsTimely, times_listed}}
+use Rattle.lert_spec.proofs.{CountLaws.count-whole, ReportLaws.{times, times-cons_other, times-cons_same}}
 use Rattle.lert_top.specs.drills.Print.{keys_of}
 use Rattle.lert_top.proofs.cones.HeavyLaws.{insert_before, insert_behind, insert_same, of_heavy, times-distinct}
 

@@ -1,7 +1,6 @@
 -- Bays in memory that were just made have empty files, and tell them.
-use Rattle.std.proofs.Common.{◌≡◌, List, Some, refl, ap, sym, ◌∙◌}
+use Rattle.std.proofs.{Common.{◌≡◌, List, Some, refl, ap, sym, ◌∙◌}, lemmas.Option.{get_or_from_slice_get, slice_get_within}}
 use Rattle.std.specs.Prelude.{All}
-use Rattle.std.proofs.lemmas.Option.{get_or_from_slice_get, slice_get_within}
 use Rattle.lert_bay.specs.Memory.{Disk, seen_of}
 use Rattle.lert_top.specs.drills.Dealt.{new_bay}
 use Rattle.lert_ingest.specs.Bays.{AreToldFresh}

@@ -1,9 +1,6 @@
 -- Lists in which each key stands as often have the same length and the same exclusive or.
-use Rattle.std.proofs.Common.{◌≡◌, ℕ, ◌≤◌, suc, List, [], ◌∷◌, length, refl, ap, sym, ◌∙◌, inl, inr, arith}
-use Rattle.std.specs.List.{fold}
-use Rattle.std.specs.Int.Bits.{bit_xor, xor_assoc, xor_zero_l, xor_zero_r}
-use Rattle.std.proofs.lemmas.Bool.{cases_eq}
-use Rattle.std.proofs.lemmas.Nat.{xor_comm}
+use Rattle.std.proofs.{Common.{◌≡◌, ℕ, ◌≤◌, suc, List, [], ◌∷◌, length, refl, ap, sym, ◌∙◌, inl, inr, arith}, lemmas.Bool.cases_eq, lemmas.Nat.xor_comm}
+use Rattle.std.specs.{List.fold, Int.Bits.{bit_xor, xor_assoc, xor_zero_l, xor_zero_r}}
 use Rattle.lert_spec.proofs.ReportLaws.{times, times-cons_other, times-cons_same}
 use Rattle.lert_text.specs.Drill.{exclusive_or}
 

@@ -4,8 +4,7 @@ use Rattle.lert_bay.specs.Files.{Files}
 use Rattle.lert_cone.specs.Stands.{Standing}
 use Rattle.lert_recover.specs.Replayed.{IsJournalSame}
 use Rattle.lert_ingest.specs.Bays.{bays_of}
-use Rattle.lert_ingest.proofs.BayLaws.{bays_of-push}
-use Rattle.lert_ingest.proofs.EachLaws.{each_more, each_same, each_seam}
+use Rattle.lert_ingest.proofs.{BayLaws.bays_of-push, EachLaws.{each_more, each_same, each_seam}}
 use Rattle.lert_top.specs.recovery.Recovered.{AreJournalsSame}
 
 journal_still : (told : Option Files) → IsJournalSame told told

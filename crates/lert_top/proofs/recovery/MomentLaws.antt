@@ -1,27 +1,17 @@
 -- Bays at each moment of a recovery.
-use Rattle.std.proofs.Common.{◌≡◌, ℕ, ◌<◌, List, [], ◌∷◌, ◌++◌, length, Option, Some, slice_get, ap, sym, ◌∙◌, subst, inl, inr, arith}
-use Rattle.std.proofs.lemmas.List.{length-map}
-use Rattle.std.proofs.lemmas.Bool.{cases_eq}
+use Rattle.std.proofs.{Common.{◌≡◌, ℕ, ◌<◌, List, [], ◌∷◌, ◌++◌, length, Option, Some, slice_get, ap, sym, ◌∙◌, subst, inl, inr, arith}, lemmas.List.length-map, lemmas.Bool.cases_eq}
 use Rattle.std.proofs.lemmas.Option.{same_Some, slice_get_within}
 use Rattle.lert_base.specs.Packet.{Packet}
-use Rattle.lert_bay.specs.Files.{IfTold}
-use Rattle.lert_bay.specs.Kept.{Bays, CallsBay}
-use Rattle.lert_bay.proofs.KeptLaws.{IsLawful}
-use Rattle.lert_bay.proofs.Lasting.{lasts_none}
-use Rattle.lert_cone.specs.Sound.{StaysSound}
-use Rattle.lert_cone.specs.Stands.{Standing}
-use Rattle.lert_recover.specs.Moments.{AreSound}
-use Rattle.lert_recover.specs.Replayed.{IsJournalSame}
-use Rattle.lert_recover.specs.Unharmed.{IsUnharmed}
-use Rattle.lert_recover.proofs.MomentLaws.{stays_none}
-use Rattle.lert_recover.proofs.UnharmedLaws.{unharmed_none}
+use Rattle.lert_bay.specs.{Files.IfTold, Kept.{Bays, CallsBay}}
+use Rattle.lert_bay.proofs.{KeptLaws.IsLawful, Lasting.lasts_none}
+use Rattle.lert_cone.specs.{Sound.StaysSound, Stands.Standing}
+use Rattle.lert_recover.specs.{Moments.AreSound, Replayed.IsJournalSame, Unharmed.IsUnharmed}
+use Rattle.lert_recover.proofs.{MomentLaws.stays_none, UnharmedLaws.unharmed_none}
 use Rattle.lert_spec.specs.declared.numbers.Numbers.{Numbers}
 use Rattle.lert_ingest.specs.Bays.{EachBay, bays_of}
-use Rattle.lert_ingest.proofs.BayLaws.{are_same, bays_of-push, set-seam, slice_get-seam, slice_get-set_other}
-use Rattle.lert_ingest.proofs.EachLaws.{each_same}
+use Rattle.lert_ingest.proofs.{BayLaws.{are_same, bays_of-push, set-seam, slice_get-seam, slice_get-set_other}, EachLaws.each_same}
 use Rattle.lert_top.specs.recovery.Moments.{AreReread, AreReturnedSpared, AreSpared, IsSpared}
-use Rattle.lert_top.proofs.recovery.JournalLaws.{journals_same}
-use Rattle.lert_top.proofs.recovery.SoundLaws.{sound_same}
+use Rattle.lert_top.proofs.{recovery.JournalLaws.journals_same, recovery.SoundLaws.sound_same}
 
 -- a bay over which a cone was opened, or wasn't
 pub throughout_by : {B : Type 0} (bays : Bays B) (s : Numbers) (cone : ℕ) (bay back : B) (Failed : Type 0) → CallsBay bays bay back Failed →

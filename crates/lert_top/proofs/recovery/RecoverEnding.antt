@@ -1,18 +1,15 @@
 -- Which status a recovery ends with.
-use Rattle.std.proofs.Common.{◌≡◌, ◌≢◌, ◌⊎◌, ℕ, ◌^◌, ◌<◌, ◌≤◌, List, length, Option, Some, slice_get, refl, ap, ◌∙◌, subst, inl, inr, arith}
-use Rattle.std.proofs.lemmas.Bool.{cases_lt}
-use Rattle.std.proofs.lemmas.Option.{slice_get_within}
+use Rattle.std.proofs.{Common.{◌≡◌, ◌≢◌, ◌⊎◌, ℕ, ◌^◌, ◌<◌, ◌≤◌, List, length, Option, Some, slice_get, refl, ap, ◌∙◌, subst, inl, inr, arith}, lemmas.Bool.cases_lt, lemmas.Option.slice_get_within}
 use Rattle.lert_base.specs.declared.kept.Kept.{Kept}
 use Rattle.lert_bay.specs.Files.{Files}
 use Rattle.lert_io.specs.Fault.{IsFaultless}
 use Rattle.lert_files.specs.Headed.{HasOther}
 use Rattle.lert_recover.specs.Replayed.{FirstLeaves}
 use Rattle.lert_spec.specs.declared.numbers.Numbers.{Numbers}
-use Rattle.lert_ingest.specs.Bays.{AreFaultless, AreFaultlessTo, HasFailed, IfHeld}
-use Rattle.lert_top.specs.recovery.Recovered.{AreJournalsSame, AreSoundBelow, AreSoundStill, HasRecovered, LowerAreFormed, NoneIsSound, RecoveryShows}
-use Rattle.lert_top.specs.recovery.Recovered.{printed, printed_partly, unopened, unopened_failed, unopened_memory, unopened_other, unopened_spoiled}
-use Rattle.lert_ingest.specs.declared.status.Status.{Status}
+use Rattle.lert_ingest.specs.{Bays.{AreFaultless, AreFaultlessTo, HasFailed, IfHeld}, declared.status.Status.Status}
 use Rattle.lert_ingest.specs.declared.status.Status.TheVariants.{Done, Usage, PlaceFault, Malformed, OtherSettings, OutOfMemory}
+use Rattle.lert_top.specs.recovery.Recovered.{AreJournalsSame, AreSoundBelow, AreSoundStill, HasRecovered, LowerAreFormed, NoneIsSound, RecoveryShows, printed, printed_partly, unopened}
+use Rattle.lert_top.specs.recovery.Recovered.{unopened_failed, unopened_memory, unopened_other, unopened_spoiled}
 use Rattle.lert_ingest.proofs.BayLaws.{slice_get-some}
 use Rattle.lert_top.proofs.cones.StatusLaws.{failed_or_not, no_rise}
 

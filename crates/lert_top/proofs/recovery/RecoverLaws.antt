@@ -1,32 +1,20 @@
 -- Cones that are opened over bays one by one, what is printed of them, and which status a recovery ends with.
-use Rattle.std.proofs.Common.{◌≡◌, ◌⊎◌, ℕ, ◌-◌, ◌^◌, Bool, true, false, List, ◌∷◌, ◌++◌, length, map, Option, Some, slice_get, refl, ap, sym, ◌∙◌, subst, inl, inr}
-use Rattle.std.proofs.Common.{arith, length-append}
-use Rattle.std.proofs.lemmas.List.{length-map}
-use Rattle.std.proofs.lemmas.Option.{slice_get_within, same_Some}
-use Rattle.lert_base.specs.declared.kept.Kept.{Kept}
-use Rattle.lert_base.specs.Packet.{Packet, events_of}
+use Rattle.std.proofs.Common.{◌≡◌, ◌⊎◌, ℕ, ◌-◌, ◌^◌, Bool, true, false, List, ◌∷◌, ◌++◌, length, map, Option, Some, slice_get, refl, ap, sym, ◌∙◌, subst, inl, inr, arith, length-append}
+use Rattle.std.proofs.{lemmas.List.length-map, lemmas.Option.{slice_get_within, same_Some}}
+use Rattle.lert_base.specs.{declared.kept.Kept.Kept, Packet.{Packet, events_of}}
 use Rattle.lert_bay.specs.Files.{Files, IfTold}
-use Rattle.lert_cone.specs.Listing.{reports_of}
-use Rattle.lert_cone.specs.JournalPlaces.{IsPlaceIn, last_place}
-use Rattle.lert_cone.specs.Sound.{IsJournal, IsSound, IsSoundAs}
-use Rattle.lert_cone.specs.Stands.{Standing, StandsFor, is_broken, is_finished}
-use Rattle.lert_cone.specs.Unread.{unread}
+use Rattle.lert_cone.specs.{Listing.reports_of, JournalPlaces.{IsPlaceIn, last_place}, Sound.{IsJournal, IsSound, IsSoundAs}, Stands.{Standing, StandsFor, is_broken, is_finished}, Unread.unread}
 use Rattle.lert_cone.proofs.UnreadLaws.{length_unread}
 use Rattle.lert_io.specs.Fault.{HasRisen}
 use Rattle.lert_files.specs.declared.fault.ReopenFault.{ReopenFault}
 use Rattle.lert_files.specs.declared.fault.ReopenFault.TheVariants as fault
-use Rattle.lert_files.specs.Headed.{HasOther}
-use Rattle.lert_files.specs.Opened.{LeaveAt}
-use Rattle.lert_recover.specs.Reopened.{IsReadOn, IsUnsoundAt}
-use Rattle.lert_recover.specs.Replayed.{AreReplayed, FirstLeaves}
-use Rattle.lert_reports.specs.Log.{is_closed, last_first, last_n0, last_offset, HasLog}
-use Rattle.lert_reports.specs.LogText.{LogRecord}
+use Rattle.lert_files.specs.{Headed.HasOther, Opened.LeaveAt}
+use Rattle.lert_recover.specs.{Reopened.{IsReadOn, IsUnsoundAt}, Replayed.{AreReplayed, FirstLeaves}}
+use Rattle.lert_reports.specs.{Log.{is_closed, last_first, last_n0, last_offset, HasLog}, LogText.LogRecord}
 use Rattle.lert_spec.specs.declared.numbers.Numbers.{Numbers}
 use Rattle.lert_ingest.specs.Bays.{AreLater, AreUntouched, IfHeld, bays_of}
-use Rattle.lert_top.specs.cones.Print.{state_of}
-use Rattle.lert_top.specs.cones.Print.{ArePrintable, printed_as}
-use Rattle.lert_top.specs.recovery.Recovered.{AreCounted, AreOpenOver, AreRecovered, IsOpenOver, IsRecovered, IsUnopened, LowerAreFormed, OfBay, printed_for, reopen_status}
-use Rattle.lert_top.specs.recovery.Recovered.{unopened_failed, unopened_spoiled, unopened_other}
+use Rattle.lert_top.specs.{cones.Print.{state_of, ArePrintable, printed_as}, recovery.Recovered.{AreCounted, AreOpenOver, AreRecovered, IsOpenOver, IsRecovered, IsUnopened, LowerAreFormed, OfBay}}
+use Rattle.lert_top.specs.recovery.Recovered.{printed_for, reopen_status, unopened_failed, unopened_spoiled, unopened_other}
 use Rattle.lert_ingest.proofs.BayLaws.{bay_at, bay_is, slice_get-seam, slice_get-some}
 use Rattle.lert_top.proofs.cones.EndLaws.{printed_at}
 

@@ -1,15 +1,12 @@
 -- Files that stay sound for each list for which they were.
-use Rattle.std.proofs.Common.{ℕ, List, [], ◌∷◌, ◌++◌, length, Option, sym, ap, ◌∙◌, subst, length-append}
-use Rattle.std.proofs.lemmas.List.{length-map}
+use Rattle.std.proofs.{Common.{ℕ, List, [], ◌∷◌, ◌++◌, length, Option, sym, ap, ◌∙◌, subst, length-append}, lemmas.List.length-map}
 use Rattle.lert_base.specs.Packet.{Packet}
 use Rattle.lert_bay.specs.Files.{Files, IfTold}
-use Rattle.lert_cone.specs.Sound.{IsSound}
-use Rattle.lert_cone.specs.Stands.{Standing, is_broken}
+use Rattle.lert_cone.specs.{Sound.IsSound, Stands.{Standing, is_broken}}
 use Rattle.lert_recover.specs.Replayed.{IsJournalSame}
 use Rattle.lert_spec.specs.declared.numbers.Numbers.{Numbers}
 use Rattle.lert_ingest.specs.Bays.{bays_of}
-use Rattle.lert_ingest.proofs.BayLaws.{bays_of-push}
-use Rattle.lert_ingest.proofs.EachLaws.{each_more, each_same, each_seam}
+use Rattle.lert_ingest.proofs.{BayLaws.bays_of-push, EachLaws.{each_more, each_same, each_seam}}
 use Rattle.lert_top.specs.recovery.Recovered.{AreSoundStill, IsOpenOver, IsSoundStill}
 use Rattle.lert_top.proofs.recovery.RecoverLaws.{open_is}
 

@@ -2,9 +2,7 @@
 use Rattle.std.proofs.Common.{◌≡◌, ℕ, List, Option, subst}
 use Rattle.lert_bay.specs.Files.{Files}
 use Rattle.lert_spec.specs.declared.numbers.Numbers.{Numbers}
-use Rattle.lert_ingest.specs.Stops.{StopShows}
-use Rattle.lert_ingest.specs.declared.status.Status.{Status}
-use Rattle.lert_ingest.specs.declared.status.Status.TheVariants.{Done}
+use Rattle.lert_ingest.specs.{Stops.StopShows, declared.status.Status.Status, declared.status.Status.TheVariants.Done}
 use Rattle.lert_top.specs.cones.Unmade.{IsUnmade}
 
 pub reading_not_done : {S B : Type 0} (remaining : S → Option (List ℕ)) (faults : S → ℕ) (files : B → Option Files) (bay_faults : B → ℕ) (s : Numbers) (workers : ℕ)

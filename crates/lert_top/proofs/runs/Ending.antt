@@ -1,17 +1,12 @@
 -- Which status a run ends with.
-use Rattle.std.proofs.Common.{◌≡◌, ℕ, List, Option, Some, slice_get, refl, sym, subst, inl, arith}
-use Rattle.std.proofs.lemmas.Option.{slice_get_within}
+use Rattle.std.proofs.{Common.{◌≡◌, ℕ, List, Option, Some, slice_get, refl, sym, subst, inl, arith}, lemmas.Option.slice_get_within}
 use Rattle.lert_bay.specs.Files.{Files}
 use Rattle.lert_io.specs.Fault.{IsFaultless}
 use Rattle.lert_spec.specs.declared.numbers.Numbers.{Numbers}
-use Rattle.lert_ingest.specs.declared.status.Status.{Status}
-use Rattle.lert_ingest.specs.declared.status.Status.TheVariants.{OutOfMemory}
-use Rattle.lert_ingest.specs.Bays.{AreFaultless, AreFresh, AreLater, AreOpenWoven, AreTold, AreToldFresh, AreUnused}
+use Rattle.lert_ingest.specs.{declared.status.Status.Status, declared.status.Status.TheVariants.OutOfMemory, Bays.{AreFaultless, AreFresh, AreLater, AreOpenWoven, AreTold, AreToldFresh, AreUnused}}
 use Rattle.lert_ingest.specs.Stops.{AreOpenPartly, AreTelling, StopShows, trace_fault, bad_trace, too_long, bay_fault, malformed, capacity_full, out_of_memory}
 use Rattle.lert_ingest.proofs.BayLaws.{failed_since, slice_get-some, told_later, untold_since}
-use Rattle.lert_top.specs.cones.Finish.{EndShows, end_done, end_failed, end_malformed, end_cut}
-use Rattle.lert_top.specs.cones.Unmade.{IsUnmade, unmade_stale, unmade_failed, unmade_memory}
-use Rattle.lert_top.specs.runs.Ran.{IsDone}
+use Rattle.lert_top.specs.{cones.Finish.{EndShows, end_done, end_failed, end_malformed, end_cut}, cones.Unmade.{IsUnmade, unmade_stale, unmade_failed, unmade_memory}, runs.Ran.IsDone}
 use Rattle.lert_top.specs.runs.Run.{MadeShows, RunShows, made, unmade, stopped, ended}
 use Rattle.lert_top.proofs.cones.StatusLaws.{failed_or_not, faultless_since, faultless_until, no_rise, stale_or_not, untold_or_not}
 

@@ -1,23 +1,14 @@
 -- Which status comes of a run, and what a run says in all.
-use Rattle.std.proofs.Common.{◌≡◌, ◌≢◌, ◌⊎◌, ℕ, ◌^◌, ◌<◌, List, [], length, Option, Some}
-use Rattle.std.proofs.Common.{Result, Ok, Err, slice_get, refl, ap, sym, ◌∙◌, subst, inl, inr, arith}
-use Rattle.std.proofs.lemmas.Bool.{cases_lt}
+use Rattle.std.proofs.{Common.{◌≡◌, ◌≢◌, ◌⊎◌, ℕ, ◌^◌, ◌<◌, List, [], length, Option, Some, Result, Ok, Err, slice_get, refl, ap, sym, ◌∙◌, subst, inl, inr, arith}, lemmas.Bool.cases_lt}
 use Rattle.std.proofs.lemmas.Option.{slice_get_within}
 use Rattle.lert_bay.specs.Files.{Files}
 use Rattle.lert_cone.specs.Sound.{AreEmpty}
 use Rattle.lert_spec.specs.declared.numbers.Numbers.{Numbers}
-use Rattle.lert_ingest.specs.declared.status.Status.{Status}
-use Rattle.lert_ingest.specs.declared.status.Status.TheVariants.{NotFresh, OutOfMemory, PlaceFault, Usage}
-use Rattle.lert_ingest.specs.Bays.{AreFaultlessTo, AreFreshBelow, AreLater, AreToldFresh}
-use Rattle.lert_ingest.specs.Stops.{IsExact}
-use Rattle.lert_ingest.proofs.BayLaws.{slice_get-some}
-use Rattle.lert_ingest.proofs.Exactly.{exact_memory, exact_turned}
-use Rattle.lert_top.specs.cones.Finish.{EndShows}
-use Rattle.lert_top.specs.cones.Unmade.{BrokeEarly, unmade_stale, unmade_failed, unmade_memory}
-use Rattle.lert_top.specs.runs.Ran.{IsDone}
-use Rattle.lert_top.specs.runs.Run.{HasRun, RunShows, made, unmade, stopped, ended}
-use Rattle.lert_top.proofs.cones.StatusLaws.{no_rise}
-use Rattle.lert_top.proofs.runs.Ending.{are_faultless_until, ends_done}
+use Rattle.lert_ingest.specs.{declared.status.Status.Status, declared.status.Status.TheVariants.{NotFresh, OutOfMemory, PlaceFault, Usage}}
+use Rattle.lert_ingest.specs.{Bays.{AreFaultlessTo, AreFreshBelow, AreLater, AreToldFresh}, Stops.IsExact}
+use Rattle.lert_ingest.proofs.{BayLaws.slice_get-some, Exactly.{exact_memory, exact_turned}}
+use Rattle.lert_top.specs.{cones.Finish.EndShows, cones.Unmade.{BrokeEarly, unmade_stale, unmade_failed, unmade_memory}, runs.Ran.IsDone, runs.Run.{HasRun, RunShows, made, unmade, stopped, ended}}
+use Rattle.lert_top.proofs.{cones.StatusLaws.no_rise, runs.Ending.{are_faultless_until, ends_done}}
 
 errors_same : {T : Type 0} {E : Type 0} (r : Result T E) (a b : E) → r ≡ Err a → r ≡ Err b → a ≡ b
 errors_same r a b one two = let same : Err a ≡ Err b = sym one ∙ two in cc

@@ -1,9 +1,7 @@
 -- What a place was asked for by a run.
 use Rattle.std.specs.Prelude.{◌≡◌, ◌≢◌, ◌⊎◌, ℕ, ◌<◌, ◌≤◌, true, false, List, [], ◌∷◌, ◌++◌, map, take, Some, slice_get}
-use Rattle.lert_place.specs.Openings.{bay_refused, bays_opened, trace_asked}
-use Rattle.lert_place.specs.declared.opening.Opening.{Opening}
-use Rattle.lert_ingest.specs.declared.status.Status.{Status}
-use Rattle.lert_ingest.specs.declared.status.Status.TheVariants.{Done, OutOfMemory, PlaceFault}
+use Rattle.lert_place.specs.{Openings.{bay_refused, bays_opened, trace_asked}, declared.opening.Opening.Opening}
+use Rattle.lert_ingest.specs.{declared.status.Status.Status, declared.status.Status.TheVariants.{Done, OutOfMemory, PlaceFault}}
 
 -- behind what was asked before, a place was asked for the bays of the first cones, and the next one's opening failed
 pub record IsBayRefused (dir : List ℕ) (cones : ℕ) (before asked : List Opening) (status : Status) : Type 0 where

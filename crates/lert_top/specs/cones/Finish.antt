@@ -1,20 +1,11 @@
 -- What the end of all cones of a run leaves, and what is printed of them.
 use Rattle.std.specs.Prelude.{◌≡◌, ℕ, ◌+◌, ◌<◌, ◌≤◌, true, false, List, ◌++◌, length, Option, Some, None, slice_get}
-use Rattle.lert_base.specs.Packet.{Packet}
+use Rattle.lert_base.specs.{Packet.Packet, declared.cone_fault.ConeFault.ConeFault, declared.cone_fault.ConeFault.TheVariants.{BayFailed, Unsound}}
 use Rattle.lert_bay.specs.Files.{Files}
-use Rattle.lert_cone.specs.Sound.{IsSound, IsSoundAs}
-use Rattle.lert_cone.specs.Stands.{IsSameCone, Standing, StandsFor, WasSound, is_refusal}
-use Rattle.lert_base.specs.declared.cone_fault.ConeFault.{ConeFault}
-use Rattle.lert_base.specs.declared.cone_fault.ConeFault.TheVariants.{BayFailed, Unsound}
-use Rattle.lert_cone.specs.declared.state.ConeState.TheVariants.{Finished, Running}
-use Rattle.lert_io.specs.Fault.{HasRisen}
-use Rattle.lert_io.specs.Reading.{IfTold}
-use Rattle.lert_spec.specs.declared.numbers.Numbers.{Numbers}
-use Rattle.lert_spec.specs.Lines.{Printed, lines}
-use Rattle.lert_ingest.specs.Bays.{AreWoven, HasFailed, HoldsAll, HoldsWeave, IfHeld, IsLater, IsUntold}
-use Rattle.lert_ingest.specs.Status.{cone_status}
-use Rattle.lert_ingest.specs.Traces.{AllFit}
-use Rattle.lert_ingest.specs.declared.status.Status.{Status}
+use Rattle.lert_cone.specs.{Sound.{IsSound, IsSoundAs}, Stands.{IsSameCone, Standing, StandsFor, WasSound, is_refusal}, declared.state.ConeState.TheVariants.{Finished, Running}}
+use Rattle.lert_io.specs.{Fault.HasRisen, Reading.IfTold}
+use Rattle.lert_spec.specs.{declared.numbers.Numbers.Numbers, Lines.{Printed, lines}}
+use Rattle.lert_ingest.specs.{Bays.{AreWoven, HasFailed, HoldsAll, HoldsWeave, IfHeld, IsLater, IsUntold}, Status.cone_status, Traces.AllFit, declared.status.Status.Status}
 use Rattle.lert_ingest.specs.declared.status.Status.TheVariants.{Done, BayFault, Malformed, OutFault}
 use Rattle.lert_top.specs.cones.Printed.{ArePrinted}
 use Rattle.lert_text.specs.Page.{IsCut}

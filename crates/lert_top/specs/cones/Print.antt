@@ -1,10 +1,7 @@
 -- What is printed of cones.
 use Rattle.std.specs.Prelude.{◌≡◌, ℕ, Bool, false, List, Some, slice_get, if◌then◌else◌}
-use Rattle.lert_cone.specs.Stands.{Standing, is_broken, is_finished}
-use Rattle.lert_cone.specs.declared.state.ConeState.{ConeState}
-use Rattle.lert_cone.specs.declared.state.ConeState.TheVariants.{Finished, Running}
-use Rattle.lert_spec.specs.declared.numbers.Numbers.{Numbers}
-use Rattle.lert_spec.specs.Lines.{Printed}
+use Rattle.lert_cone.specs.{Stands.{Standing, is_broken, is_finished}, declared.state.ConeState.ConeState, declared.state.ConeState.TheVariants.{Finished, Running}}
+use Rattle.lert_spec.specs.{declared.numbers.Numbers.Numbers, Lines.Printed}
 
 -- the events and reports of a cone, which is closed where it is finished
 abbrev pub printed_as : {B : Type 0} → Standing B → Printed

@@ -1,19 +1,10 @@
 -- What is printed of the cones of a run.
-use Rattle.std.specs.Prelude.{◌≡◌, ◌↔◌, ℕ, ◌^◌, ◌≤◌, true, List, [], ◌∷◌, flat_map, length, map, Contains, Option, Some, slice_get}
-use Rattle.std.specs.List.{range_with_len}
-use Rattle.lert_base.specs.Packet.{Packet, events_of}
-use Rattle.lert_base.specs.Weave.{IsWoven}
+use Rattle.std.specs.{Prelude.{◌≡◌, ◌↔◌, ℕ, ◌^◌, ◌≤◌, true, List, [], ◌∷◌, flat_map, length, map, Contains, Option, Some, slice_get}, List.range_with_len}
+use Rattle.lert_base.specs.{Packet.{Packet, events_of}, Weave.IsWoven}
 use Rattle.lert_bay.specs.Files.{Files}
 use Rattle.lert_cone.specs.Sound.{IsSoundClosed}
-use Rattle.lert_ingest.specs.Bays.{AreTold, IfHeld}
-use Rattle.lert_ingest.specs.Traces.{part_length}
-use Rattle.lert_spec.specs.declared.numbers.Numbers.{Numbers}
-use Rattle.lert_spec.specs.declared.report.Report.{Report}
-use Rattle.lert_spec.specs.Counts.{heavy}
-use Rattle.lert_spec.specs.Lines.{Printed}
-use Rattle.lert_spec.specs.Look.{closing}
-use Rattle.lert_spec.specs.Mix.{part_of}
-use Rattle.lert_spec.specs.Timely.{IsTimely, times_listed}
+use Rattle.lert_ingest.specs.{Bays.{AreTold, IfHeld}, Traces.part_length}
+use Rattle.lert_spec.specs.{declared.numbers.Numbers.Numbers, declared.report.Report.Report, Counts.heavy, Lines.Printed, Look.closing, Mix.part_of, Timely.{IsTimely, times_listed}}
 
 -- reports are those that stand once the cone is closed that its files hold, whose journal is a weave of its part of the keys of
 -- all traces, and they are in time for the events of this journal

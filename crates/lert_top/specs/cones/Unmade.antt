@@ -3,8 +3,7 @@ use Rattle.std.specs.Prelude.{◌≡◌, ◌⊎◌, ℕ, List, Option, Some, sli
 use Rattle.lert_bay.specs.Files.{Files, Turns}
 use Rattle.lert_cone.specs.Sound.{FramesStay}
 use Rattle.lert_spec.specs.declared.numbers.Numbers.{Numbers}
-use Rattle.lert_ingest.specs.Bays.{AreFresh, AreFreshBelow, AreKept, AreUnused, AreUnusedBut, HasFailed, IfHeld, IsStale}
-use Rattle.lert_ingest.specs.declared.status.Status.{Status}
+use Rattle.lert_ingest.specs.{Bays.{AreFresh, AreFreshBelow, AreKept, AreUnused, AreUnusedBut, HasFailed, IfHeld, IsStale}, declared.status.Status.Status}
 use Rattle.lert_ingest.specs.declared.status.Status.TheVariants.{NotFresh, BayFault, OutOfMemory}
 
 -- how long a cone's files are wasn't answered: the files of those below it have no byte, and all files are as they were

@@ -1,15 +1,10 @@
 -- What a drill says of the keys that it generated, and of the text that it wrote.
 use Rattle.std.specs.Prelude.{◌≡◌, ℕ, ◌+◌, ◌*◌, ◌^◌, ◌<◌, ◌≤◌, List, ◌++◌, length, Option, Some}
 use Rattle.lert_gen.specs.Generated.{generated}
-use Rattle.lert_io.specs.Fault.{HasRisen}
-use Rattle.lert_io.specs.Reading.{IfTold}
-use Rattle.lert_spec.specs.declared.numbers.Numbers.{Numbers}
-use Rattle.lert_spec.specs.Edges.{capacity}
-use Rattle.lert_spec.specs.Mix.{part_of}
-use Rattle.lert_text.specs.Drill.{drill_lines, drilled}
-use Rattle.lert_text.specs.Page.{IsCut}
-use Rattle.lert_ingest.specs.declared.status.Status.{Status}
-use Rattle.lert_ingest.specs.declared.status.Status.TheVariants.{Done, CapacityFull, OutFault, OutOfMemory}
+use Rattle.lert_io.specs.{Fault.HasRisen, Reading.IfTold}
+use Rattle.lert_spec.specs.{declared.numbers.Numbers.Numbers, Edges.capacity, Mix.part_of}
+use Rattle.lert_text.specs.{Drill.{drill_lines, drilled}, Page.IsCut}
+use Rattle.lert_ingest.specs.{declared.status.Status.Status, declared.status.Status.TheVariants.{Done, CapacityFull, OutFault, OutOfMemory}}
 
 -- each cone takes its part of the keys
 abbrev pub Fits : Numbers → List ℕ → Type 0

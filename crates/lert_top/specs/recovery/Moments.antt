@@ -1,12 +1,9 @@
 -- What a recovery leaves of its bays, and a stop inside it.
 use Rattle.std.specs.Prelude.{◌≡◌, ℕ, List, Option, Some, slice_get}
 use Rattle.lert_base.specs.Packet.{Packet}
-use Rattle.lert_bay.specs.Files.{Files, IfTold}
-use Rattle.lert_bay.specs.Images.{Lasts}
-use Rattle.lert_bay.specs.Kept.{Bays}
+use Rattle.lert_bay.specs.{Files.{Files, IfTold}, Images.Lasts, Kept.Bays}
 use Rattle.lert_cone.specs.Sound.{StaysSound}
-use Rattle.lert_recover.specs.Moments.{AreSound}
-use Rattle.lert_recover.specs.Unharmed.{IsUnharmed}
+use Rattle.lert_recover.specs.{Moments.AreSound, Unharmed.IsUnharmed}
 use Rattle.lert_spec.specs.declared.numbers.Numbers.{Numbers}
 use Rattle.lert_ingest.specs.Bays.{AreLater, EachBay}
 use Rattle.lert_top.specs.recovery.Recovered.{AreJournalsSame, AreSoundStill}

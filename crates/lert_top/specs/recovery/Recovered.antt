@@ -1,29 +1,20 @@
 -- What a recovery says of the bays that it opened, and of the text that it wrote.
 use Rattle.std.specs.Prelude.{◌≡◌, ◌≢◌, ◌⊎◌, ℕ, ◌+◌, ◌-◌, Bool, ◌^◌, ◌<◌, List, ◌++◌, length, Option, Some, slice_get, if◌then◌else◌}
-use Rattle.lert_base.specs.declared.kept.Kept.{Kept}
-use Rattle.lert_base.specs.Packet.{Packet, events_of}
+use Rattle.lert_base.specs.{declared.kept.Kept.Kept, Packet.{Packet, events_of}}
 use Rattle.lert_bay.specs.Files.{Files, IfTold}
-use Rattle.lert_cone.specs.JournalPlaces.{IsPlaceIn, last_place}
-use Rattle.lert_cone.specs.Sound.{IsJournal, IsSound, IsSoundAs}
-use Rattle.lert_cone.specs.Stands.{Standing, StandsFor, WasSound}
+use Rattle.lert_cone.specs.{JournalPlaces.{IsPlaceIn, last_place}, Sound.{IsJournal, IsSound, IsSoundAs}, Stands.{Standing, StandsFor, WasSound}}
 use Rattle.lert_io.specs.Fault.{HasRisen, IsFaultless}
 use Rattle.lert_io.specs.Reading as reading
 use Rattle.lert_files.specs.declared.fault.ReopenFault.{ReopenFault}
 use Rattle.lert_files.specs.declared.fault.ReopenFault.TheVariants as fault
-use Rattle.lert_files.specs.Headed.{HasOther}
-use Rattle.lert_files.specs.Opened.{LeaveAt}
-use Rattle.lert_recover.specs.Reopened.{IsReadOn, IsUnsoundAt}
-use Rattle.lert_recover.specs.Replayed.{FirstLeaves, IsJournalSame, JournalEnds}
-use Rattle.lert_reports.specs.Log.{is_closed, last_first, last_n0, last_offset, HasLog}
-use Rattle.lert_reports.specs.LogText.{LogRecord}
-use Rattle.lert_spec.specs.declared.numbers.Numbers.{Numbers}
-use Rattle.lert_spec.specs.Lines.{Printed, lines}
-use Rattle.lert_spec.specs.Look.{closing, look}
-use Rattle.lert_ingest.specs.Bays.{AreFaultless, AreFaultlessTo, AreUntouched, EachBay, HasFailed, IfHeld}
+use Rattle.lert_files.specs.{Headed.HasOther, Opened.LeaveAt}
+use Rattle.lert_recover.specs.{Reopened.{IsReadOn, IsUnsoundAt}, Replayed.{FirstLeaves, IsJournalSame, JournalEnds}}
+use Rattle.lert_reports.specs.{Log.{is_closed, last_first, last_n0, last_offset, HasLog}, LogText.LogRecord}
+use Rattle.lert_spec.specs.{declared.numbers.Numbers.Numbers, Lines.{Printed, lines}, Look.{closing, look}}
+use Rattle.lert_ingest.specs.{Bays.{AreFaultless, AreFaultlessTo, AreUntouched, EachBay, HasFailed, IfHeld}, declared.status.Status.Status}
+use Rattle.lert_ingest.specs.declared.status.Status.TheVariants.{Done, BayFault, Malformed, OtherSettings, OutFault, OutOfMemory}
 use Rattle.lert_top.specs.cones.Print.{state_of}
 use Rattle.lert_text.specs.Page.{IsCut}
-use Rattle.lert_ingest.specs.declared.status.Status.{Status}
-use Rattle.lert_ingest.specs.declared.status.Status.TheVariants.{Done, BayFault, Malformed, OtherSettings, OutFault, OutOfMemory}
 
 -- ---- one cone
 

@@ -2,10 +2,7 @@
 use Rattle.std.specs.Prelude.{◌≡◌, ◌⊎◌, ℕ, ◌<◌, List, length, Option, slice_get}
 use Rattle.lert_bay.specs.Files.{Files}
 use Rattle.lert_io.specs.Fault.{IsFaultless}
-use Rattle.lert_ingest.specs.Bays.{AreLater}
-use Rattle.lert_ingest.specs.Traces.{AreTracesLater}
-use Rattle.lert_ingest.specs.declared.status.Status.{Status}
-use Rattle.lert_ingest.specs.declared.status.Status.TheVariants.{Done, OutOfMemory}
+use Rattle.lert_ingest.specs.{Bays.AreLater, Traces.AreTracesLater, declared.status.Status.Status, declared.status.Status.TheVariants.{Done, OutOfMemory}}
 
 -- with a content output the text comes, or want of memory
 abbrev pub IsDone : {K : Type 0} → (K → ℕ) → K → K → Status → Type 0

@@ -3,14 +3,9 @@ use Rattle.std.specs.Prelude.{◌≡◌, ◌≢◌, ◌⊎◌, ℕ, ◌^◌, ◌
 use Rattle.lert_bay.specs.Files.{Files}
 use Rattle.lert_cone.specs.Sound.{AreEmpty}
 use Rattle.lert_spec.specs.declared.numbers.Numbers.{Numbers}
-use Rattle.lert_ingest.specs.Bays.{AreFaultlessTo, AreFresh, AreToldFresh}
-use Rattle.lert_ingest.specs.Stops.{IsExact, StopShows}
-use Rattle.lert_ingest.specs.Traces.{AllFit, AreKeysOf, AreReadToEnd}
-use Rattle.lert_ingest.specs.declared.status.Status.{Status}
+use Rattle.lert_ingest.specs.{Bays.{AreFaultlessTo, AreFresh, AreToldFresh}, Stops.{IsExact, StopShows}, Traces.{AllFit, AreKeysOf, AreReadToEnd}, declared.status.Status.Status}
 use Rattle.lert_ingest.specs.declared.status.Status.TheVariants.{NotFresh, OutOfMemory}
-use Rattle.lert_top.specs.cones.Finish.{EndShows}
-use Rattle.lert_top.specs.cones.Unmade.{IsUnmade}
-use Rattle.lert_top.specs.runs.Ran.{IsDone}
+use Rattle.lert_top.specs.{cones.Finish.EndShows, cones.Unmade.IsUnmade, runs.Ran.IsDone}
 
 -- what the status of a run says, by the traces and the bays as they were opened and as they were put back, and by the sink
 -- before and after

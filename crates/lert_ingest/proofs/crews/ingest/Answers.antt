@@ -1,11 +1,8 @@
 use contract.BorrowLft.{⊑_static}
 use Rattle.std.proofs.Common.{◌∙◌, List, Err, refl, subst, arith}
 use Rattle.lert_cone.specs.Stands.{Standing}
-use Rattle.lert_ingest.specs.Ingest.{HasIngested}
-use Rattle.lert_ingest.specs.declared.status.Status.TheVariants.{OutOfMemory}
-use Rattle.lert_ingest.proofs.Assembling.{untouched}
-use Rattle.lert_ingest.proofs.Fewer.{ingested_fewer}
-use Rattle.lert_ingest.proofs.Starting.{all_opened, as_many, few_cones, first_from, first_quiet, firsts_new}
+use Rattle.lert_ingest.specs.{Ingest.HasIngested, declared.status.Status.TheVariants.OutOfMemory}
+use Rattle.lert_ingest.proofs.{Assembling.untouched, Fewer.ingested_fewer, Starting.{all_opened, as_many, few_cones, first_from, first_quiet, firsts_new}}
 use Rattle.lert_ingest.proofs.crews.ingest.Given as given
 use Rattle.lert_ingest.proofs.crews.ingest.Goals as goal
 use Rattle.lert_ingest.proofs.crews.ingest.Goals.{After-destroy_empty, After-ingest_fleet, In_default}

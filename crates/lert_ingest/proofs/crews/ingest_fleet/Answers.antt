@@ -1,16 +1,10 @@
 use denote.Exit.{no}
 use denote.Param.Send.{arg_send, param_send}
 use Rattle.lert_cone.proofs.ConeSend.{cone_send}
-use Rattle.std.proofs.Common.{◌≡◌, ◌∙◌, ap, sym, subst, refl, arith, length, length-drop}
-use Rattle.std.proofs.lemmas.Bool.{false≢true}
+use Rattle.std.proofs.{Common.{◌≡◌, ◌∙◌, ap, sym, subst, refl, arith, length, length-drop}, lemmas.Bool.false≢true}
 use Rattle.lert_cone.specs.Locked.{is_stopped}
-use Rattle.lert_ingest.specs.Crew.{AreDone, AreHired}
-use Rattle.lert_ingest.specs.Back.{AreSeen}
-use Rattle.lert_ingest.specs.Faults.{earlier, earliest, fault_at}
-use Rattle.lert_ingest.specs.Ingest.{AreReady, firsts_of}
-use Rattle.lert_ingest.specs.Sharing.{AreFree, AreShared, WereTaken}
-use Rattle.lert_ingest.proofs.Assembling.{closed_quiet, is_whole, untouched}
-use Rattle.lert_ingest.proofs.Finishing.{answered, back_again, may_run, pass_all, quiet_all}
+use Rattle.lert_ingest.specs.{Crew.{AreDone, AreHired}, Back.AreSeen, Faults.{earlier, earliest, fault_at}, Ingest.{AreReady, firsts_of}, Sharing.{AreFree, AreShared, WereTaken}}
+use Rattle.lert_ingest.proofs.{Assembling.{closed_quiet, is_whole, untouched}, Finishing.{answered, back_again, may_run, pass_all, quiet_all}}
 use Rattle.lert_ingest.proofs.Manning.{done_taken, free_in_line, front_is, quiet_taken, ran_passes, ready_now, ready_passes, ready_quiet, ready_shared, some_front}
 use Rattle.lert_ingest.proofs.crews.ingest_fleet.Goals as goal
 

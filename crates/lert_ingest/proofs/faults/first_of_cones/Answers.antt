@@ -1,5 +1,4 @@
-use Rattle.std.proofs.Common.{◌≡◌, ◌∙◌, length, ap, arith, refl}
-use Rattle.std.proofs.lemmas.Option.{slice_get_within}
+use Rattle.std.proofs.{Common.{◌≡◌, ◌∙◌, length, ap, arith, refl}, lemmas.Option.slice_get_within}
 use Rattle.lert_ingest.specs.Faults.{earliest, fault_at}
 use Rattle.lert_ingest.proofs.FaultOrder.{earliest_more, fault_there, seen_more}
 use Rattle.lert_ingest.proofs.faults.first_of_cones.Goals as goal

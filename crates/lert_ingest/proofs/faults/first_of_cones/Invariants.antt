@@ -1,7 +1,6 @@
 use Rattle.std.proofs.Common.{◌≡◌, ◌<◌, ℕ, Some, slice_get}
 use Rattle.lert_cone.specs.Stands.{Standing}
-use Rattle.lert_ingest.specs.Back.{IsSeen}
-use Rattle.lert_ingest.specs.Faults.{earliest, fault_at}
+use Rattle.lert_ingest.specs.{Back.IsSeen, Faults.{earliest, fault_at}}
 use Rattle.lert_ingest.proofs.faults.first_of_cones.Given as goal
 
 abbrev pub invariant-loop-cone : goal.invariant-loop-cone

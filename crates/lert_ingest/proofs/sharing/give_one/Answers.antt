@@ -1,10 +1,6 @@
-use Rattle.std.proofs.Common.{◌∙◌, ◌%◌, arith, length, ap}
-use Rattle.std.proofs.Math.Nat.{mod-le}
-use Rattle.std.proofs.lemmas.Nat.{mod_below}
-use Rattle.std.proofs.lemmas.Option.{slice_get-get_or}
+use Rattle.std.proofs.{Common.{◌∙◌, ◌%◌, arith, length, ap}, Math.Nat.mod-le, lemmas.Nat.mod_below, lemmas.Option.slice_get-get_or}
 use Rattle.lert_trace.specs.Reader.{Reading}
-use Rattle.lert_ingest.proofs.Pouring.{set_back}
-use Rattle.lert_ingest.proofs.Shared.{given_one}
+use Rattle.lert_ingest.proofs.{Pouring.set_back, Shared.given_one}
 use Rattle.lert_ingest.proofs.sharing.give_one.Goals as goal
 
 pub give-requires-clause-most : goal.give-requires-clause-most

@@ -1,8 +1,6 @@
-use Rattle.std.proofs.Common.{◌∙◌, ◌∷◌, ap, refl, subst, sym, arith}
-use Rattle.std.proofs.lemmas.List.{drop_all}
+use Rattle.std.proofs.{Common.{◌∙◌, ◌∷◌, ap, refl, subst, sym, arith}, lemmas.List.drop_all}
 use Rattle.lert_ingest.specs.Sharing.{AreManned}
-use Rattle.lert_ingest.proofs.Pouring.{given_rest, given_there}
-use Rattle.lert_ingest.proofs.Shared.{all_below, manned_more, manned_none}
+use Rattle.lert_ingest.proofs.{Pouring.{given_rest, given_there}, Shared.{all_below, manned_more, manned_none}}
 use Rattle.lert_ingest.proofs.sharing.give_traces.Goals as goal
 
 pub give_one-requires : goal.give_one-requires

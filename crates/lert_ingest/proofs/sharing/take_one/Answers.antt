@@ -1,5 +1,4 @@
-use Rattle.std.proofs.Common.{length}
-use Rattle.std.proofs.lemmas.Nat.{mod_below}
+use Rattle.std.proofs.{Common.length, lemmas.Nat.mod_below}
 use Rattle.lert_ingest.proofs.Shared.{none_first, taken_one}
 use Rattle.lert_ingest.proofs.sharing.take_one.Goals as goal
 

@@ -1,10 +1,6 @@
-use Rattle.std.proofs.Common.{◌+◌, ◌*◌, ◌≤◌, ◌∙◌, ap, length, le_of_eq, None, sym, subst, arith}
-use Rattle.std.proofs.lemmas.List.{length-map}
-use Rattle.lert_spec.specs.declared.numbers.Numbers.{Numbers}
-use Rattle.lert_spec.specs.Limits.{IsValid}
-use Rattle.lert_levels.specs.rows.Rows.{AreFirst}
-use Rattle.lert_levels.specs.streams.BinSet.{BinSet}
-use Rattle.lert_levels.specs.Sources.{sources, AreBegun}
+use Rattle.std.proofs.{Common.{◌+◌, ◌*◌, ◌≤◌, ◌∙◌, ap, length, le_of_eq, None, sym, subst, arith}, lemmas.List.length-map}
+use Rattle.lert_spec.specs.{declared.numbers.Numbers.Numbers, Limits.IsValid}
+use Rattle.lert_levels.specs.{rows.Rows.AreFirst, streams.BinSet.BinSet, Sources.{sources, AreBegun}}
 use Rattle.lert_levels.proofs.SourceLaws.{all_begun, begun_length, sources_few, sources_number}
 use Rattle.lert_levels.proofs.merger.begin_order.Given as given
 use Rattle.lert_levels.proofs.merger.begin_order.Goals.{After-read_rows}

@@ -1,10 +1,7 @@
 use Rattle.std.proofs.Common.{◌∙◌, [], sym, subst, arith}
 use Rattle.lert_spec.specs.Limits.{IsValid}
-use Rattle.lert_levels.specs.Merged.{IsMade, IsFrames, widths_of}
-use Rattle.lert_levels.specs.Sources.{sources}
-use Rattle.lert_levels.proofs.LandedLaws.{on_ok, begun_number, widths_number, begun_wide, made_of}
-use Rattle.lert_levels.proofs.PlacedLaws.{begun_breaks}
-use Rattle.lert_levels.proofs.SourceLaws.{begun_given, widths_small}
+use Rattle.lert_levels.specs.{Merged.{IsMade, IsFrames, widths_of}, Sources.sources}
+use Rattle.lert_levels.proofs.{LandedLaws.{on_ok, begun_number, widths_number, begun_wide, made_of}, PlacedLaws.begun_breaks, SourceLaws.{begun_given, widths_small}}
 use Rattle.lert_levels.proofs.merger.count_rows.Goals as goal
 
 pub begin_order-order-requires : goal.begin_order-order-requires

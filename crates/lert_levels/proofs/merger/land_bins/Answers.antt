@@ -1,14 +1,10 @@
-use Rattle.std.proofs.Common.{◌∙◌, ap, refl}
+use Rattle.std.proofs.{Common.{◌∙◌, ap, refl}, lemmas.Result.err_from_is_err_and}
 use Rattle.std.specs.Prelude.{Err}
-use Rattle.std.proofs.lemmas.Result.{err_from_is_err_and}
 use Rattle.lert_bay.specs.Kept.{Bays, seen_by}
 use Rattle.lert_bay.proofs.KeptLaws.{IsLawful, keeps_on, keeps_as}
 use Rattle.lert_frames.proofs.FaultLaws.{not_err}
 use Rattle.lert_levels.specs.landing.Landings.{IsOutside}
-use Rattle.lert_levels.proofs.rows.LandLaws.{rest_on, rest_fewer}
-use Rattle.lert_levels.proofs.rows.ReadLaws.{failed_there, malformed_there}
-use Rattle.lert_levels.proofs.ReachLaws.{no_place}
-use Rattle.lert_levels.proofs.ReadyLaws.{apart_same, stand_all}
+use Rattle.lert_levels.proofs.{rows.LandLaws.{rest_on, rest_fewer}, rows.ReadLaws.{failed_there, malformed_there}, ReachLaws.no_place, ReadyLaws.{apart_same, stand_all}}
 use Rattle.lert_levels.proofs.merger.land_bins.Given as given
 use Rattle.lert_levels.proofs.merger.land_bins.Goals as goal
 

@@ -1,16 +1,9 @@
 use Rattle.std.proofs.Common.{ℕ, ◌≡◌, ◌∙◌, Option, Some, Result, refl, sym, subst, le_refl}
 use Rattle.std.specs.Prelude.{Err, OnOk, IsErrOf}
-use Rattle.lert_bay.specs.declared.bay.TheConstants.{FRAMES}
-use Rattle.lert_bay.specs.Files.{Files}
-use Rattle.lert_bay.specs.Kept.{Bays, KeepsBay, seen_by}
+use Rattle.lert_bay.specs.{declared.bay.TheConstants.FRAMES, Files.Files, Kept.{Bays, KeepsBay, seen_by}}
 use Rattle.lert_bay.proofs.KeptLaws.{IsLawful, keeps_on}
-use Rattle.lert_levels.specs.rows.Landing.{AreApart}
-use Rattle.lert_levels.specs.rows.Loading.{OneBreaks}
-use Rattle.lert_levels.specs.rows.Rows.{AreFirst}
-use Rattle.lert_levels.specs.declared.rows.fault.FlushFault.{FlushFault}
-use Rattle.lert_levels.specs.declared.rows.fault.FlushFault.TheVariants.{Failed, Malformed}
-use Rattle.lert_levels.specs.Ready.{HasMade}
-use Rattle.lert_levels.specs.Sources.{AreSecure}
+use Rattle.lert_levels.specs.{rows.Landing.AreApart, rows.Loading.OneBreaks, rows.Rows.AreFirst, declared.rows.fault.FlushFault.FlushFault}
+use Rattle.lert_levels.specs.{declared.rows.fault.FlushFault.TheVariants.{Failed, Malformed}, Ready.HasMade, Sources.AreSecure}
 use Rattle.lert_levels.proofs.rows.LandLaws.{rest_on, read_rest}
 use Rattle.lert_spec.specs.declared.numbers.Numbers.{Numbers}
 use Rattle.lert_levels.proofs.merger.merge_rows.Given as given

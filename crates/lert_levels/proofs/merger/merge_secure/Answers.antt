@@ -1,30 +1,15 @@
-use Rattle.std.proofs.Common.{ℕ, ◌≡◌, ◌+◌, ◌*◌, ◌≤◌, ◌∙◌, List, vec_capacity, take, length, get_or, sym, subst, arith, Option, Some}
-use Rattle.std.proofs.lemmas.List.{length-take-le}
-use Rattle.lert_bay.specs.declared.bay.TheConstants.{FRAMES}
-use Rattle.lert_bay.specs.Files.{Files}
-use Rattle.lert_bay.specs.Kept.{Bays, seen_by}
+use Rattle.std.proofs.{Common.{ℕ, ◌≡◌, ◌+◌, ◌*◌, ◌≤◌, ◌∙◌, List, vec_capacity, take, length, get_or, sym, subst, arith, Option, Some}, lemmas.List.length-take-le}
+use Rattle.lert_bay.specs.{declared.bay.TheConstants.FRAMES, Files.Files, Kept.{Bays, seen_by}}
 use Rattle.lert_bay.proofs.KeptLaws.{IsLawful}
 use Rattle.lert_frames.specs.Frame.{HoldsFrame}
-use Rattle.lert_levels.specs.landing.Summed.{sums_of}
-use Rattle.lert_spec.specs.Edges.{span, capacity}
-use Rattle.std.specs.Prelude.{IsErrOf, sum}
-use Rattle.lert_levels.specs.flush.Merged.{AreParts, picked}
-use Rattle.lert_levels.specs.landing.Landings.{AreLandings, IsOutside}
-use Rattle.lert_frames.proofs.WriteLaws.{turns_back}
-use Rattle.lert_levels.specs.rows.Landing.{LeavesRest, AreApart}
-use Rattle.lert_levels.specs.declared.rows.fault.FlushFault.TheVariants.{Malformed}
-use Rattle.lert_levels.specs.rows.Loading.{OneBreaks}
-use Rattle.lert_levels.specs.rows.Rows.{AreFirst}
-use Rattle.lert_levels.proofs.rows.LandLaws.{rest_fewer}
-use Rattle.lert_spec.specs.Limits.{IsValid}
-use Rattle.lert_spec.specs.declared.numbers.Numbers.{Numbers}
-use Rattle.lert_levels.specs.Merged.{widths_of}
-use Rattle.lert_levels.specs.Parts.{parts_at, HaveParts}
-use Rattle.lert_levels.specs.Ready.{HasMade}
+use Rattle.lert_levels.specs.{landing.Summed.sums_of, flush.Merged.{AreParts, picked}, landing.Landings.{AreLandings, IsOutside}, rows.Landing.{LeavesRest, AreApart}}
+use Rattle.lert_levels.specs.{declared.rows.fault.FlushFault.TheVariants.Malformed, rows.Loading.OneBreaks, rows.Rows.AreFirst, Merged.widths_of, Parts.{parts_at, HaveParts}, Ready.HasMade}
 use Rattle.lert_levels.specs.Sources.{sources}
-use Rattle.lert_levels.proofs.LandedLaws.{on_ok, laid, begun_number, widths_number, begun_wide, made_of, parts_are, part_fits, apart_landings, reads_apart, has_made}
-use Rattle.lert_levels.proofs.PlacedLaws.{begun_breaks, begun_sure, breaks_stay}
-use Rattle.lert_levels.proofs.ReadyLaws.{landings_same, same_count, rest_landings, rest_count}
+use Rattle.lert_spec.specs.{Edges.{span, capacity}, Limits.IsValid, declared.numbers.Numbers.Numbers}
+use Rattle.std.specs.Prelude.{IsErrOf, sum}
+use Rattle.lert_frames.proofs.WriteLaws.{turns_back}
+use Rattle.lert_levels.proofs.{rows.LandLaws.rest_fewer, LandedLaws.{on_ok, laid, begun_number, widths_number, begun_wide, made_of, parts_are, part_fits, apart_landings, reads_apart, has_made}}
+use Rattle.lert_levels.proofs.{PlacedLaws.{begun_breaks, begun_sure, breaks_stay}, ReadyLaws.{landings_same, same_count, rest_landings, rest_count}}
 use Rattle.lert_levels.proofs.SourceLaws.{begun_given, begun_limit, widths_small}
 use Rattle.lert_levels.proofs.merger.merge_secure.Given as given
 use Rattle.lert_levels.proofs.merger.merge_secure.Goals as goal

@@ -1,15 +1,7 @@
 use Rattle.std.proofs.Common.{ℕ, ◌≡◌, ◌+◌, ◌<◌, ◌≤◌, ◌∙◌, List, [], get_or, length, subst, sym, ap, arith, length-set}
-use Rattle.lert_levels.specs.landing.Landed.{taken, IsLanding}
-use Rattle.lert_levels.specs.declared.landing.landing.Landing.{Landing}
-use Rattle.lert_levels.specs.declared.rows.bin_at.BinAt.{BinAt}
-use Rattle.lert_levels.specs.rows.Landing.{landing_frame}
-use Rattle.lert_levels.specs.rows.Rows.{arrived}
-use Rattle.lert_levels.proofs.rows.LandLaws.{landing_within}
-use Rattle.lert_levels.proofs.rows.ReadLaws.{row_here}
-use Rattle.lert_spec.specs.declared.numbers.Numbers.{Numbers}
-use Rattle.lert_spec.specs.Limits.{IsValid}
-use Rattle.lert_levels.proofs.ReadyLaws.{set_more, landings_set}
-use Rattle.lert_levels.proofs.merger.start_landings.Goals.{After-bins, After-from}
+use Rattle.lert_levels.specs.{landing.Landed.{taken, IsLanding}, declared.landing.landing.Landing.Landing, declared.rows.bin_at.BinAt.BinAt, rows.Landing.landing_frame, rows.Rows.arrived}
+use Rattle.lert_levels.proofs.{rows.LandLaws.landing_within, rows.ReadLaws.row_here, ReadyLaws.{set_more, landings_set}, merger.start_landings.Goals.{After-bins, After-from}}
+use Rattle.lert_spec.specs.{declared.numbers.Numbers.Numbers, Limits.IsValid}
 use Rattle.lert_levels.proofs.merger.start_landings.Goals as goal
 
 -- the level's row

@@ -1,8 +1,5 @@
 use Rattle.std.proofs.Common.{ℕ, ◌≡◌, ◌<◌, List, [], length, get_or}
-use Rattle.lert_levels.specs.landing.Landed.{taken, IsLanding}
-use Rattle.lert_levels.specs.landing.Landings.{AreLandings}
-use Rattle.lert_levels.specs.declared.landing.landing.Landing.{Landing}
-use Rattle.lert_levels.specs.rows.Landing.{landing_frame}
+use Rattle.lert_levels.specs.{landing.Landed.{taken, IsLanding}, landing.Landings.AreLandings, declared.landing.landing.Landing.Landing, rows.Landing.landing_frame}
 use Rattle.lert_levels.proofs.merger.start_landings.Given as goal
 
 -- the landings so far begin at their frames

@@ -1,5 +1,4 @@
-use Rattle.std.proofs.Common.{◌≡◌, ◌++◌, ◌∷◌, ◌∙◌, [], None, replicate, true, ap, sym, arith, append-nil}
-use Rattle.std.proofs.lemmas.Bool.{cond-true}
+use Rattle.std.proofs.{Common.{◌≡◌, ◌++◌, ◌∷◌, ◌∙◌, [], None, replicate, true, ap, sym, arith, append-nil}, lemmas.Bool.cond-true}
 use Rattle.std.specs.Result.{is_ok}
 use Rattle.lert_levels.proofs.PartLaws.{one_added}
 use Rattle.lert_levels.proofs.parts.add_streams.Goals as goal

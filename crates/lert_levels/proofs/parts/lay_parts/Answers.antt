@@ -1,8 +1,6 @@
 use Rattle.std.proofs.Common.{◌≡◌, ◌+◌, ◌<◌, ◌∙◌, ◌++◌, None, replicate, length, ap, sym, subst, arith, add-one, refl}
 use Rattle.lert_levels.specs.Parts.{ArePartsOf, streams_to, oldest_stream, newest_stream, part_at, set_two}
-use Rattle.lert_levels.proofs.PartLaws.{IsAdded, level_added, streams_more, streams_few_more, parts_none, some_streams}
-use Rattle.lert_levels.proofs.rows.ReadLaws.{row_here}
-use Rattle.lert_levels.proofs.parts.lay_parts.Goals.{After-add_streams-in-loop-lower}
+use Rattle.lert_levels.proofs.{PartLaws.{IsAdded, level_added, streams_more, streams_few_more, parts_none, some_streams}, rows.ReadLaws.row_here, parts.lay_parts.Goals.After-add_streams-in-loop-lower}
 use Rattle.lert_levels.proofs.parts.lay_parts.Goals as goal
 
 -- the row's streams, once they are added

@@ -1,12 +1,7 @@
-use Rattle.std.proofs.Common.{◌≡◌, ◌+◌, ◌*◌, ◌≤◌, ◌∙◌, ◌++◌, List, map, take, subst, sym, ap, arith, append-nil, add-one}
-use Rattle.std.proofs.Math.Nat.{mul-suc, mul-le-mul_left}
-use Rattle.std.proofs.lemmas.List.{take_all}
+use Rattle.std.proofs.{Common.{◌≡◌, ◌+◌, ◌*◌, ◌≤◌, ◌∙◌, ◌++◌, List, map, take, subst, sym, ap, arith, append-nil, add-one}, Math.Nat.{mul-suc, mul-le-mul_left}, lemmas.List.take_all}
 use Rattle.lert_spec.specs.declared.numbers.Numbers.{Numbers}
-use Rattle.lert_levels.specs.declared.rows.bin_at.BinAt.{BinAt}
-use Rattle.lert_levels.specs.rows.Rows.{IsRow}
-use Rattle.lert_levels.proofs.rows.ReadLaws.{row_here, hand_to}
-use Rattle.lert_levels.specs.Sources.{Source, of_bin, placed, placed_at, AreBegun}
-use Rattle.lert_levels.proofs.PlacedLaws.{begun_row}
+use Rattle.lert_levels.specs.{declared.rows.bin_at.BinAt.BinAt, rows.Rows.IsRow, Sources.{Source, of_bin, placed, placed_at, AreBegun}}
+use Rattle.lert_levels.proofs.{rows.ReadLaws.{row_here, hand_to}, PlacedLaws.begun_row}
 use Rattle.lert_levels.proofs.reading.read_rows.Goals as goal
 
 pub read_row-requires-clause-last : goal.read_row-requires-clause-last

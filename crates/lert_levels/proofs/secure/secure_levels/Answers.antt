@@ -1,19 +1,12 @@
-use Rattle.std.proofs.Common.{◌≡◌, ◌+◌, ◌∙◌, [], get_or, map, subst, arith}
-use Rattle.std.proofs.lemmas.List.{take_all}
-use Rattle.std.proofs.lemmas.Result.{err_from_is_err_and}
+use Rattle.std.proofs.{Common.{◌≡◌, ◌+◌, ◌∙◌, [], get_or, map, subst, arith}, lemmas.List.take_all, lemmas.Result.err_from_is_err_and}
 use Rattle.lert_bay.specs.declared.bay.TheConstants.{FRAMES}
 use Rattle.lert_bay.proofs.KeptLaws.{IsLawful, reads_none, reads_on, reads_as}
-use Rattle.lert_frames.proofs.FaultLaws.{not_err}
-use Rattle.lert_frames.proofs.WriteLaws.{same_err}
+use Rattle.lert_frames.proofs.{FaultLaws.not_err, WriteLaws.same_err}
 use Rattle.lert_spec.specs.declared.numbers.Numbers.{Numbers}
-use Rattle.lert_levels.specs.rows.Loading.{RowBreaks}
-use Rattle.lert_levels.specs.rows.Rows.{IsRow}
-use Rattle.lert_levels.proofs.rows.ReadLaws.{row_here, hand_from}
-use Rattle.lert_levels.specs.Sources.{of_bin, placed_at, AllOf, IsSecure, AreSecure}
-use Rattle.lert_levels.proofs.PlacedLaws.{rows_more}
+use Rattle.lert_levels.specs.{rows.Loading.RowBreaks, rows.Rows.IsRow, Sources.{of_bin, placed_at, AllOf, IsSecure, AreSecure}}
+use Rattle.lert_levels.proofs.{rows.ReadLaws.{row_here, hand_from}, PlacedLaws.rows_more}
 use Rattle.lert_levels.proofs.secure.secure_levels.Given as given
-use Rattle.lert_levels.proofs.secure.secure_levels.Invariants.{bays}
-use Rattle.lert_levels.proofs.secure.secure_levels.Goals.{After-bins}
+use Rattle.lert_levels.proofs.{secure.secure_levels.Invariants.bays, secure.secure_levels.Goals.After-bins}
 use Rattle.lert_levels.proofs.secure.secure_levels.Goals as goal
 
 lawful : (g : given.Over) → IsLawful (bays g)

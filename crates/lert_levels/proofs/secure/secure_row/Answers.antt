@@ -1,17 +1,11 @@
-use Rattle.std.proofs.Common.{ℕ, ◌≡◌, ◌+◌, ◌≤◌, ◌∙◌, ◌⊎◌, Some, None, get_or, length, map, refl, subst, arith}
-use Rattle.std.proofs.lemmas.List.{take_all}
-use Rattle.std.proofs.lemmas.List.Elements.{Contains-get_or}
+use Rattle.std.proofs.{Common.{ℕ, ◌≡◌, ◌+◌, ◌≤◌, ◌∙◌, ◌⊎◌, Some, None, get_or, length, map, refl, subst, arith}, lemmas.List.take_all, lemmas.List.Elements.Contains-get_or}
 use Rattle.std.proofs.lemmas.Result.{err_from_is_err_and}
 use Rattle.lert_bay.specs.declared.bay.TheConstants.{FRAMES}
 use Rattle.lert_bay.proofs.KeptLaws.{IsLawful, reads_none, reads_on, reads_as}
-use Rattle.lert_frames.specs.Frame.{frame_left}
-use Rattle.lert_frames.specs.Place.{frame_place, frame_len}
-use Rattle.lert_frames.proofs.FaultLaws.{not_err}
-use Rattle.lert_frames.proofs.WriteLaws.{same_err}
+use Rattle.lert_frames.specs.{Frame.frame_left, Place.{frame_place, frame_len}}
+use Rattle.lert_frames.proofs.{FaultLaws.not_err, WriteLaws.same_err}
 use Rattle.lert_spec.specs.declared.numbers.Numbers.{Numbers}
-use Rattle.lert_levels.specs.rows.Rows.{no_bin}
-use Rattle.lert_levels.specs.rows.Loading.{width_of}
-use Rattle.lert_levels.specs.Sources.{of_bin, placed_at, AllOf, IsSecure}
+use Rattle.lert_levels.specs.{rows.Rows.no_bin, rows.Loading.width_of, Sources.{of_bin, placed_at, AllOf, IsSecure}}
 use Rattle.lert_levels.proofs.PlacedLaws.{row_more}
 use Rattle.lert_levels.proofs.secure.secure_row.Given as given
 use Rattle.lert_levels.proofs.secure.secure_row.Invariants.{bays}

@@ -1,12 +1,9 @@
-use Rattle.std.proofs.Common.{◌≡◌, ◌∙◌, ap, arith, refl}
+use Rattle.std.proofs.{Common.{◌≡◌, ◌∙◌, ap, arith, refl}, lemmas.Result.err_from_is_err_and}
 use Rattle.std.specs.Prelude.{Err}
-use Rattle.std.proofs.lemmas.Result.{err_from_is_err_and}
-use Rattle.lert_bay.specs.declared.bay.TheConstants.{JOURNAL}
-use Rattle.lert_bay.specs.Kept.{Bays, seen_by}
+use Rattle.lert_bay.specs.{declared.bay.TheConstants.JOURNAL, Kept.{Bays, seen_by}}
 use Rattle.lert_bay.proofs.KeptLaws.{IsLawful, reads_on, reads_as, reads_call}
 use Rattle.lert_frames.proofs.FaultLaws.{not_err}
-use Rattle.lert_levels.proofs.rows.ReadLaws.{failed_there, malformed_there}
-use Rattle.lert_levels.proofs.ReachLaws.{no_place}
+use Rattle.lert_levels.proofs.{rows.ReadLaws.{failed_there, malformed_there}, ReachLaws.no_place}
 use Rattle.lert_levels.proofs.secure.secure_rows.Given as given
 use Rattle.lert_levels.proofs.secure.secure_rows.Goals as goal
 

@@ -1,5 +1,4 @@
-use Rattle.std.proofs.Common.{◌≡◌, ◌+◌, ◌-◌, ◌++◌, take, drop, ap, sym, ◌∙◌, arith, refl, append-nil}
-use Rattle.std.proofs.lemmas.List.{length-set}
+use Rattle.std.proofs.{Common.{◌≡◌, ◌+◌, ◌-◌, ◌++◌, take, drop, ap, sym, ◌∙◌, arith, refl, append-nil}, lemmas.List.length-set}
 use Rattle.lert_text.specs.Drill.{hexadecimal}
 use Rattle.lert_text.proofs.Digits.{one_more}
 use Rattle.lert_text.proofs.hexadecimal.push_hexadecimal.Goals as goal

@@ -1,7 +1,5 @@
-use Rattle.std.proofs.Common.{◌++◌, length, take, drop, arith, ap, sym, ◌∙◌, subst, append-nil}
+use Rattle.std.proofs.{Common.{◌++◌, length, take, drop, arith, ap, sym, ◌∙◌, subst, append-nil}, lemmas.List.take_all, lemmas.Result.err_from_is_err_and}
 use Rattle.std.specs.List.{flat_map}
-use Rattle.std.proofs.lemmas.List.{take_all}
-use Rattle.std.proofs.lemmas.Result.{err_from_is_err_and}
 use Rattle.lert_spec.specs.Lines.{cone_line, report_line}
 use Rattle.lert_text.specs.Page.{IsPrinting, IsCut}
 use Rattle.lert_text.proofs.Printing.{IsCut-more, reports-more, reports-rest}

@@ -1,5 +1,4 @@
-use Rattle.std.proofs.Common.{◌++◌, subst}
-use Rattle.std.proofs.lemmas.Result.{err_from_is_err_and}
+use Rattle.std.proofs.{Common.{◌++◌, subst}, lemmas.Result.err_from_is_err_and}
 use Rattle.lert_spec.specs.Lines.{total_line}
 use Rattle.lert_text.specs.Page.{IsPrinting}
 use Rattle.lert_text.proofs.Printing.{IsCut-more}

@@ -1,30 +1,15 @@
-use Rattle.std.proofs.Common.{◌≡◌, ◌≢◌, ◌⊎◌, ◌^◌, ◌<◌, ◌≤◌, List, [], ℕ, Some, false, length, refl, sym, ap, ◌∙◌, inl, inr, subst, arith}
-use Rattle.std.proofs.Math.Dec.{eqb}
-use Rattle.lert_args.specs.Command.{command, usage}
-use Rattle.lert_args.specs.Names.{names_of}
-use Rattle.lert_args.specs.declared.line.Line.{Line}
-use Rattle.lert_args.specs.declared.line.Line.TheVariants.{Run, Recover, Gen, Drill}
-use Rattle.lert_args.specs.Word.{word_at}
+use Rattle.std.proofs.{Common.{◌≡◌, ◌≢◌, ◌⊎◌, ◌^◌, ◌<◌, ◌≤◌, List, [], ℕ, Some, false, length, refl, sym, ap, ◌∙◌, inl, inr, subst, arith}, Math.Dec.eqb}
+use Rattle.lert_args.specs.{Command.{command, usage}, Names.names_of, declared.line.Line.Line, declared.line.Line.TheVariants.{Run, Recover, Gen, Drill}, Word.word_at}
 use Rattle.lert_args.proofs.SoundLines.{AreBelow, along_drill, along_gen, along_recover, along_run, command_number, drill_keeps, gen_keeps, recover_placed, run_keeps, run_placed, word_at-slice_get}
-use Rattle.lert_top.specs.drills.Drilled.{DrillShows, drill_memory}
-use Rattle.lert_ingest.specs.declared.status.Status.TheVariants.{Done, OutOfMemory, PlaceFault, Usage}
-use Rattle.lert_ingest.specs.Bays.{AreLater}
-use Rattle.lert_top.specs.cones.Asked.{IsAsked, IsAskedForBays}
-use Rattle.lert_top.proofs.cones.AskedLaws.{nothing_handed}
-use Rattle.lert_top.proofs.cones.StatusLaws.{no_memory_no_place, no_memory_no_usage, no_memory_not_done, some_is}
-use Rattle.lert_top.specs.cones.Closed.{AreReturnedClosed}
-use Rattle.lert_top.specs.runs.Ran.{HasPutBack}
-use Rattle.lert_top.specs.runs.Run.{HasRun}
-use Rattle.lert_top.proofs.runs.RunLaws.{run_none}
+use Rattle.lert_top.specs.{drills.Drilled.{DrillShows, drill_memory}, cones.Asked.{IsAsked, IsAskedForBays}, cones.Closed.AreReturnedClosed, runs.Ran.HasPutBack, runs.Run.HasRun}
+use Rattle.lert_top.specs.{recovery.Recovered.HasRecovered, Generated.TraceShows, recovery.Moments.AreReturnedSpared}
+use Rattle.lert_ingest.specs.{declared.status.Status.TheVariants.{Done, OutOfMemory, PlaceFault, Usage}, Bays.AreLater}
+use Rattle.lert_top.proofs.{cones.AskedLaws.nothing_handed, cones.StatusLaws.{no_memory_no_place, no_memory_no_usage, no_memory_not_done, some_is}, runs.RunLaws.run_none}
+use Rattle.lert_top.proofs.{NoLine.{below_none, later_none, put_back_none, recovered_none, rule_is, sound_none, usage_not_place}, OtherLines.{none_back, none_back_same, of_another, of_no_rule}}
 use Rattle.lert_spec.specs.declared.numbers.Numbers.{Numbers}
-use Rattle.lert_top.specs.recovery.Recovered.{HasRecovered}
 use Rattle.std.specs.Prelude.{slice_get}
 use Rattle.lert_bay.specs.Kept.{Bays, seen_by}
 use Rattle.lert_place.specs.Openings.{AreReturned, bays_granted, traces_granted}
-use Rattle.lert_top.specs.Generated.{TraceShows}
-use Rattle.lert_top.proofs.NoLine.{below_none, later_none, put_back_none, recovered_none, rule_is, sound_none, usage_not_place}
-use Rattle.lert_top.proofs.OtherLines.{none_back, none_back_same, of_another, of_no_rule}
-use Rattle.lert_top.specs.recovery.Moments.{AreReturnedSpared}
 use Rattle.lert_top.proofs.top.run.Given as given
 use Rattle.lert_top.proofs.top.run.Goals.{In-Err-Usage}
 use Rattle.lert_top.proofs.top.run.Goals as goal

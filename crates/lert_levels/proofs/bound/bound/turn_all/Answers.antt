@@ -1,7 +1,4 @@
-use Rattle.std.proofs.Common.{◌<◌, length, arith}
-use Rattle.std.proofs.Math.ListN.{get_or}
-use Rattle.std.proofs.lemmas.List.{get_or_default}
-use Rattle.std.proofs.lemmas.List.Edits.{map_over_more}
+use Rattle.std.proofs.{Common.{◌<◌, length, arith}, Math.ListN.get_or, lemmas.List.get_or_default, lemmas.List.Edits.map_over_more}
 use Rattle.lert_levels.specs.bound.Bytes.{nothing, turned}
 use Rattle.lert_levels.proofs.bound.bound.turn_all.Goals as goal
 

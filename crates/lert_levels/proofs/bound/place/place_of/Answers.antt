@@ -1,7 +1,5 @@
-use Rattle.std.proofs.Common.{◌≡◌, ◌-◌, ◌^◌, ◌%◌, ◌<◌, ap, sym, ◌∙◌, bit_and, w64}
+use Rattle.std.proofs.{Common.{◌≡◌, ◌-◌, ◌^◌, ◌%◌, ◌<◌, ap, sym, ◌∙◌, bit_and, w64}, lemmas.Nat.{one_shl, and_mask}, lemmas.Nat.Bits.bit_at-trailing_zeros}
 use Rattle.std.specs.Int.{trailing_zeros}
-use Rattle.std.proofs.lemmas.Nat.{one_shl, and_mask}
-use Rattle.std.proofs.lemmas.Nat.Bits.{bit_at-trailing_zeros}
 use Rattle.lert_levels.proofs.bound.place.place_of.Goals as goal
 
 -- The number is the power of two that was asked for, and its mask leaves the remainder.

@@ -3,8 +3,7 @@ use Rattle.std.{proofs.Common.{ℕ, ◌≡◌, ◌<◌, ◌∙◌, None, Some, O
 use Rattle.lert_bay.proofs.KeptLaws.{IsLawful}
 use Rattle.lert_base.specs.declared.pieces.PieceFault.TheVariants.{Failed}
 use Rattle.lert_levels.{specs.landing.Landed.CanTake, specs.landing.Summed.sums_of, specs.declared.landing.landing.Landing.Landing, specs.landing.Landings.IsOutside, specs.rows.Landing.LeavesRest}
-use Rattle.lert_levels.proofs.flush.BoundLaws.{came_fits, all_fit, can_take, left_less}
-use Rattle.lert_levels.proofs.flush.GatheringLaws.{breaks_back, sound_by, taken_all, within, up_so_far}
+use Rattle.lert_levels.proofs.{flush.BoundLaws.{came_fits, all_fit, can_take, left_less}, flush.GatheringLaws.{breaks_back, sound_by, taken_all, within, up_so_far}}
 use Rattle.lert_levels.{proofs.flush.MergingLaws.{merging_none, merging_more, given_at, none_at, if_some, is_own, never_failed, table_of}, proofs.flush.WholeLaws.told_still}
 use Rattle.lert_levels.proofs.flush.SteadyLaws.{AreSteady, landings_same, writes_read, writes_on, writes_as, reads_failed}
 use Rattle.lert_frames.{proofs.CallLaws.{keeps_turned}}

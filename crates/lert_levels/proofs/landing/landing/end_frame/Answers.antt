@@ -1,13 +1,11 @@
 use Rattle.std.proofs.Common.{◌++◌, Option, append-nil, refl, ap, sym, ◌∙◌}
 use Rattle.std.specs.Prelude.{option_to_list}
-use Rattle.lert_bay.specs.declared.bay.TheConstants.{FRAMES}
-use Rattle.lert_bay.specs.Kept.{Bays, seen_by}
+use Rattle.lert_bay.specs.{declared.bay.TheConstants.FRAMES, Kept.{Bays, seen_by}}
 use Rattle.lert_bay.proofs.KeptLaws.{IsLawful, keeps_on}
 use Rattle.lert_frames.proofs.WriteLaws.{on_ok}
 use Rattle.lert_levels.specs.rows.Landing.{IsApart}
-use Rattle.lert_levels.proofs.rows.LandLaws.{within_rest, rest_on}
+use Rattle.lert_levels.proofs.{rows.LandLaws.{within_rest, rest_on}, landing.LandingLaws.{holds_turned, rest_turned}}
 use Rattle.lert_spec.specs.declared.piece.Piece.{Piece}
-use Rattle.lert_levels.proofs.landing.LandingLaws.{holds_turned, rest_turned}
 use Rattle.lert_levels.proofs.landing.landing.end_frame.Given as given
 use Rattle.lert_levels.proofs.landing.landing.end_frame.Goals as goal
 

@@ -1,12 +1,8 @@
-use Rattle.std.proofs.Common.{List, map, get_or, set, ap, sym, ◌∙◌}
-use Rattle.std.proofs.lemmas.List.{get_or_default, map-set}
+use Rattle.std.proofs.{Common.{List, map, get_or, set, ap, sym, ◌∙◌}, lemmas.List.{get_or_default, map-set}}
 use Rattle.lert_bay.specs.Kept.{Bays, seen_by}
-use Rattle.lert_frames.proofs.WithinLaws.{turns_to}
-use Rattle.lert_frames.proofs.WriteLaws.{on_ok, on_err_from}
-use Rattle.lert_levels.specs.rows.Landing.{IsApart, LeavesRest}
-use Rattle.lert_spec.specs.declared.piece.Piece.{Piece}
-use Rattle.lert_spec.specs.Table.{plus}
-use Rattle.lert_levels.specs.landing.Landed.{taken}
+use Rattle.lert_frames.proofs.{WithinLaws.turns_to, WriteLaws.{on_ok, on_err_from}}
+use Rattle.lert_levels.specs.{rows.Landing.{IsApart, LeavesRest}, landing.Landed.taken}
+use Rattle.lert_spec.specs.{declared.piece.Piece.Piece, Table.plus}
 use Rattle.lert_levels.proofs.landing.LandingsLaws.{apart_one, homes_set, taken_here, others_set, landing_set}
 use Rattle.lert_levels.proofs.landing.landings.add_to.Given as given
 use Rattle.lert_levels.proofs.landing.landings.add_to.Goals as goal

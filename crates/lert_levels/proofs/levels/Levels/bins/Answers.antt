@@ -1,8 +1,6 @@
 use Rattle.std.proofs.Common.{◌-◌, ◌∙◌, ap, sym, arith}
-use Rattle.lert_levels.specs.rows.Rows.{row_of}
-use Rattle.lert_levels.proofs.rows.ReadLaws.{row_here}
-use Rattle.lert_levels.specs.OnDisk.{OnDisk}
-use Rattle.lert_levels.proofs.LevelLaws.{level_row}
+use Rattle.lert_levels.specs.{rows.Rows.row_of, OnDisk.OnDisk}
+use Rattle.lert_levels.proofs.{rows.ReadLaws.row_here, LevelLaws.level_row}
 use Rattle.lert_levels.proofs.levels.Levels.bins.Goals as goal
 
 pub overflow_sub-level : goal.overflow_sub-level

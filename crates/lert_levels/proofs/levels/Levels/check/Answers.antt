@@ -1,23 +1,12 @@
-use Rattle.std.proofs.Common.{ℕ, ◌≡◌, ◌∙◌, List, Some, None, ap, sym, subst, arith}
+use Rattle.std.proofs.{Common.{ℕ, ◌≡◌, ◌∙◌, List, Some, None, ap, sym, subst, arith}, lemmas.Option.none-some, lemmas.Result.err_from_is_err_and}
 use Rattle.std.specs.Prelude.{Err}
-use Rattle.std.proofs.lemmas.Option.{none-some}
-use Rattle.std.proofs.lemmas.Result.{err_from_is_err_and}
-use Rattle.lert_bay.specs.declared.bay.TheConstants.{FRAMES}
-use Rattle.lert_bay.specs.Files.{IfTold}
-use Rattle.lert_bay.specs.Kept.{Bays, seen_by}
+use Rattle.lert_bay.specs.{declared.bay.TheConstants.FRAMES, Files.IfTold, Kept.{Bays, seen_by}}
 use Rattle.lert_bay.proofs.KeptLaws.{IsLawful, reads_as}
 use Rattle.lert_base.specs.declared.pieces.PieceFault.TheVariants.{Malformed}
 use Rattle.lert_frames.proofs.FaultLaws.{not_err}
-use Rattle.lert_spec.specs.declared.numbers.Numbers.{Numbers}
-use Rattle.lert_spec.specs.Limits.{IsValid}
-use Rattle.lert_levels.specs.declared.rows.bin_at.BinAt.{BinAt}
-use Rattle.lert_levels.specs.rows.Checked.{EachStands, rows_left}
-use Rattle.lert_levels.specs.OnDisk.{OnDisk}
-use Rattle.lert_levels.specs.rows.Rows.{AreFirst, AreRows}
-use Rattle.lert_levels.proofs.rows.CheckLaws.{all_whole, check_refuses, check_passes}
-use Rattle.lert_levels.proofs.rows.HeldLaws.{all_stand}
-use Rattle.lert_levels.proofs.rows.ReadLaws.{failed_there, malformed_there}
-use Rattle.lert_levels.proofs.LevelLaws.{read_on}
+use Rattle.lert_spec.specs.{declared.numbers.Numbers.Numbers, Limits.IsValid}
+use Rattle.lert_levels.specs.{declared.rows.bin_at.BinAt.BinAt, rows.Checked.{EachStands, rows_left}, OnDisk.OnDisk, rows.Rows.{AreFirst, AreRows}}
+use Rattle.lert_levels.proofs.{rows.CheckLaws.{all_whole, check_refuses, check_passes}, rows.HeldLaws.all_stand, rows.ReadLaws.{failed_there, malformed_there}, LevelLaws.read_on}
 use Rattle.lert_levels.proofs.rows.RowLaws.{all_rows}
 use Rattle.lert_levels.proofs.levels.Levels.check.Given as given
 use Rattle.lert_levels.proofs.levels.Levels.check.Goals.{After-check_rows}

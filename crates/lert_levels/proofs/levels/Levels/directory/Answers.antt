@@ -1,6 +1,5 @@
 use Rattle.std.proofs.Common.{◌∙◌, ap, sym, subst}
-use Rattle.lert_levels.specs.OnDisk.{OnDisk}
-use Rattle.lert_levels.specs.rows.Rows.{AreRows, directory_text}
+use Rattle.lert_levels.specs.{OnDisk.OnDisk, rows.Rows.{AreRows, directory_text}}
 use Rattle.lert_levels.proofs.levels.Levels.directory.Goals as goal
 
 pub returns-clause-restores : goal.returns-clause-restores

@@ -1,23 +1,12 @@
-use Rattle.std.proofs.Common.{◌-◌, ◌≤◌, ◌∙◌, take, refl, ap, sym, subst, arith}
+use Rattle.std.proofs.{Common.{◌-◌, ◌≤◌, ◌∙◌, take, refl, ap, sym, subst, arith}, lemmas.Result.err_from_is_err_and}
 use Rattle.std.specs.Prelude.{Err}
-use Rattle.std.proofs.lemmas.Result.{err_from_is_err_and}
-use Rattle.lert_bay.specs.declared.bay.TheConstants.{FRAMES}
-use Rattle.lert_bay.specs.Kept.{Bays, seen_by}
+use Rattle.lert_bay.specs.{declared.bay.TheConstants.FRAMES, Kept.{Bays, seen_by}}
 use Rattle.lert_bay.proofs.KeptLaws.{IsLawful, keeps_on, keeps_as}
-use Rattle.lert_frames.proofs.FaultLaws.{not_err}
-use Rattle.lert_frames.proofs.WriteLaws.{same_err}
+use Rattle.lert_frames.proofs.{FaultLaws.not_err, WriteLaws.same_err}
 use Rattle.lert_spec.specs.Edges.{capacity, depth}
-use Rattle.lert_levels.specs.Flushed.{InNamed}
-use Rattle.lert_levels.specs.Merged.{IsFrames}
-use Rattle.lert_levels.specs.OnDisk.{OnDisk}
-use Rattle.lert_levels.specs.rows.Landing.{AreApart, Anywhere}
-use Rattle.lert_levels.specs.rows.Rows.{IsAt, moved, tallied_in}
-use Rattle.lert_levels.proofs.rows.LandLaws.{rest_on, rest_fewer}
-use Rattle.lert_levels.proofs.rows.RowLaws.{IsAt-moved}
-use Rattle.lert_levels.proofs.FlushLaws.{made_took, made_taken}
-use Rattle.lert_levels.proofs.HoldLaws.{rows_stand}
-use Rattle.lert_levels.proofs.ReachLaws.{failed_by, no_break, no_place, reached_first, has_moved, apart}
-use Rattle.lert_levels.proofs.ArrivalLaws.{deep}
+use Rattle.lert_levels.specs.{Flushed.InNamed, Merged.IsFrames, OnDisk.OnDisk, rows.Landing.{AreApart, Anywhere}, rows.Rows.{IsAt, moved, tallied_in}}
+use Rattle.lert_levels.proofs.{rows.LandLaws.{rest_on, rest_fewer}, rows.RowLaws.IsAt-moved, FlushLaws.{made_took, made_taken}, HoldLaws.rows_stand}
+use Rattle.lert_levels.proofs.{ReachLaws.{failed_by, no_break, no_place, reached_first, has_moved, apart}, ArrivalLaws.deep}
 use Rattle.lert_levels.proofs.levels.Levels.flush.Given as given
 use Rattle.lert_levels.proofs.levels.Levels.flush.Goals as goal
 

@@ -1,23 +1,10 @@
-use Rattle.std.proofs.Common.{◌≡◌, ◌+◌, ◌*◌, ◌-◌, ◌≤◌, ◌∙◌, ◌++◌, List, take, drop, length, ap, sym, subst, arith}
-use Rattle.std.specs.Prelude.{OnOk, vec_capacity}
-use Rattle.std.proofs.lemmas.List.{length-take, length-take-le}
-use Rattle.lert_bay.specs.declared.bay.TheConstants.{FRAMES}
-use Rattle.lert_bay.specs.Kept.{Bays, seen_by}
-use Rattle.lert_levels.specs.landing.Landings.{AreLandings}
-use Rattle.lert_levels.specs.declared.landing.landing.Landing.{Landing}
-use Rattle.lert_levels.specs.declared.rows.bin_at.BinAt.{BinAt}
-use Rattle.lert_levels.specs.rows.Landing.{AreApart, KeepsRest}
-use Rattle.lert_levels.specs.rows.Loading.{OneBreaks}
-use Rattle.lert_levels.specs.rows.Rows.{AreRows}
-use Rattle.lert_levels.proofs.rows.MoveLaws.{written_back}
-use Rattle.lert_spec.specs.Edges.{capacity, depth, span}
-use Rattle.lert_spec.specs.Bins.{Bin}
-use Rattle.std.specs.List.{All}
-use Rattle.lert_spec.specs.Limits.{IsValid}
-use Rattle.lert_spec.specs.declared.numbers.Numbers.{Numbers}
-use Rattle.lert_levels.specs.OnDisk.{OnDisk}
-use Rattle.lert_levels.specs.Ready.{AreReached, HasMade}
-use Rattle.lert_levels.proofs.ReachLaws.{held, turned, reached_are, young_some}
+use Rattle.std.proofs.{Common.{◌≡◌, ◌+◌, ◌*◌, ◌-◌, ◌≤◌, ◌∙◌, ◌++◌, List, take, drop, length, ap, sym, subst, arith}, lemmas.List.{length-take, length-take-le}}
+use Rattle.std.specs.{Prelude.{OnOk, vec_capacity}, List.All}
+use Rattle.lert_bay.specs.{declared.bay.TheConstants.FRAMES, Kept.{Bays, seen_by}}
+use Rattle.lert_levels.specs.{landing.Landings.AreLandings, declared.landing.landing.Landing.Landing, declared.rows.bin_at.BinAt.BinAt, rows.Landing.{AreApart, KeepsRest}, rows.Loading.OneBreaks}
+use Rattle.lert_levels.specs.{rows.Rows.AreRows, OnDisk.OnDisk, Ready.{AreReached, HasMade}}
+use Rattle.lert_levels.proofs.{rows.MoveLaws.written_back, ReachLaws.{held, turned, reached_are, young_some}}
+use Rattle.lert_spec.specs.{Edges.{capacity, depth, span}, Bins.Bin, Limits.IsValid, declared.numbers.Numbers.Numbers}
 use Rattle.lert_levels.proofs.levels.Levels.merge.Given as given
 use Rattle.lert_levels.proofs.levels.Levels.merge.Goals as goal
 use Rattle.lert_levels.proofs.levels.Levels.merge.Goals.{After-depth-depth}

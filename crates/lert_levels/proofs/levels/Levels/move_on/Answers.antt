@@ -1,10 +1,7 @@
 use Rattle.std.proofs.Common.{◌≤◌, ◌++◌, ◌∙◌, ap, length, take, drop, sym, subst}
-use Rattle.lert_spec.specs.Edges.{capacity}
-use Rattle.lert_spec.specs.Limits.{IsValid}
-use Rattle.lert_levels.specs.OnDisk.{OnDisk}
-use Rattle.lert_levels.specs.rows.Rows.{AreRows, moved}
-use Rattle.lert_levels.proofs.LevelLaws.{moved_back, moved_rows, room_for, kept_on}
-use Rattle.lert_levels.proofs.levels.Levels.move_on.Goals.{After-deref}
+use Rattle.lert_spec.specs.{Edges.capacity, Limits.IsValid}
+use Rattle.lert_levels.specs.{OnDisk.OnDisk, rows.Rows.{AreRows, moved}}
+use Rattle.lert_levels.proofs.{LevelLaws.{moved_back, moved_rows, room_for, kept_on}, levels.Levels.move_on.Goals.After-deref}
 use Rattle.lert_levels.proofs.levels.Levels.move_on.Goals as goal
 
 pub move_rows-requires : goal.move_rows-requires

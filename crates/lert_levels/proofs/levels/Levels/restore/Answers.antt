@@ -1,10 +1,7 @@
 use Rattle.std.proofs.Common.{◌≡◌, ◌≤◌, ◌++◌, ◌∙◌, ap, length, take, drop, subst, sym, arith}
 use Rattle.lert_spec.specs.Edges.{capacity}
-use Rattle.lert_levels.specs.rows.Named.{IsDirectory, AreNamed}
-use Rattle.lert_levels.specs.OnDisk.{OnDisk}
-use Rattle.lert_levels.proofs.LevelLaws.{room_for, kept_on}
-use Rattle.lert_levels.proofs.rows.MoveLaws.{written_back}
-use Rattle.lert_levels.proofs.levels.Levels.restore.Goals.{After-deref}
+use Rattle.lert_levels.specs.{rows.Named.{IsDirectory, AreNamed}, OnDisk.OnDisk}
+use Rattle.lert_levels.proofs.{LevelLaws.{room_for, kept_on}, rows.MoveLaws.written_back, levels.Levels.restore.Goals.After-deref}
 use Rattle.lert_levels.proofs.levels.Levels.restore.Goals as goal
 
 pub restore_rows-requires : goal.restore_rows-requires

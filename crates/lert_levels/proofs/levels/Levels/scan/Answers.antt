@@ -1,26 +1,11 @@
-use Rattle.std.proofs.Common.{ℕ, ◌≡◌, ◌+◌, ◌*◌, ◌-◌, ◌≤◌, ◌∙◌, List, None, [], take, length, ap, sym, subst, arith, refl}
-use Rattle.std.proofs.lemmas.List.{take_all}
-use Rattle.lert_bay.specs.Files.{IfTold}
+use Rattle.std.proofs.{Common.{ℕ, ◌≡◌, ◌+◌, ◌*◌, ◌-◌, ◌≤◌, ◌∙◌, List, None, [], take, length, ap, sym, subst, arith, refl}, lemmas.List.take_all}
+use Rattle.lert_bay.specs.{Files.IfTold, declared.bay.TheConstants.FRAMES}
 use Rattle.std.specs.Prelude.{OnOk, IsErrOf}
-use Rattle.lert_bay.specs.declared.bay.TheConstants.{FRAMES}
 use Rattle.lert_frames.specs.Place.{tail_limit}
-use Rattle.lert_spec.specs.Table.{IsTable}
-use Rattle.lert_spec.specs.declared.piece.Piece.{Piece}
-use Rattle.lert_spec.specs.declared.numbers.Numbers.{Numbers}
-use Rattle.lert_spec.specs.Bins.{tallied}
-use Rattle.lert_spec.specs.Limits.{IsValid}
-use Rattle.lert_levels.specs.declared.rows.bin_at.BinAt.{BinAt}
-use Rattle.lert_levels.specs.rows.Checked.{rows_left}
-use Rattle.lert_levels.specs.rows.Loading.{AllStand, OneBreaks}
-use Rattle.lert_levels.specs.rows.Rows.{AreFirst, AreRows, tallied_in}
-use Rattle.lert_levels.specs.Merged.{IsMade, IsFrames}
-use Rattle.lert_levels.specs.OnDisk.{OnDisk}
-use Rattle.lert_levels.proofs.FlushLaws.{scan_took, scan_taken}
-use Rattle.lert_levels.proofs.HoldLaws.{rows_stand}
-use Rattle.lert_levels.proofs.LandedLaws.{on_ok}
-use Rattle.lert_levels.proofs.rows.RowLaws.{all_rows}
-use Rattle.lert_levels.proofs.ReachLaws.{held, turned, no_break, sound_by, matched_by, at_ok}
-use Rattle.lert_levels.specs.declared.rows.fault.FlushFault.TheVariants.{Malformed}
+use Rattle.lert_spec.specs.{Table.IsTable, declared.piece.Piece.Piece, declared.numbers.Numbers.Numbers, Bins.tallied, Limits.IsValid}
+use Rattle.lert_levels.specs.{declared.rows.bin_at.BinAt.BinAt, rows.Checked.rows_left, rows.Loading.{AllStand, OneBreaks}, rows.Rows.{AreFirst, AreRows, tallied_in}, Merged.{IsMade, IsFrames}}
+use Rattle.lert_levels.specs.{OnDisk.OnDisk, declared.rows.fault.FlushFault.TheVariants.Malformed}
+use Rattle.lert_levels.proofs.{FlushLaws.{scan_took, scan_taken}, HoldLaws.rows_stand, LandedLaws.on_ok, rows.RowLaws.all_rows, ReachLaws.{held, turned, no_break, sound_by, matched_by, at_ok}}
 use Rattle.lert_levels.proofs.levels.Levels.scan.Goals as goal
 
 pub count_rows-reading-requires : goal.count_rows-reading-requires

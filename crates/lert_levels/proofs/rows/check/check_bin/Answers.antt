@@ -1,8 +1,7 @@
 use Rattle.std.proofs.Common.{ℕ, ◌≡◌, ◌∙◌, Some, None, subst, arith}
 use Rattle.std.specs.Prelude.{OnOk}
 use Rattle.lert_bay.specs.declared.bay.TheConstants.{FRAMES}
-use Rattle.lert_frames.specs.Frame.{HoldsFrame, IsBin, frame_left, frame_pieces}
-use Rattle.lert_frames.specs.Place.{tail_limit}
+use Rattle.lert_frames.specs.{Frame.{HoldsFrame, IsBin, frame_left, frame_pieces}, Place.tail_limit}
 use Rattle.lert_levels.specs.rows.Loading.{width_of}
 use Rattle.lert_levels.proofs.rows.ReadLaws.{checked_stands, level_from}
 use Rattle.lert_levels.proofs.rows.check.check_bin.Goals as goal

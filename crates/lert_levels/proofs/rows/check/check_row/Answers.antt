@@ -1,15 +1,9 @@
-use Rattle.std.proofs.Common.{◌≡◌, ◌∙◌, refl, arith, Some, None, get_or, map, subst, sym, ap}
-use Rattle.std.proofs.lemmas.List.{take_all}
-use Rattle.std.proofs.lemmas.List.Elements.{All-more}
-use Rattle.std.proofs.lemmas.Result.{err_from_is_err_and}
+use Rattle.std.proofs.{Common.{◌≡◌, ◌∙◌, refl, arith, Some, None, get_or, map, subst, sym, ap}, lemmas.List.take_all, lemmas.List.Elements.All-more, lemmas.Result.err_from_is_err_and}
 use Rattle.lert_bay.specs.declared.bay.TheConstants.{FRAMES}
 use Rattle.lert_bay.proofs.KeptLaws.{IsLawful, reads_none, reads_on, reads_as}
-use Rattle.lert_frames.proofs.FaultLaws.{not_err}
-use Rattle.lert_frames.proofs.WriteLaws.{same_err}
+use Rattle.lert_frames.proofs.{FaultLaws.not_err, WriteLaws.same_err}
 use Rattle.lert_spec.specs.declared.numbers.Numbers.{Numbers}
-use Rattle.lert_levels.specs.rows.Rows.{no_bin}
-use Rattle.lert_levels.specs.rows.Checked.{pieces_in, RowStands, bin_left, first_of}
-use Rattle.lert_levels.specs.rows.Loading.{Stands}
+use Rattle.lert_levels.specs.{rows.Rows.no_bin, rows.Checked.{pieces_in, RowStands, bin_left, first_of}, rows.Loading.Stands}
 use Rattle.lert_levels.proofs.rows.CheckLaws.{row_more, row_breaks}
 use Rattle.lert_levels.proofs.rows.check.check_row.Given as given
 use Rattle.lert_levels.proofs.rows.check.check_row.Invariants.{bays}

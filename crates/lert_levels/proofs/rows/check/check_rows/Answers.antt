@@ -1,19 +1,12 @@
-use Rattle.std.proofs.Common.{ℕ, ◌≡◌, ◌+◌, ◌∙◌, [], None, Some, subst, get_or, ap, sym, arith, inl, inr, refl}
-use Rattle.std.proofs.lemmas.Bool.{cases_lt}
-use Rattle.std.proofs.lemmas.List.{take_all}
-use Rattle.std.proofs.lemmas.Result.{err_from_is_err_and}
+use Rattle.std.proofs.{Common.{ℕ, ◌≡◌, ◌+◌, ◌∙◌, [], None, Some, subst, get_or, ap, sym, arith, inl, inr, refl}, lemmas.Bool.cases_lt, lemmas.List.take_all, lemmas.Result.err_from_is_err_and}
 use Rattle.lert_bay.specs.declared.bay.TheConstants.{FRAMES}
 use Rattle.lert_bay.proofs.KeptLaws.{IsLawful, reads_none, reads_on, reads_as}
-use Rattle.lert_frames.proofs.FaultLaws.{not_err}
-use Rattle.lert_frames.proofs.WriteLaws.{same_err}
-use Rattle.lert_levels.specs.rows.Checked.{RowStands, row_left, rows_left}
-use Rattle.lert_levels.specs.rows.Rows.{IsRow}
+use Rattle.lert_frames.proofs.{FaultLaws.not_err, WriteLaws.same_err}
+use Rattle.lert_levels.specs.{rows.Checked.{RowStands, row_left, rows_left}, rows.Rows.IsRow}
 use Rattle.lert_spec.specs.declared.numbers.Numbers.{Numbers}
-use Rattle.lert_levels.proofs.rows.CheckLaws.{rows_more, rows_break}
-use Rattle.lert_levels.proofs.rows.ReadLaws.{row_here, hand_from}
+use Rattle.lert_levels.proofs.{rows.CheckLaws.{rows_more, rows_break}, rows.ReadLaws.{row_here, hand_from}}
 use Rattle.lert_levels.proofs.rows.check.check_rows.Given as given
-use Rattle.lert_levels.proofs.rows.check.check_rows.Invariants.{bays}
-use Rattle.lert_levels.proofs.rows.check.check_rows.Goals.{After-bins}
+use Rattle.lert_levels.proofs.{rows.check.check_rows.Invariants.bays, rows.check.check_rows.Goals.After-bins}
 use Rattle.lert_levels.proofs.rows.check.check_rows.Goals as goal
 
 lawful : (g : given.Over) → IsLawful (bays g)

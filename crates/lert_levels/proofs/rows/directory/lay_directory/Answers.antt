@@ -1,5 +1,4 @@
-use Rattle.std.proofs.Common.{◌∙◌, length, arith, ap}
-use Rattle.std.proofs.lemmas.List.{take_all}
+use Rattle.std.proofs.{Common.{◌∙◌, length, arith, ap}, lemmas.List.take_all}
 use Rattle.lert_levels.specs.rows.Rows.{directory_text}
 use Rattle.lert_levels.proofs.rows.DirectoryLaws.{room_left, part_more}
 use Rattle.lert_levels.proofs.rows.directory.lay_directory.Goals as goal

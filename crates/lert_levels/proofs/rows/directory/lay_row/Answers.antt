@@ -1,7 +1,5 @@
-use Rattle.std.proofs.Common.{◌∙◌, ◌++◌, ◌∷◌, map, length, ap, arith}
-use Rattle.std.proofs.lemmas.List.{take_all}
-use Rattle.lert_levels.specs.declared.rows.bin_at.BinAt.{BinAt}
-use Rattle.lert_levels.specs.rows.Rows.{no_bin}
+use Rattle.std.proofs.{Common.{◌∙◌, ◌++◌, ◌∷◌, map, length, ap, arith}, lemmas.List.take_all}
+use Rattle.lert_levels.specs.{declared.rows.bin_at.BinAt.BinAt, rows.Rows.no_bin}
 use Rattle.lert_levels.proofs.rows.DirectoryLaws.{frame_more, frame_room}
 use Rattle.lert_levels.proofs.rows.directory.lay_row.Goals as goal
 

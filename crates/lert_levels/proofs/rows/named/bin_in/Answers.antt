@@ -1,5 +1,4 @@
-use Rattle.std.proofs.Common.{suc, arith}
-use Rattle.std.proofs.lemmas.Nat.{mul-le}
+use Rattle.std.proofs.{Common.{suc, arith}, lemmas.Nat.mul-le}
 use Rattle.lert_levels.proofs.rows.named.bin_in.Goals as goal
 
 pub overflow_add-interval : goal.overflow_add-interval

@@ -1,11 +1,7 @@
 use Rattle.std.proofs.Common.{◌≡◌, ℕ, ◌-◌, ◌<◌, ◌≤◌, min, ◌∙◌, ◌++◌, ◌∷◌, ◌/◌, [], length, map, suc, add-zero, subst, ap, ap₂, sym, arith}
-use Rattle.std.proofs.lemmas.List.{length-map, length-take, map_push, take_all, take_more}
-use Rattle.std.proofs.lemmas.List.FromFn.{map-range_with_len_more}
-use Rattle.std.proofs.lemmas.Nat.{mul-le}
+use Rattle.std.proofs.{lemmas.List.{length-map, length-take, map_push, take_all, take_more}, lemmas.List.FromFn.map-range_with_len_more, lemmas.Nat.mul-le}
 use Rattle.lert_spec.specs.Limits.{IsValid}
-use Rattle.lert_levels.specs.declared.rows.bin_at.BinAt.{BinAt}
-use Rattle.lert_levels.specs.rows.Ranges.{range_at}
-use Rattle.lert_levels.specs.rows.Rows.{range_of}
+use Rattle.lert_levels.specs.{declared.rows.bin_at.BinAt.BinAt, rows.Ranges.range_at, rows.Rows.range_of}
 use Rattle.lert_levels.proofs.rows.NamedLaws.{interval_within, ranges_back}
 use Rattle.lert_levels.proofs.rows.named.restore_row.Goals as goal
 

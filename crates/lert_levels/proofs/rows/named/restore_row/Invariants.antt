@@ -1,7 +1,6 @@
 use Rattle.std.proofs.Common.{◌≡◌, ◌+◌, ◌/◌, map, take}
 use Rattle.std.specs.List.{range_with_len}
-use Rattle.lert_levels.specs.rows.Ranges.{range_at}
-use Rattle.lert_levels.specs.rows.Rows.{range_of}
+use Rattle.lert_levels.specs.{rows.Ranges.range_at, rows.Rows.range_of}
 use Rattle.lert_levels.proofs.rows.named.restore_row.Given as goal
 
 -- the bins so far are those of the first intervals, in the first frames

@@ -1,7 +1,5 @@
-use Rattle.std.proofs.Common.{◌≡◌, ◌∙◌, ◌<◌, length, get_or, [], subst, ap, sym, arith}
-use Rattle.std.proofs.lemmas.List.{length-map, same_lists}
-use Rattle.lert_levels.specs.declared.rows.bin_at.BinAt.{BinAt}
-use Rattle.lert_levels.specs.rows.Named.{AreNamed}
+use Rattle.std.proofs.{Common.{◌≡◌, ◌∙◌, ◌<◌, length, get_or, [], subst, ap, sym, arith}, lemmas.List.{length-map, same_lists}}
+use Rattle.lert_levels.specs.{declared.rows.bin_at.BinAt.BinAt, rows.Named.AreNamed}
 use Rattle.lert_levels.proofs.rows.NamedLaws.{part_within, frames_there, next_place, named_count, named_few, row_restored, restored_more}
 use Rattle.lert_levels.proofs.rows.named.restore_rows.Goals as goal
 

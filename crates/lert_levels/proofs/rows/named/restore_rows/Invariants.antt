@@ -1,7 +1,5 @@
 use Rattle.std.proofs.Common.{ℕ, ◌≡◌, ◌<◌, List, length, take, get_or}
-use Rattle.lert_levels.specs.declared.rows.bin_at.BinAt.{BinAt}
-use Rattle.lert_levels.specs.rows.Named.{AreNamed}
-use Rattle.lert_levels.specs.rows.Rows.{directory_text}
+use Rattle.lert_levels.specs.{declared.rows.bin_at.BinAt.BinAt, rows.Named.AreNamed, rows.Rows.directory_text}
 use Rattle.lert_levels.proofs.rows.named.restore_rows.Given as goal
 
 -- the rows so far are those that the directory names, and the text of the others begins here

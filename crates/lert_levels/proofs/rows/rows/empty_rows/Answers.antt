@@ -1,5 +1,4 @@
-use Rattle.std.proofs.Common.{◌∙◌, ◌++◌, ◌∷◌, []}
-use Rattle.std.proofs.lemmas.List.{replicate-append-replicate}
+use Rattle.std.proofs.{Common.{◌∙◌, ◌++◌, ◌∷◌, []}, lemmas.List.replicate-append-replicate}
 use Rattle.lert_levels.proofs.rows.rows.empty_rows.Goals as goal
 
 pub loop-preserved : goal.loop-preserved

@@ -1,10 +1,6 @@
-use Rattle.std.proofs.Common.{◌≡◌, ◌-◌, ◌∙◌, ◌∷◌, [], length, drop, ap, arith, refl}
-use Rattle.std.proofs.lemmas.Bool.{cond_below, cond_above}
-use Rattle.std.proofs.lemmas.List.{length-take-le, length-append}
+use Rattle.std.proofs.{Common.{◌≡◌, ◌-◌, ◌∙◌, ◌∷◌, [], length, drop, ap, arith, refl}, lemmas.Bool.{cond_below, cond_above}, lemmas.List.{length-take-le, length-append}}
 use Rattle.lert_levels.specs.rows.Rows.{kept}
-use Rattle.lert_levels.proofs.rows.MoveLaws.{kept_joined, kept_begun, row_moved}
-use Rattle.lert_levels.proofs.rows.rows.move_row.Goals.{then-not-begins, else-not-begins}
-use Rattle.lert_levels.proofs.rows.rows.move_row.Goals.{After-put}
+use Rattle.lert_levels.proofs.{rows.MoveLaws.{kept_joined, kept_begun, row_moved}, rows.rows.move_row.Goals.{then-not-begins, else-not-begins, After-put}}
 use Rattle.lert_levels.proofs.rows.rows.move_row.Goals as goal
 
 pub put-requires : goal.put-requires

@@ -1,8 +1,6 @@
-use Rattle.std.proofs.Common.{◌∙◌, ap, arith, length, refl, []}
-use Rattle.std.proofs.lemmas.List.{get_or-set_other, get_or_default}
+use Rattle.std.proofs.{Common.{◌∙◌, ap, arith, length, refl, []}, lemmas.List.{get_or-set_other, get_or_default}}
 use Rattle.lert_spec.specs.declared.numbers.Numbers.{Numbers}
-use Rattle.lert_levels.proofs.rows.MoveLaws.{rows_moved, moved_on}
-use Rattle.lert_levels.proofs.rows.RowLaws.{all_rows}
+use Rattle.lert_levels.proofs.{rows.MoveLaws.{rows_moved, moved_on}, rows.RowLaws.all_rows}
 use Rattle.lert_levels.proofs.rows.rows.move_rows.Goals as goal
 
 pub bounds-rows-lower : goal.bounds-rows-lower

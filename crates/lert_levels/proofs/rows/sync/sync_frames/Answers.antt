@@ -1,6 +1,5 @@
 use Rattle.std.proofs.Common.{ℕ, ap}
-use Rattle.lert_bay.specs.declared.bay.TheConstants.{JOURNAL}
-use Rattle.lert_bay.specs.Kept.{Bays, seen_by}
+use Rattle.lert_bay.specs.{declared.bay.TheConstants.JOURNAL, Kept.{Bays, seen_by}}
 use Rattle.lert_bay.proofs.KeptLaws.{IsLawful, keeps_call}
 use Rattle.lert_levels.specs.rows.Landing.{Anywhere}
 use Rattle.lert_levels.proofs.rows.LandLaws.{sync_rest, synced_was, synced_durable}

@@ -1,5 +1,4 @@
-use Rattle.std.proofs.Common.{◌*◌, ap, arith}
-use Rattle.std.proofs.Math.Nat.{pow-zero}
+use Rattle.std.proofs.{Common.{◌*◌, ap, arith}, Math.Nat.pow-zero}
 use Rattle.lert_spec.specs.declared.numbers.Numbers.{Numbers}
 use Rattle.lert_levels.proofs.rows.zero.empty_table.Goals as goal
 

@@ -1,5 +1,4 @@
-use Rattle.std.proofs.Common.{sym, ◌∙◌, subst}
-use Rattle.std.proofs.lemmas.Result.{err_from_is_err_and}
+use Rattle.std.proofs.{Common.{sym, ◌∙◌, subst}, lemmas.Result.err_from_is_err_and}
 use Rattle.lert_text.specs.Page.{IsPrinting}
 use Rattle.lert_text.proofs.Printing.{IsPrinting-flush, IsCut-flush}
 use Rattle.lert_text.proofs.page.Page.flush.Goals as goal

@@ -1,10 +1,7 @@
-use Rattle.std.proofs.Common.{◌≡◌, ◌<◌, ◌≤◌, ℕ, List, length, slice_get, Some, refl, arith, rules}
-use Rattle.std.proofs.lemmas.Option.{slice_get_read}
-use Rattle.lert_bay.specs.Files.{Files}
-use Rattle.lert_bay.specs.Kept.{Bays, OnlyReads, seen_by}
+use Rattle.std.proofs.{Common.{◌≡◌, ◌<◌, ◌≤◌, ℕ, List, length, slice_get, Some, refl, arith, rules}, lemmas.Option.slice_get_read}
+use Rattle.lert_bay.specs.{Files.Files, Kept.{Bays, OnlyReads, seen_by}}
 use Rattle.lert_ingest.specs.Bays.{AreLater}
-use Rattle.lert_ingest.proofs.BayLaws.{are_same}
-use Rattle.lert_ingest.proofs.EachLaws.{kept_same}
+use Rattle.lert_ingest.proofs.{BayLaws.are_same, EachLaws.kept_same}
 use Rattle.lert_top.proofs.cones.FreshLaws.{IsLooked, failed_unmade, looked_all, looked_fresh, looked_fresh_now, looked_kept, looked_later, looked_rest, stale_unmade}
 use Rattle.lert_top.proofs.cones.bays.find_stale.Given as given
 use Rattle.lert_top.proofs.cones.bays.find_stale.Goals as goal

@@ -2,11 +2,8 @@ use Rattle.std.proofs.Common.{◌≡◌, ◌+◌, ◌++◌, ◌∷◌, [], true,
 use Rattle.std.proofs.lemmas.List.FromFn.{map-range_with_len_more}
 use Rattle.lert_io.proofs.Rising.{risen_since}
 use Rattle.lert_io.specs.Fault.{HasRisen}
-use Rattle.lert_place.specs.Openings.{bay_refused, bays_opened}
-use Rattle.lert_place.specs.declared.opening.Opening.{Opening}
-use Rattle.lert_place.specs.declared.opening.Wanted.TheVariants.{Bay}
-use Rattle.lert_top.proofs.cones.AskedLaws.{all_returned, same_returned}
-use Rattle.lert_top.proofs.cones.ConeLaws.{each-push}
+use Rattle.lert_place.specs.{Openings.{bay_refused, bays_opened}, declared.opening.Opening.Opening, declared.opening.Wanted.TheVariants.Bay}
+use Rattle.lert_top.proofs.{cones.AskedLaws.{all_returned, same_returned}, cones.ConeLaws.each-push}
 use Rattle.lert_top.proofs.cones.bays.open_bays.Goals as goal
 
 pub returns-in-Err-clause-refused : goal.returns-in-Err-clause-refused

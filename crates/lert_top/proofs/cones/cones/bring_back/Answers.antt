@@ -1,5 +1,4 @@
-use Rattle.std.proofs.Common.{◌++◌, ◌∷◌, [], List, length, ap, sym, ◌∙◌, arith, length-append}
-use Rattle.std.proofs.lemmas.List.{length-map}
+use Rattle.std.proofs.{Common.{◌++◌, ◌∷◌, [], List, length, ap, sym, ◌∙◌, arith, length-append}, lemmas.List.length-map}
 use Rattle.lert_cone.specs.Stands.{Standing}
 use Rattle.lert_ingest.specs.Bays.{bays_of}
 use Rattle.lert_ingest.proofs.BayLaws.{bays_of-push}

@@ -1,15 +1,11 @@
-use Rattle.std.proofs.Common.{ℕ, ◌<◌, ◌^◌, List, ◌++◌, ◌∷◌, [], false, length, slice_get, Some, refl, ap, sym, ◌∙◌, subst, arith, append_assoc, length-append}
-use Rattle.std.proofs.lemmas.List.Elements.{All-pop}
+use Rattle.std.proofs.{Common.{ℕ, ◌<◌, ◌^◌, List, ◌++◌, ◌∷◌, [], false, length, slice_get, Some, refl, ap, sym, ◌∙◌, subst, arith, append_assoc, length-append}, lemmas.List.Elements.All-pop}
 use Rattle.std.proofs.lemmas.Option.{slice_get_within}
 use Rattle.lert_cone.specs.Stands.{Standing}
 use Rattle.lert_spec.specs.declared.numbers.Numbers.{Numbers}
-use Rattle.lert_ingest.specs.Bays.{AreLater, AreUnused, bays_of}
-use Rattle.lert_ingest.specs.Cones.{IsNew, IsNewRoom}
+use Rattle.lert_ingest.specs.{Bays.{AreLater, AreUnused, bays_of}, Cones.{IsNew, IsNewRoom}, Status.create_status}
 use Rattle.lert_top.specs.cones.Unmade.{IsUnmade}
-use Rattle.lert_ingest.specs.Status.{create_status}
-use Rattle.lert_ingest.proofs.BayLaws.{are_same}
+use Rattle.lert_ingest.proofs.{BayLaws.are_same, EachLaws.unused_same}
 use Rattle.lert_top.proofs.cones.ConeLaws.{back_later, bay_there, call_later, each-push, made_later, made_unused, none_left, unmade_by}
-use Rattle.lert_ingest.proofs.EachLaws.{unused_same}
 use Rattle.lert_top.proofs.cones.cones.fill_rooms.Goals as goal
 
 pub returns-in-Err-clause-room : goal.returns-in-Err-clause-room

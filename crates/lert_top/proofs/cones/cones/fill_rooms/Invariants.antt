@@ -1,8 +1,6 @@
 use Rattle.std.proofs.Common.{◌≡◌, ◌+◌, ◌^◌, ◌≤◌, List, ◌++◌, length}
-use Rattle.std.specs.Prelude.{All, vec_capacity}
-use Rattle.std.specs.VecDeque.{deque_capacity}
-use Rattle.lert_ingest.specs.Bays.{AreLater, AreUnused, bays_of}
-use Rattle.lert_ingest.specs.Cones.{AreNew, IsNewRoom}
+use Rattle.std.specs.{Prelude.{All, vec_capacity}, VecDeque.deque_capacity}
+use Rattle.lert_ingest.specs.{Bays.{AreLater, AreUnused, bays_of}, Cones.{AreNew, IsNewRoom}}
 use Rattle.lert_top.proofs.cones.cones.fill_rooms.Given as goal
 
 -- a cone over each bay so far

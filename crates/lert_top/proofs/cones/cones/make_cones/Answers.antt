@@ -1,9 +1,7 @@
-use Rattle.std.proofs.Common.{◌++◌, ap, sym, ◌∙◌, subst, arith, append-nil}
+use Rattle.std.proofs.{Common.{◌++◌, ap, sym, ◌∙◌, subst, arith, append-nil}, lemmas.Result.err_from_is_err_and}
 use Rattle.lert_ingest.specs.Bays.{AreLater, AreUnused, bays_of}
-use Rattle.lert_ingest.proofs.BayLaws.{are_same}
-use Rattle.lert_ingest.proofs.EachLaws.{unused_same}
+use Rattle.lert_ingest.proofs.{BayLaws.are_same, EachLaws.unused_same}
 use Rattle.lert_top.specs.cones.Unmade.{IsUnmade, unmade_memory}
-use Rattle.std.proofs.lemmas.Result.{err_from_is_err_and}
 use Rattle.lert_top.proofs.cones.ConeLaws.{cones_and_left}
 use Rattle.lert_top.proofs.cones.cones.make_cones.Goals as goal
 

@@ -1,5 +1,4 @@
-use Rattle.std.proofs.Common.{◌≡◌, ◌<◌, length, refl, arith, subst}
-use Rattle.std.proofs.lemmas.Option.{slice_get_read}
+use Rattle.std.proofs.{Common.{◌≡◌, ◌<◌, length, refl, arith, subst}, lemmas.Option.slice_get_read}
 use Rattle.lert_top.specs.cones.Finish.{AreFinishedTo}
 use Rattle.lert_top.proofs.cones.FinishLaws.{finished_more, finished_none, finished_others, is_there, was_there}
 use Rattle.lert_top.proofs.cones.finish.finish_cones.Goals as goal

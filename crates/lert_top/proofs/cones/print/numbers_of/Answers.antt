@@ -1,6 +1,5 @@
 use Rattle.std.proofs.Common.{ap, sym, ◌∙◌, subst, arith}
-use Rattle.lert_spec.specs.declared.numbers.Numbers.{Numbers}
-use Rattle.lert_spec.specs.Limits.{IsValid}
+use Rattle.lert_spec.specs.{declared.numbers.Numbers.Numbers, Limits.IsValid}
 use Rattle.lert_spec.proofs.LimitLaws.{capacity_to}
 use Rattle.lert_top.proofs.cones.print.numbers_of.Goals as goal
 

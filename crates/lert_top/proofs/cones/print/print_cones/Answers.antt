@@ -1,8 +1,5 @@
-use Rattle.std.proofs.Common.{◌≡◌, ◌≤◌, List, ◌+◌, length, map, sum_by, take, refl, ap, ◌∙◌, subst, arith}
-use Rattle.std.proofs.lemmas.List.{length-map, take_all}
-use Rattle.std.proofs.lemmas.List.Sums.{sum_by_push}
-use Rattle.std.proofs.lemmas.Option.{slice_get_read}
-use Rattle.std.proofs.lemmas.Result.{err_from_is_err_and, on_ok_weaker, on_err_weaker}
+use Rattle.std.proofs.{Common.{◌≡◌, ◌≤◌, List, ◌+◌, length, map, sum_by, take, refl, ap, ◌∙◌, subst, arith}, lemmas.List.{length-map, take_all}, lemmas.List.Sums.sum_by_push}
+use Rattle.std.proofs.{lemmas.Option.slice_get_read, lemmas.Result.{err_from_is_err_and, on_ok_weaker, on_err_weaker}}
 use Rattle.lert_cone.specs.Stands.{is_finished}
 use Rattle.lert_spec.specs.Lines.{Printed, cone_texts, lines}
 use Rattle.lert_text.specs.Page.{IsCut, IsPrinting}

@@ -1,9 +1,7 @@
 use denote.Param.Send.{sendable}
-use Rattle.std.proofs.Crossing.{crosses}
+use Rattle.std.proofs.{Crossing.crosses, Common.rules, lemmas.List.Elements.{All-append, All-same}}
 use Rattle.lert_cone.proofs.ConeSend.{room_send}
-use Rattle.std.proofs.Common.{rules}
 use Rattle.std.specs.Prelude.{All}
-use Rattle.std.proofs.lemmas.List.Elements.{All-append, All-same}
 use Rattle.lert_ingest.specs.Cones.{IsNewRoom}
 use Rattle.lert_top.proofs.cones.rooms.+fn-share_rooms-join+arg2+fn-share_rooms-join+arg3+share_rooms.Goals as goal
 

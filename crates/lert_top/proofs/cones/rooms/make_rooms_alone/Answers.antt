@@ -1,5 +1,4 @@
-use Rattle.std.proofs.Common.{◌+◌, ◌∷◌, [], length, ap, ◌∙◌, length-append}
-use Rattle.std.proofs.lemmas.List.Elements.{All-push, All-same}
+use Rattle.std.proofs.{Common.{◌+◌, ◌∷◌, [], length, ap, ◌∙◌, length-append}, lemmas.List.Elements.{All-push, All-same}}
 use Rattle.lert_ingest.specs.Cones.{IsNewRoom}
 use Rattle.lert_top.proofs.cones.rooms.make_rooms_alone.Goals as goal
 

@@ -1,5 +1,4 @@
-use Rattle.std.proofs.Common.{Option, List, length, refl, ap, sym, ◌∙◌, subst, arith}
-use Rattle.std.proofs.lemmas.Option.{same_Some}
+use Rattle.std.proofs.{Common.{Option, List, length, refl, ap, sym, ◌∙◌, subst, arith}, lemmas.Option.same_Some}
 use Rattle.lert_bay.specs.Files.{Files}
 use Rattle.lert_cone.specs.Sound.{AreEmpty}
 use Rattle.lert_ingest.specs.Bays.{AreFresh, AreToldFresh, bays_of}

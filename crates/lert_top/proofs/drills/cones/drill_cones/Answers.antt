@@ -1,13 +1,8 @@
-use Rattle.std.proofs.Common.{◌≡◌, ℕ, ◌≤◌, List, Option, length, refl, ap, sym, ◌∙◌, subst, arith}
-use Rattle.std.proofs.lemmas.List.{length-map}
+use Rattle.std.proofs.{Common.{◌≡◌, ℕ, ◌≤◌, List, Option, length, refl, ap, sym, ◌∙◌, subst, arith}, lemmas.List.length-map}
 use Rattle.lert_cone.specs.Stands.{Standing}
-use Rattle.lert_top.proofs.cones.StatusLaws.{err_at, ok_at}
-use Rattle.lert_top.proofs.drills.DealtLaws.{dealt_keys}
-use Rattle.lert_top.proofs.drills.DrillLaws.{stopped_shows}
-use Rattle.lert_top.specs.drills.Dealt.{AreDealt}
-use Rattle.lert_top.specs.drills.Drilled.{DrillShows, drill_memory}
-use Rattle.lert_ingest.specs.Bays.{bays_of}
-use Rattle.lert_ingest.specs.Stops.{AreWeaving}
+use Rattle.lert_top.proofs.{cones.StatusLaws.{err_at, ok_at}, drills.DealtLaws.dealt_keys, drills.DrillLaws.stopped_shows}
+use Rattle.lert_top.specs.{drills.Dealt.AreDealt, drills.Drilled.{DrillShows, drill_memory}}
+use Rattle.lert_ingest.specs.{Bays.bays_of, Stops.AreWeaving}
 use Rattle.lert_ingest.proofs.BayLaws.{told_later}
 use Rattle.lert_top.proofs.drills.cones.drill_cones.Goals as goal
 

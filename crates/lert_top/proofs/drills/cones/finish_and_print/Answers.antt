@@ -1,14 +1,9 @@
 use Rattle.std.proofs.Common.{◌≤◌, ◌++◌, List, length, map, Some, refl, ap, sym, ◌∙◌, subst}
 use Rattle.lert_spec.specs.declared.numbers.Numbers.{Numbers}
 use Rattle.lert_cone.specs.Stands.{Standing}
-use Rattle.lert_top.proofs.cones.StatusLaws.{few_cones, few_numbers}
-use Rattle.lert_top.specs.drills.Drilled.{drill_cut, drill_done, drill_memory}
-use Rattle.lert_top.specs.drills.Print.{drilled_as}
-use Rattle.lert_top.proofs.drills.DrillLaws.{finished_fits, lines_same}
-use Rattle.lert_top.specs.cones.Print.{ArePrintable}
-use Rattle.lert_top.proofs.cones.EndLaws.{finished_printable}
-use Rattle.lert_text.specs.Drill.{drill_lines}
-use Rattle.lert_text.specs.Page.{IsCut}
+use Rattle.lert_top.proofs.{cones.StatusLaws.{few_cones, few_numbers}, drills.DrillLaws.{finished_fits, lines_same}, cones.EndLaws.finished_printable}
+use Rattle.lert_top.specs.{drills.Drilled.{drill_cut, drill_done, drill_memory}, drills.Print.drilled_as, cones.Print.ArePrintable}
+use Rattle.lert_text.specs.{Drill.drill_lines, Page.IsCut}
 use Rattle.lert_top.proofs.drills.cones.finish_and_print.Goals as goal
 
 pub finish_cones-requires-clause-few : goal.finish_cones-requires-clause-few

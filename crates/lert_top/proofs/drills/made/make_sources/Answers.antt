@@ -1,5 +1,4 @@
-use Rattle.std.proofs.Common.{◌≡◌, ◌≤◌, ℕ, List, length, map, take, ap, sym, ◌∙◌, subst}
-use Rattle.std.proofs.lemmas.List.{length-map, take_all}
+use Rattle.std.proofs.{Common.{◌≡◌, ◌≤◌, ℕ, List, length, map, take, ap, sym, ◌∙◌, subst}, lemmas.List.{length-map, take_all}}
 use Rattle.lert_top.proofs.drills.made.make_sources.Goals as goal
 
 -- what was made of the first items, at their end

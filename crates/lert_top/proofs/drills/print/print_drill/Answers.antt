@@ -1,15 +1,10 @@
-use Rattle.std.proofs.Common.{◌≡◌, ◌≤◌, List, ◌+◌, length, map, sum_by, take, refl, ap, ◌∙◌, subst, arith}
-use Rattle.std.proofs.lemmas.List.{length-map, take_all}
-use Rattle.std.proofs.lemmas.List.Sums.{sum_by_push}
-use Rattle.std.proofs.lemmas.Option.{slice_get_read}
-use Rattle.std.proofs.lemmas.Result.{err_from_is_err_and, on_ok_weaker, on_err_weaker}
+use Rattle.std.proofs.{Common.{◌≡◌, ◌≤◌, List, ◌+◌, length, map, sum_by, take, refl, ap, ◌∙◌, subst, arith}, lemmas.List.{length-map, take_all}, lemmas.List.Sums.sum_by_push}
+use Rattle.std.proofs.{lemmas.Option.slice_get_read, lemmas.Result.{err_from_is_err_and, on_ok_weaker, on_err_weaker}}
 use Rattle.lert_top.specs.drills.Print.{drilled_as}
 use Rattle.lert_io.proofs.Rising.{risen_since}
-use Rattle.lert_top.proofs.cones.ConeTexts.{IsCut-begins}
-use Rattle.lert_text.specs.Drill.{Drilled, drill_line, drill_lines, drill_text, drill_texts}
-use Rattle.lert_text.specs.Page.{IsCut, IsPrinting}
+use Rattle.lert_top.proofs.{cones.ConeTexts.IsCut-begins, drills.DrillTexts.{drilled_next, lines_are, texts_begin, texts_next}}
+use Rattle.lert_text.specs.{Drill.{Drilled, drill_line, drill_lines, drill_text, drill_texts}, Page.{IsCut, IsPrinting}}
 use Rattle.lert_text.proofs.Printing.{IsPrinting-all, IsPrinting-start}
-use Rattle.lert_top.proofs.drills.DrillTexts.{drilled_next, lines_are, texts_begin, texts_next}
 use Rattle.lert_top.proofs.drills.print.print_drill.Goals as goal
 
 pub loop-number-init : goal.loop-number-init

@@ -1,7 +1,6 @@
 use Rattle.std.proofs.Common.{◌≡◌, ◌*◌, ◌≤◌, length, map, sum_by, take}
 use Rattle.lert_top.specs.drills.Print.{drilled_as}
-use Rattle.lert_text.specs.Drill.{Drilled, drill_texts}
-use Rattle.lert_text.specs.Page.{IsPrinting}
+use Rattle.lert_text.specs.{Drill.{Drilled, drill_texts}, Page.IsPrinting}
 use Rattle.lert_top.proofs.drills.print.print_drill.Given as goal
 
 -- the cones so far were printed and summed up

@@ -1,17 +1,12 @@
-use Rattle.std.proofs.Common.{◌≡◌, ℕ, ◌≤◌, ◌++◌, List, length, map, Some, refl, ap, sym, ◌∙◌, subst, arith, append-nil}
-use Rattle.std.proofs.Math.Pow.{pow_mono}
+use Rattle.std.proofs.{Common.{◌≡◌, ℕ, ◌≤◌, ◌++◌, List, length, map, Some, refl, ap, sym, ◌∙◌, subst, arith, append-nil}, Math.Pow.pow_mono}
 use Rattle.lert_cone.specs.Stands.{Standing}
-use Rattle.lert_spec.specs.declared.numbers.Numbers.{Numbers}
-use Rattle.lert_spec.specs.Lines.{lines}
+use Rattle.lert_spec.specs.{declared.numbers.Numbers.Numbers, Lines.lines}
 use Rattle.lert_ingest.specs.Bays.{bays_of}
 use Rattle.lert_text.specs.Page.{IsCut}
-use Rattle.lert_top.specs.cones.Print.{ArePrintable, printed_as}
-use Rattle.lert_top.specs.recovery.Recovered.{AreRecovered, printed, printed_partly, unopened, unopened_memory}
-use Rattle.lert_top.proofs.recovery.RecoverLaws.{all_formed, open_printable, open_recovered}
+use Rattle.lert_top.specs.{cones.Print.{ArePrintable, printed_as}, recovery.Recovered.{AreRecovered, printed, printed_partly, unopened, unopened_memory}, recovery.Moments.AreReread}
+use Rattle.lert_top.proofs.{recovery.RecoverLaws.{all_formed, open_printable, open_recovered}, recovery.MomentLaws.reread_same}
 use Rattle.lert_bay.specs.Kept.{Bays, seen_by}
 use Rattle.lert_bay.proofs.KeptLaws.{IsLawful}
-use Rattle.lert_top.specs.recovery.Moments.{AreReread}
-use Rattle.lert_top.proofs.recovery.MomentLaws.{reread_same}
 use Rattle.lert_top.proofs.recovery.directory.recover_bays.Given as given
 use Rattle.lert_top.proofs.recovery.directory.recover_bays.Goals as goal
 

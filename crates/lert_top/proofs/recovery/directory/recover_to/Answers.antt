@@ -1,19 +1,12 @@
-use Rattle.std.proofs.lemmas.Option.{slice_get_within}
-use Rattle.std.proofs.Common.{[], List, length, refl, ap, sym, ◌∙◌, subst, arith, inl, inr, append-nil}
-use Rattle.lert_ingest.specs.declared.status.Status.{Status}
-use Rattle.lert_ingest.specs.declared.status.Status.TheVariants.{OutOfMemory}
-use Rattle.lert_ingest.specs.Bays.{AreLater}
-use Rattle.lert_top.specs.recovery.Recovered.{HasRecovered, unopened, unopened_memory}
-use Rattle.lert_top.proofs.cones.AskedLaws.{all_back, none_returned, nothing_handed}
-use Rattle.lert_ingest.proofs.BayLaws.{are_same, still_marked}
-use Rattle.lert_top.proofs.cones.StatusLaws.{no_memory_no_place, no_memory_no_usage, no_memory_not_done, no_place_no_usage}
-use Rattle.lert_place.specs.Openings.{bays_granted}
-use Rattle.lert_top.proofs.recovery.JournalLaws.{journals_same}
-use Rattle.lert_top.proofs.recovery.SoundLaws.{sound_same}
-use Rattle.lert_top.proofs.recovery.RecoverEnding.{has_recovered, recovery_not_place_fault, recovery_not_usage}
-use Rattle.lert_bay.specs.Kept.{Bays, seen_by}
-use Rattle.lert_top.specs.recovery.Moments.{AreSpared}
+use Rattle.std.proofs.{lemmas.Option.slice_get_within, Common.{[], List, length, refl, ap, sym, ◌∙◌, subst, arith, inl, inr, append-nil}}
+use Rattle.lert_ingest.specs.{declared.status.Status.Status, declared.status.Status.TheVariants.OutOfMemory, Bays.AreLater}
+use Rattle.lert_top.specs.{recovery.Recovered.{HasRecovered, unopened, unopened_memory}, recovery.Moments.AreSpared}
+use Rattle.lert_top.proofs.{cones.AskedLaws.{all_back, none_returned, nothing_handed}, cones.StatusLaws.{no_memory_no_place, no_memory_no_usage, no_memory_not_done, no_place_no_usage}}
+use Rattle.lert_top.proofs.{recovery.JournalLaws.journals_same, recovery.SoundLaws.sound_same, recovery.RecoverEnding.{has_recovered, recovery_not_place_fault, recovery_not_usage}}
 use Rattle.lert_top.proofs.recovery.MomentLaws.{returned_sound}
+use Rattle.lert_ingest.proofs.BayLaws.{are_same, still_marked}
+use Rattle.lert_place.specs.Openings.{bays_granted}
+use Rattle.lert_bay.specs.Kept.{Bays, seen_by}
 use Rattle.lert_top.proofs.recovery.directory.recover_to.Given as given
 use Rattle.lert_top.proofs.recovery.directory.recover_to.Goals as goal
 

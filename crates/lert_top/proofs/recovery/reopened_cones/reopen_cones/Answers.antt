@@ -1,13 +1,10 @@
 use Rattle.std.specs.Prelude.{OnErr}
-use Rattle.std.proofs.Common.{◌++◌, Result, Ok, Err, refl, ap, sym, ◌∙◌, subst, arith, append-nil}
+use Rattle.std.proofs.{Common.{◌++◌, Result, Ok, Err, refl, ap, sym, ◌∙◌, subst, arith, append-nil}, lemmas.Result.err_from_is_err_and}
 use Rattle.lert_ingest.specs.Bays.{bays_of}
-use Rattle.lert_top.specs.recovery.Recovered.{IsUnopened, unopened_memory}
-use Rattle.std.proofs.lemmas.Result.{err_from_is_err_and}
-use Rattle.lert_top.proofs.cones.ConeLaws.{cones_and_left}
+use Rattle.lert_top.specs.{recovery.Recovered.{IsUnopened, unopened_memory}, recovery.Moments.AreReread}
+use Rattle.lert_top.proofs.{cones.ConeLaws.cones_and_left, recovery.MomentLaws.reread_same}
 use Rattle.lert_bay.specs.Kept.{Bays, seen_by}
 use Rattle.lert_bay.proofs.KeptLaws.{IsLawful}
-use Rattle.lert_top.specs.recovery.Moments.{AreReread}
-use Rattle.lert_top.proofs.recovery.MomentLaws.{reread_same}
 use Rattle.lert_top.proofs.recovery.reopened_cones.reopen_cones.Given as given
 use Rattle.lert_top.proofs.recovery.reopened_cones.reopen_cones.Goals as goal
 

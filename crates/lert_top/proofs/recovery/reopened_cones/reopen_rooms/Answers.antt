@@ -1,20 +1,14 @@
-use Rattle.std.proofs.Common.{◌≡◌, ℕ, ◌<◌, ◌^◌, List, ◌++◌, ◌∷◌, [], length, slice_get, Some, refl, ap, sym, ◌∙◌, subst, arith, append_assoc, length-append}
-use Rattle.std.proofs.lemmas.List.{length-map}
-use Rattle.std.proofs.lemmas.List.Elements.{All-pop}
-use Rattle.std.proofs.lemmas.Option.{same_Some, slice_get_within}
+use Rattle.std.proofs.{Common.{◌≡◌, ℕ, ◌<◌, ◌^◌, List, ◌++◌, ◌∷◌, [], length, slice_get, Some, refl, ap, sym, ◌∙◌, subst, arith, append_assoc, length-append}, lemmas.List.length-map}
+use Rattle.std.proofs.{lemmas.List.Elements.All-pop, lemmas.Option.{same_Some, slice_get_within}}
 use Rattle.lert_cone.specs.Stands.{Standing}
 use Rattle.lert_spec.specs.declared.numbers.Numbers.{Numbers}
-use Rattle.lert_ingest.specs.Bays.{bays_of}
-use Rattle.lert_ingest.specs.Cones.{IsNewRoom}
-use Rattle.lert_top.specs.recovery.Recovered.{IsOpenOver, IsUnopened, IsSoundStill, reopen_status}
+use Rattle.lert_ingest.specs.{Bays.bays_of, Cones.IsNewRoom}
+use Rattle.lert_top.specs.{recovery.Recovered.{IsOpenOver, IsUnopened, IsSoundStill, reopen_status}, recovery.Moments.{AreReread, IsSpared}}
 use Rattle.lert_ingest.proofs.BayLaws.{slice_get-behind}
-use Rattle.lert_top.proofs.cones.ConeLaws.{back_later, bay_there, call_later, each-push, made_later, none_left}
-use Rattle.lert_top.proofs.recovery.JournalLaws.{journals_back, journals_made}
-use Rattle.lert_top.proofs.recovery.RecoverLaws.{WasRefused, open_over, unopened_by}
-use Rattle.lert_top.proofs.recovery.SoundLaws.{sound_back, sound_made, stays_by, stays_open}
-use Rattle.lert_bay.proofs.KeptLaws.{IsLawful}
-use Rattle.lert_top.specs.recovery.Moments.{AreReread, IsSpared}
+use Rattle.lert_top.proofs.{cones.ConeLaws.{back_later, bay_there, call_later, each-push, made_later, none_left}, recovery.JournalLaws.{journals_back, journals_made}}
+use Rattle.lert_top.proofs.{recovery.RecoverLaws.{WasRefused, open_over, unopened_by}, recovery.SoundLaws.{sound_back, sound_made, stays_by, stays_open}}
 use Rattle.lert_top.proofs.recovery.MomentLaws.{reread_same, throughout_back, throughout_by, throughout_made}
+use Rattle.lert_bay.proofs.KeptLaws.{IsLawful}
 use Rattle.lert_top.proofs.recovery.reopened_cones.reopen_rooms.Given as given
 use Rattle.lert_top.proofs.recovery.reopened_cones.reopen_rooms.Invariants.{bays as bays_in}
 use Rattle.lert_top.proofs.recovery.reopened_cones.reopen_rooms.Goals as goal

@@ -1,11 +1,8 @@
 use Rattle.std.proofs.Common.{◌≡◌, ◌+◌, ◌^◌, ◌≤◌, List, ◌++◌, length}
-use Rattle.std.specs.Prelude.{All, vec_capacity}
-use Rattle.std.specs.VecDeque.{deque_capacity}
+use Rattle.std.specs.{Prelude.{All, vec_capacity}, VecDeque.deque_capacity}
 use Rattle.lert_bay.specs.Kept.{Bays, seen_by}
-use Rattle.lert_ingest.specs.Bays.{bays_of}
-use Rattle.lert_ingest.specs.Cones.{IsNewRoom}
-use Rattle.lert_top.specs.recovery.Moments.{AreReread}
-use Rattle.lert_top.specs.recovery.Recovered.{AreOpenOver}
+use Rattle.lert_ingest.specs.{Bays.bays_of, Cones.IsNewRoom}
+use Rattle.lert_top.specs.{recovery.Moments.AreReread, recovery.Recovered.AreOpenOver}
 use Rattle.lert_top.proofs.recovery.reopened_cones.reopen_rooms.Given as goal
 
 abbrev pub bays : (g : goal.Over) → Bays g.row.B.Denot

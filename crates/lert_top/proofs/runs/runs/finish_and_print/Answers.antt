@@ -1,14 +1,11 @@
 use Rattle.std.proofs.Common.{◌≡◌, ◌≤◌, ◌++◌, List, length, map, Some, refl, ap, sym, ◌∙◌, subst}
 use Rattle.lert_cone.specs.Stands.{Standing}
-use Rattle.lert_spec.specs.declared.numbers.Numbers.{Numbers}
-use Rattle.lert_spec.specs.Lines.{lines}
-use Rattle.lert_top.proofs.cones.StatusLaws.{few_cones, few_numbers}
-use Rattle.lert_top.specs.cones.Finish.{end_cut, end_done}
-use Rattle.lert_top.specs.cones.Print.{ArePrintable, printed_as}
+use Rattle.lert_spec.specs.{declared.numbers.Numbers.Numbers, Lines.lines}
+use Rattle.lert_top.proofs.{cones.StatusLaws.{few_cones, few_numbers}, cones.ClosedLaws.{finished_in_each, stopped_not_done}}
+use Rattle.lert_top.proofs.cones.EndLaws.{ends_later, finished_closed, finished_ended, finished_printable, stopped_ended, stopped_shows}
+use Rattle.lert_top.specs.{cones.Finish.{end_cut, end_done}, cones.Print.{ArePrintable, printed_as}}
 use Rattle.lert_io.specs.Reading.{IfTold}
 use Rattle.lert_text.specs.Page.{IsCut}
-use Rattle.lert_top.proofs.cones.ClosedLaws.{finished_in_each, stopped_not_done}
-use Rattle.lert_top.proofs.cones.EndLaws.{ends_later, finished_closed, finished_ended, finished_printable, stopped_ended, stopped_shows}
 use Rattle.lert_top.proofs.runs.runs.finish_and_print.Goals as goal
 
 pub finish_cones-requires-clause-few : goal.finish_cones-requires-clause-few

@@ -1,19 +1,9 @@
-use Rattle.std.proofs.Common.{◌≡◌, ◌++◌, List, length, refl, ap, sym, ◌∙◌, subst, arith, append-nil}
-use Rattle.std.proofs.lemmas.List.{length-map}
+use Rattle.std.proofs.{Common.{◌≡◌, ◌++◌, List, length, refl, ap, sym, ◌∙◌, subst, arith, append-nil}, lemmas.List.length-map}
 use Rattle.lert_cone.specs.Stands.{Standing}
-use Rattle.lert_ingest.specs.Bays.{AreLater, bays_of}
-use Rattle.lert_ingest.specs.Stops.{IsExact}
-use Rattle.lert_ingest.proofs.BayLaws.{are_more}
-use Rattle.lert_ingest.proofs.EachLaws.{kept_unused, unused_more}
-use Rattle.lert_ingest.proofs.Exactly.{exact_memory, exact_turned}
-use Rattle.lert_top.specs.runs.Ran.{IsDone}
-use Rattle.lert_top.specs.runs.Run.{RunShows, unmade}
-use Rattle.lert_top.specs.cones.Unmade.{IsUnmade}
-use Rattle.lert_top.proofs.cones.AskedLaws.{traces_same}
-use Rattle.lert_top.proofs.cones.ConeLaws.{unmade_since}
-use Rattle.lert_top.specs.cones.Closed.{AreClosedInEach}
-use Rattle.lert_top.proofs.runs.DoneLaws.{unmade_not_done}
-use Rattle.lert_top.proofs.runs.Ending.{only_memory, shows_since, telling_since}
+use Rattle.lert_ingest.specs.{Bays.{AreLater, bays_of}, Stops.IsExact}
+use Rattle.lert_ingest.proofs.{BayLaws.are_more, EachLaws.{kept_unused, unused_more}, Exactly.{exact_memory, exact_turned}}
+use Rattle.lert_top.specs.{runs.Ran.IsDone, runs.Run.{RunShows, unmade}, cones.Unmade.IsUnmade, cones.Closed.AreClosedInEach}
+use Rattle.lert_top.proofs.{cones.AskedLaws.traces_same, cones.ConeLaws.unmade_since, runs.DoneLaws.unmade_not_done, runs.Ending.{only_memory, shows_since, telling_since}}
 use Rattle.lert_top.proofs.runs.runs.run_bays.Given as given
 use Rattle.lert_top.proofs.runs.runs.run_bays.Goals as goal
 use Rattle.lert_top.proofs.runs.runs.run_bays.Goals.{In-Err-make_cones}

@@ -1,17 +1,10 @@
-use Rattle.std.proofs.Common.{refl, sym, ◌∙◌}
-use Rattle.std.proofs.lemmas.List.{length-map}
+use Rattle.std.proofs.{Common.{refl, sym, ◌∙◌}, lemmas.List.length-map}
 use Rattle.lert_cone.specs.Stands.{Standing}
-use Rattle.lert_ingest.specs.Bays.{bays_of}
-use Rattle.lert_ingest.proofs.BayLaws.{are_more, are_same}
-use Rattle.lert_ingest.proofs.Exactly.{exact_memory}
-use Rattle.lert_ingest.specs.Stops.{out_of_memory}
-use Rattle.lert_top.proofs.cones.StatusLaws.{err_at, ok_at}
-use Rattle.lert_top.proofs.cones.AskedLaws.{traces_same}
-use Rattle.lert_top.proofs.cones.StatusLaws.{no_memory_not_done}
-use Rattle.lert_top.proofs.runs.DoneLaws.{reading_not_done}
-use Rattle.lert_top.specs.runs.Run.{ended, stopped}
-use Rattle.lert_top.proofs.runs.Ending.{ends_since}
+use Rattle.lert_ingest.specs.{Bays.bays_of, Stops.out_of_memory}
+use Rattle.lert_ingest.proofs.{BayLaws.{are_more, are_same}, Exactly.exact_memory}
+use Rattle.lert_top.proofs.{cones.StatusLaws.{err_at, ok_at, no_memory_not_done}, cones.AskedLaws.traces_same, runs.DoneLaws.reading_not_done, runs.Ending.ends_since}
 use Rattle.lert_top.proofs.runs.RunLaws.{exact_ended, exact_stopped}
+use Rattle.lert_top.specs.runs.Run.{ended, stopped}
 use Rattle.lert_top.proofs.runs.runs.run_cones.Goals as goal
 
 -- there was no memory, and nothing was read

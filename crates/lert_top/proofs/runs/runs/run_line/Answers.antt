@@ -3,18 +3,12 @@ use Rattle.lert_args.specs.Names.{names_of}
 use Rattle.lert_io.proofs.Rising.{risen_since}
 use Rattle.lert_io.specs.Fault.{HasRisen}
 use Rattle.lert_place.specs.Openings.{bays_granted, traces_granted}
-use Rattle.lert_ingest.specs.Bays.{AreLater}
-use Rattle.lert_ingest.specs.Traces.{AreTracesLater}
-use Rattle.lert_ingest.specs.declared.status.Status.{Status}
+use Rattle.lert_ingest.specs.{Bays.AreLater, Traces.AreTracesLater, declared.status.Status.Status}
 use Rattle.lert_ingest.proofs.BayLaws.{are_same}
-use Rattle.lert_top.proofs.cones.AskedLaws.{same_returned}
-use Rattle.lert_top.specs.cones.Asked.{IsNameRefused, traces_opened}
-use Rattle.lert_top.specs.runs.Run.{HasRun}
-use Rattle.lert_top.proofs.cones.ClosedLaws.{place_not_done, returned_still}
-use Rattle.lert_top.proofs.cones.AskedLaws.{asked_along, none_returned, none_returned_same, nothing_handed, returned_along, returned_same_along}
-use Rattle.lert_top.proofs.cones.AskedLaws.{traces_marked, traces_returned, traces_same, word_at-slice_get}
-use Rattle.lert_top.proofs.cones.StatusLaws.{no_memory_no_place, no_memory_no_usage, no_memory_not_done, no_place_no_usage}
-use Rattle.lert_top.proofs.runs.RunLaws.{run_none}
+use Rattle.lert_top.proofs.cones.AskedLaws.{same_returned, asked_along, none_returned, none_returned_same, nothing_handed, returned_along, returned_same_along, traces_marked, traces_returned}
+use Rattle.lert_top.proofs.{cones.AskedLaws.{traces_same, word_at-slice_get}, cones.ClosedLaws.{place_not_done, returned_still}}
+use Rattle.lert_top.proofs.{cones.StatusLaws.{no_memory_no_place, no_memory_no_usage, no_memory_not_done, no_place_no_usage}, runs.RunLaws.run_none}
+use Rattle.lert_top.specs.{cones.Asked.{IsNameRefused, traces_opened}, runs.Run.HasRun}
 use Rattle.lert_top.proofs.runs.runs.run_line.Goals as goal
 
 pub returns-in-Err : goal.returns-in-Err

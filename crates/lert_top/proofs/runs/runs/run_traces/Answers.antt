@@ -1,12 +1,9 @@
 use Rattle.std.proofs.Common.{[], List, length, refl, ap, sym, ◌∙◌, subst, arith, inl, inr, append-nil}
-use Rattle.lert_ingest.specs.declared.status.Status.{Status}
-use Rattle.lert_ingest.specs.Bays.{AreLater}
+use Rattle.lert_ingest.specs.{declared.status.Status.Status, Bays.AreLater}
 use Rattle.lert_top.specs.runs.Run.{HasRun}
-use Rattle.lert_top.proofs.cones.AskedLaws.{all_back, none_returned, traces_same}
-use Rattle.lert_top.proofs.cones.ClosedLaws.{place_not_done, returned_in_each}
+use Rattle.lert_top.proofs.{cones.AskedLaws.{all_back, none_returned, traces_same}, cones.ClosedLaws.{place_not_done, returned_in_each}}
+use Rattle.lert_top.proofs.{cones.StatusLaws.{no_memory_no_place, no_memory_no_usage, no_memory_not_done, no_place_no_usage}, runs.RunLaws.{HasRun-shows, not_place_fault, not_usage, run_none}}
 use Rattle.lert_ingest.proofs.BayLaws.{are_same, still_marked}
-use Rattle.lert_top.proofs.cones.StatusLaws.{no_memory_no_place, no_memory_no_usage, no_memory_not_done, no_place_no_usage}
-use Rattle.lert_top.proofs.runs.RunLaws.{HasRun-shows, not_place_fault, not_usage, run_none}
 use Rattle.lert_top.proofs.runs.runs.run_traces.Goals as goal
 
 pub returns-in-Err : goal.returns-in-Err

@@ -1,13 +1,10 @@
 use Rattle.std.proofs.Common.{◌≡◌, ◌+◌, ◌++◌, ◌∷◌, [], true, false, length, get_or, take, slice_get, refl, inl, inr, ap, sym, ◌∙◌, subst, arith, rules, append_assoc, length-append}
-use Rattle.lert_args.specs.Names.{names_of}
-use Rattle.lert_args.specs.Word.{word_at}
+use Rattle.lert_args.specs.{Names.names_of, Word.word_at}
 use Rattle.lert_io.proofs.Rising.{risen_since}
 use Rattle.lert_io.specs.Fault.{HasRisen}
 use Rattle.lert_place.specs.Openings.{trace_asked}
-use Rattle.lert_top.proofs.cones.AskedLaws.{all_returned, same_returned}
+use Rattle.lert_top.proofs.{cones.AskedLaws.{all_returned, same_returned, name_there, names_before, opened_more, word_at-slice_get}, cones.ConeLaws.each-push}
 use Rattle.lert_top.specs.cones.Asked.{traces_opened}
-use Rattle.lert_top.proofs.cones.AskedLaws.{name_there, names_before, opened_more, word_at-slice_get}
-use Rattle.lert_top.proofs.cones.ConeLaws.{each-push}
 use Rattle.lert_top.proofs.runs.traces.open_traces.Goals as goal
 
 pub returns-in-Err-clause-refused : goal.returns-in-Err-clause-refused

@@ -1,6 +1,5 @@
 use Rattle.std.proofs.Common.{◌+◌, ◌≤◌, List, if◌then◌else◌, ◌==◌, length, rules, subst, sym, ◌∙◌}
-use Rattle.lert_levels.specs.declared.bound.pair.Pair.{Pair}
-use Rattle.lert_levels.specs.bound.Covers.{CoversCounts}
+use Rattle.lert_levels.specs.{declared.bound.pair.Pair.Pair, bound.Covers.CoversCounts}
 use Rattle.lert_levels.proofs.bound.Adding.{bytes_added, counts_added}
 use Rattle.lert_levels.proofs.bound.bound.Bound.add.Goals as goal
 

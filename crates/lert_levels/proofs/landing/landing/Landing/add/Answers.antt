@@ -1,7 +1,5 @@
-use Rattle.std.proofs.Common.{List, append-nil, refl, ap, sym, ◌∙◌}
-use Rattle.std.proofs.lemmas.Bool.{false≢true}
-use Rattle.lert_bay.specs.declared.bay.TheConstants.{FRAMES}
-use Rattle.lert_bay.specs.Kept.{Bays, seen_by}
+use Rattle.std.proofs.{Common.{List, append-nil, refl, ap, sym, ◌∙◌}, lemmas.Bool.false≢true}
+use Rattle.lert_bay.specs.{declared.bay.TheConstants.FRAMES, Kept.{Bays, seen_by}}
 use Rattle.lert_bay.proofs.KeptLaws.{IsLawful}
 use Rattle.lert_spec.specs.declared.piece.Piece.{Piece}
 use Rattle.lert_levels.specs.landing.Whole.{whole}

@@ -1,7 +1,6 @@
 use Rattle.std.proofs.Common.{◌++◌, Option, ap, sym, ◌∙◌, arith}
 use Rattle.std.specs.Prelude.{option_to_list}
-use Rattle.lert_spec.specs.declared.piece.Piece.{Piece}
-use Rattle.lert_spec.specs.Table.{plus}
+use Rattle.lert_spec.specs.{declared.piece.Piece.Piece, Table.plus}
 use Rattle.lert_levels.proofs.landing.SumLaws.{whole_first, whole_same, whole_next}
 use Rattle.lert_levels.proofs.landing.sum.Sum.add.Goals as goal
 

@@ -1,6 +1,5 @@
 use Rattle.std.proofs.Common.{◌-◌, rules, arith}
-use Rattle.lert_levels.proofs.rows.YoungAdds.{Adds, add_place, add_fits, add_below, add_filled, add_bins}
-use Rattle.lert_levels.proofs.rows.YoungBounds.{added_bounded}
+use Rattle.lert_levels.proofs.{rows.YoungAdds.{Adds, add_place, add_fits, add_below, add_filled, add_bins}, rows.YoungBounds.added_bounded}
 use Rattle.lert_levels.proofs.rows.YoungNumbers.{IsNumbered, numbered, small_bins, small_end}
 use Rattle.lert_levels.proofs.rows.zero.Zero.add.Given as given
 use Rattle.lert_levels.proofs.rows.zero.Zero.add.Goals.{After-grow}

@@ -1,6 +1,4 @@
-use Rattle.lert_levels.proofs.rows.YoungBounds.{dropped_bounded}
-use Rattle.lert_levels.proofs.rows.YoungDrops.{Drops, drops_whole, dropped_filled, dropped_bins}
-use Rattle.lert_levels.proofs.rows.YoungNumbers.{some_numbered, dropped_numbered}
+use Rattle.lert_levels.proofs.{rows.YoungBounds.dropped_bounded, rows.YoungDrops.{Drops, drops_whole, dropped_filled, dropped_bins}, rows.YoungNumbers.{some_numbered, dropped_numbered}}
 use Rattle.lert_levels.proofs.rows.zero.Zero.drop_oldest.Given as given
 use Rattle.lert_levels.proofs.rows.zero.Zero.drop_oldest.Goals.{After-rotate_left}
 use Rattle.lert_levels.proofs.rows.zero.Zero.drop_oldest.Goals as goal

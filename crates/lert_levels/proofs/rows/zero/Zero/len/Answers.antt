@@ -1,5 +1,4 @@
-use Rattle.std.proofs.Common.{◌≡◌, ◌∙◌, length, ap, sym, arith}
-use Rattle.std.proofs.lemmas.List.{length-map}
+use Rattle.std.proofs.{Common.{◌≡◌, ◌∙◌, length, ap, sym, arith}, lemmas.List.length-map}
 use Rattle.lert_levels.proofs.rows.zero.Zero.len.Goals as goal
 
 pub returns : goal.returns

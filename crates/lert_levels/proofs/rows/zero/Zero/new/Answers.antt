@@ -1,8 +1,6 @@
 use Rattle.std.proofs.Common.{List, subst, sym, ◌+◌}
 use Rattle.lert_spec.specs.Limits.{IsValid}
-use Rattle.lert_levels.proofs.rows.YoungLaws.{AreEmpty, empty_begin, empty_more, empty_filled, empty_bins}
-use Rattle.lert_levels.proofs.rows.YoungBounds.{empty_bounded}
-use Rattle.lert_levels.proofs.rows.YoungNumbers.{none_numbered}
+use Rattle.lert_levels.proofs.{rows.YoungLaws.{AreEmpty, empty_begin, empty_more, empty_filled, empty_bins}, rows.YoungBounds.empty_bounded, rows.YoungNumbers.none_numbered}
 use Rattle.lert_levels.proofs.rows.zero.Zero.new.Goals as goal
 
 pub loop-init : goal.loop-init

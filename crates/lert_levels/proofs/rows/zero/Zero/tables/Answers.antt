@@ -1,5 +1,4 @@
-use Rattle.std.proofs.Common.{sym}
-use Rattle.std.proofs.lemmas.List.{length-take-le}
+use Rattle.std.proofs.{Common.sym, lemmas.List.length-take-le}
 use Rattle.lert_levels.proofs.rows.LoadLaws.{used, used_within, used_are, used_rooms, used_of_zero, used_widths, used_narrow, used_some, used_few}
 use Rattle.lert_levels.proofs.rows.zero.Zero.tables.Goals as goal
 

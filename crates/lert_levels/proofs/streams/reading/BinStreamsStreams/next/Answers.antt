@@ -1,5 +1,5 @@
-use Rattle.lert_levels.proofs.streams.NextLaws.{next_told, next_untold, next_ended, next_given, next_refused, next_ascending, next_limit}
-use Rattle.lert_levels.proofs.streams.NextLaws.{next_malformed, next_leaves, next_others, next_count, next_same}
+use Rattle.lert_levels.proofs.streams.NextLaws.{next_told, next_untold, next_ended, next_given, next_refused, next_ascending, next_limit, next_malformed, next_leaves, next_others, next_count}
+use Rattle.lert_levels.proofs.streams.NextLaws.{next_same}
 use Rattle.lert_levels.proofs.streams.reading.BinStreamsStreams.next.Goals as goal
 
 pub returns-clause-told : goal.returns-clause-told
