@@ -1,11 +1,14 @@
 -- What a step of the order says, and what it leaves to come.
 use Rattle.std.proofs.Common.{◌≡◌, ℕ, ◌<◌, ◌≤◌, ◌^◌, Option, Some, None, IfSome, MatchOption, List, [], ◌∷◌, ◌++◌, length, set, get_or, All}
-use Rattle.std.proofs.Common.{Result, Ok, IfOk, OnOk, arith, sym, ap, ◌∙◌, refl, subst, inl, inr, length-set, get_or-set_same, get_or-set_other}
+use Rattle.std.proofs.Common.{Result, Ok, Err, IfOk, OnOk, arith, sym, ap, ◌∙◌, refl, subst, inl, inr, length-set, get_or-set_same, get_or-set_other}
 use Rattle.std.proofs.lemmas.Bool.{cases_eq}
+use Rattle.std.specs.Prelude.{OnErr}
 use Rattle.lert_base.specs.declared.pieces.PieceFault.{PieceFault}
+use Rattle.lert_base.specs.declared.pieces.PieceFault.TheVariants.{Failed, Malformed}
+use Rattle.lert_io.specs.Fault.{HasRisen}
 use Rattle.lert_spec.specs.declared.piece.Piece.{Piece}
 use Rattle.lert_spec.specs.Table.{AreGiven}
-use Rattle.lert_merge.specs.order.Ordering.{Ordering, AreOver, AreKnown, AreSame, Tells, HasTaken, AreEnded, IsNext, IsNotBelow, IsBelow, part_in}
+use Rattle.lert_merge.specs.order.Ordering.{Ordering, AreOver, AreKnown, AreWhole, AreSame, Tells, HasTaken, AreEnded, IsNext, IsNotBelow, IsBelow, IsNothingGiven, Breaks, part_in}
 use Rattle.lert_merge.specs.declared.order.streams.Streams.{Ghosts as StreamsOf}
 use Rattle.lert_merge.proofs.order.GiveLemmas.{part_here, part_else}
 
@@ -36,14 +39,19 @@ StepSays members faults mark a x b y result = record {
       (λ g. (rest : List Piece) × (IsNext lists g.0 g.1 rest × Tells members b y (set lists g.0 rest))));
   untold : (k : ℕ) → k < members.count x.streams → members.to_come x.streams k a ≡ None → members.to_come y.streams k b ≡ None;
   known : OnOk result (AreKnown members a x b y);
+  whole : OnOk result (AreWhole members a x → AreWhole members b y);
   above : IfOk result (λ given. IfSome given (λ g. IsNotBelow x.last g.1.tail));
   below : IfOk result (λ given. IfSome given (λ g. IsBelow members y.streams g.0 g.1.tail));
   last : IfOk result (λ given. IfSome given (λ g. y.last ≡ Some g.1.tail));
   small : IfOk result (λ given. IfSome given (λ g. (1 ≤ g.1.count) × (g.1.count ≤ 2 ^ 47)));
   ascending : IfOk result (λ given. IfSome given (λ g. (pieces : List Piece) → HasTaken members x g.0 pieces → AreGiven (members.limit y.streams g.0) (pieces ++ g.1 ∷ [])));
   taken : IfOk result (λ given. (k : ℕ) (pieces : List Piece) → k < members.count x.streams → HasTaken members x k pieces → HasTaken members y k (pieces ++ part_in given k));
+  refused : OnErr result ((k : ℕ) (pieces : List Piece) → k < members.count x.streams → HasTaken members x k pieces → HasTaken members y k pieces);
   held : (k : ℕ) → k < members.count x.streams → (pieces : List Piece) × HasTaken members x k pieces;
   over : result ≡ Ok None → AreEnded members y;
+  nothing_given : IsNothingGiven result → y.last ≡ x.last;
+  failed : result ≡ Err Failed → HasRisen (faults a) (faults b);
+  malformed : (at : ℕ) → result ≡ Err (Malformed at) → Breaks members a x.streams at;
   same : AreSame members a x b y;
   kept : members.same x.streams y.streams;
   faults : faults a ≤ faults b;
