@@ -3,6 +3,7 @@ says that their proofs take."""
 
 from __future__ import annotations
 
+import hashlib
 import re
 import shutil
 from pathlib import Path
@@ -11,6 +12,8 @@ from typing import Callable
 TOP = Path(__file__).resolve().parents[2]
 MEASURED = TOP / "docs/dev/GATE.md"
 PROGRAM = "lert_program"
+# The folders of a crate's sources.
+PARTS = ("src", "specs", "proofs")
 # A row of the table that tools/build/measure prints: the crate, and the processor seconds of its proof.
 ROW = re.compile(r"^\| *`?(\w+)`? *\| *([\d,]+(?:\.\d+)?) *\|", re.MULTILINE)
 # Where a crate isn't in that table, seconds for each line that its check reads, as a guess.
@@ -35,6 +38,14 @@ class Crates:
 
     def folder(self, name: str) -> Path:
         return self.top / "crates" / name
+
+    def digest(self, name: str) -> str:
+        """The digest of what a crate has of its own: its line, and its files."""
+        found = hashlib.sha256(self.lines[name].encode())
+        folder = self.folder(name)
+        for file in sorted(file for part in PARTS for file in (folder / part).rglob("*") if file.is_file()):
+            found.update(repr((str(file.relative_to(folder)), file.read_bytes())).encode())
+        return found.hexdigest()
 
     def needs(self, name: str) -> list[str]:
         """The crates of the repository that it names."""
@@ -81,7 +92,7 @@ class Crates:
         return {name: found.get(name) or SECONDS_A_LINE * self.count_lines(name) for name in self.lines}
 
     def count_lines(self, name: str) -> int:
-        files = [file for part in ("src", "specs", "proofs") for file in (self.folder(name) / part).rglob("*")]
+        files = [file for part in PARTS for file in (self.folder(name) / part).rglob("*")]
         return sum(file.read_bytes().count(b"\n") for file in files if file.is_file())
 
 
