@@ -97,9 +97,9 @@ def keeps_rules(header: Header) -> None:
         header.cone_bits <= 8,
         1 <= header.room <= 4_194_304,
         1 <= header.packet <= 1_024,
-        cones * header.bins * header.base <= 1 << 24,
+        cones * header.bins * header.base <= 1 << 23,
         cones * header.room <= 1 << 24,
-        (header.bins - 1) * sum(spans) + spans[-1] <= 1 << 32,
+        (header.bins - 1) * sum(spans) + spans[-1] <= 1 << 31,
     )
     for number, kept in enumerate(rules, 1):
         if not kept:

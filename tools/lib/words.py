@@ -127,10 +127,10 @@ def broken_setting(numbers: dict[str, int]) -> Optional[int]:
     bins, ratio, base, levels = (numbers[name] for name in ("bins", "ratio", "base", "levels"))
     spans = [base * ratio**level for level in range(levels + 1)]
     cones = 2 ** numbers["cone-bits"]
-    if cones * bins * base > 2**24:
+    if cones * bins * base > 2**23:
         return 9
     if cones * numbers["room"] > 2**24:
         return 10
-    if (bins - 1) * sum(spans) + spans[-1] > 2**32:
+    if (bins - 1) * sum(spans) + spans[-1] > 2**31:
         return 11
     return None

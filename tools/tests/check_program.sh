@@ -84,9 +84,9 @@ check_words() {
     breaks 1 run --threshold 4294967296 --cone-bits 0 d sevens
     breaks_long 2 3 1 2 4 2 0 32 0
     breaks_long 6 3 3 2 4 2 9 32 8
-    breaks_long 9 3 16 2 65536 2 5 32 8
+    breaks_long 9 3 16 2 65536 2 4 32 8
     breaks_long 10 3 3 2 4 2 8 65537 8
-    breaks_long 11 3 16 16 65536 8 0 32 8
+    breaks_long 11 3 16 16 8 6 0 32 8
 }
 
 packets_left() { journal d/cone-000.journal; }
