@@ -9,7 +9,7 @@ from __future__ import annotations
 from typing import NamedTuple
 
 from .cones import Levels, levels_of
-from .formats import BadNumbers, keeps_rules
+from .formats import KEY_LEN, WRITTEN, BadNumbers, item_len, keeps_rules
 from .slots import frame_len, quotient_bits
 from .words import Settings
 
@@ -19,7 +19,6 @@ MOST_ROOM_OF_ALL = 1 << 24
 MOST_LEVELS = 8
 MOST_CONE_BITS = 8
 
-KEY_LEN = 8
 REPORT_LEN = 16
 JOURNAL_HEAD, LOG_HEAD = 33, 9
 # The gate, the length, the worker and the trace of a packet, and all of a log record but directory and reports.
@@ -97,7 +96,7 @@ def frames_len(settings: Settings, events: int) -> int:
     """The file of frames of a cone behind so many events, at most: the places of the levels that it has reached."""
     edges = levels(settings)
     reached = (one for one in range(1, settings.levels + 1) if edges.edge(one - 1, events))
-    return (settings.bins + 1) * sum(frame_len(edges.span(one)) for one in reached)
+    return (settings.bins + 1) * sum(frame_len(edges.span(one), WRITTEN) for one in reached)
 
 
 def disk(settings: Settings, events: int, fullest: int, traces: int = 1) -> Disk:
@@ -108,7 +107,7 @@ def disk(settings: Settings, events: int, fullest: int, traces: int = 1) -> Disk
     record = RECORD_HEAD + settings.levels * (1 + settings.bins)
     reports = min(events // settings.threshold, cones * settings.room)
     return Disk(
-        JOURNAL_HEAD * cones + PACKET_HEAD * packets + KEY_LEN * events,
+        JOURNAL_HEAD * cones + PACKET_HEAD * packets + item_len(WRITTEN) * events,
         min(cones * frames_len(settings, fullest), most_frames(settings, events, cones)),
         LOG_HEAD * cones + record * (flushes + cones) + REPORT_LEN * reports,
     )
@@ -120,5 +119,5 @@ def most_frames(settings: Settings, events: int, cones: int) -> int:
     total = 0
     for level in range(1, settings.levels + 1):
         due = edges.offset(level - 1) + edges.span(level - 1)
-        total += min(cones, events // due) * (settings.bins + 1) * frame_len(edges.span(level))
+        total += min(cones, events // due) * (settings.bins + 1) * frame_len(edges.span(level), WRITTEN)
     return total

@@ -6,17 +6,19 @@ some seconds.
 
 from __future__ import annotations
 
-from bisect import bisect_right
+from bisect import bisect_left, bisect_right
 from collections import Counter, defaultdict
 from functools import cache, cached_property
 from itertools import accumulate
-from typing import Callable, Iterator, NamedTuple, Sequence, TypeVar
+from typing import Callable, Iterable, Iterator, NamedTuple, Sequence, TypeVar
 
 from .formats import (
     HEADER_LEN,
     LOG_MAGIC,
     OPEN,
+    VERSIONS,
     Header,
+    Item,
     Left,
     Packet,
     begins_with,
@@ -84,7 +86,7 @@ class Levels(NamedTuple):
         return flushes[-1] if flushes else 0
 
     def capacity(self, header: Header) -> int:
-        return min(self.offset(self.levels) + self.span(self.levels) - 1, header.threshold * header.room)
+        return min(self.offset(self.levels) + self.span(self.levels) - 1, header.weight_room())
 
     def ranges(self, level: int, events: int) -> Iterator[tuple[int, int]]:
         """The positions of the bins of a level: above the first number, up to the second."""
@@ -94,10 +96,10 @@ class Levels(NamedTuple):
             if one[0] < one[1]:
                 yield one
 
-    def frame_place(self, level: int, frame: int) -> int:
+    def frame_place(self, version: int, level: int, frame: int) -> int:
         """The first byte of a frame. There is one more on a level than bins."""
-        younger = sum(frame_len(self.span(one)) for one in range(1, level))
-        return (self.bins + 1) * younger + frame * frame_len(self.span(level))
+        younger = sum(frame_len(self.span(one), version) for one in range(1, level))
+        return (self.bins + 1) * younger + frame * frame_len(self.span(level), version)
 
 
 def levels_of(header: Header) -> Levels:
@@ -119,33 +121,73 @@ class Record(NamedTuple):
     reports: list[Report]
 
 
-def look(levels: Levels, threshold: int, events: list[int]) -> list[Report]:
-    """At each position the keys not listed that occur `threshold` times in the window that it looks back to."""
+class Sums:
+    """The places of a key, which ascend, and the sum of its weights up to each."""
+
+    def __init__(self, weights: Iterable[tuple[int, int]] = ()) -> None:
+        """Of these places, each with its weight."""
+        self.places: list[int] = []
+        self.sums: list[int] = [0]
+        for at, weight in weights:
+            self.add(at, weight)
+
+    def add(self, at: int, weight: int) -> None:
+        self.places.append(at)
+        self.sums.append(self.sums[-1] + weight)
+
+    def upto(self, at: int) -> int:
+        return self.sums[bisect_right(self.places, at)]
+
+    def count(self, start: int, end: int) -> int:
+        """The sum of the weights at the places above the first number, up to the second."""
+        return self.upto(end) - self.upto(start)
+
+    def reached(self, count: int) -> int | None:
+        """The place at which the sum comes to a number above 0, if there is one."""
+        number = bisect_left(self.sums, count)
+        return self.places[number - 1] if number < len(self.sums) else None
+
+
+def counts_of(events: Iterable[Item]) -> Counter[int]:
+    """The sum of the weights of each key."""
+    counts: Counter[int] = Counter()
+    for key, weight in events:
+        counts[key] += weight
+    return counts
+
+
+def heavy(threshold: int, events: Iterable[Item]) -> list[int]:
+    """The keys whose weights in all events add up to the threshold."""
+    return sorted(key for key, count in counts_of(events).items() if count >= threshold)
+
+
+def look(levels: Levels, threshold: int, events: list[Item]) -> list[Report]:
+    """At each position the keys not listed whose weights in the window that it looks back to add up to `threshold`."""
     reports: list[Report] = []
-    places: dict[int, list[int]] = defaultdict(list)
-    # A key that is due somewhere occurs that often in all: only these are looked at, until they are listed.
-    heavy = {key for key, count in Counter(events).items() if count >= threshold}
+    sums: dict[int, Sums] = defaultdict(Sums)
+    # A key that is due somewhere is heavy in all: only these are looked at, until they are listed.
+    unlisted = set(heavy(threshold, events))
     waiting: set[int] = set()
     flushes = levels.flushes(len(events))
-    for at, key in enumerate(events, 1):
-        if key in heavy:
-            places[key].append(at)
-            if len(places[key]) >= threshold:
+    for at, (key, weight) in enumerate(events, 1):
+        if key in unlisted:
+            sums[key].add(at, weight)
+            if sums[key].sums[-1] >= threshold:
                 waiting.add(key)
         asked = sorted(waiting, key=mixed) if at in flushes else [key] if key in waiting else []
         start = levels.lookback(at) if asked else 0
         for one in asked:
-            if len(places[one]) - bisect_right(places[one], start) >= threshold:
+            if sums[one].count(start, at) >= threshold:
                 reports.append(Report(one, at))
-                heavy.remove(one)
+                unlisted.remove(one)
                 waiting.remove(one)
     return reports
 
 
-def left_over(threshold: int, events: list[int], looked: list[Report]) -> list[Report]:
-    """What closing adds at the last position: the keys not listed that occur `threshold` times in all events."""
+def left_over(threshold: int, events: list[Item], looked: list[Report]) -> list[Report]:
+    """What closing adds at the last position: the keys not listed whose weights add up to `threshold` in all events."""
     listed = {report.key for report in looked}
-    due = [key for key, count in Counter(events).items() if count >= threshold and key not in listed]
+    due = [key for key in heavy(threshold, events) if key not in listed]
     return [Report(key, len(events)) for key in sorted(due, key=mixed)]
 
 
@@ -256,17 +298,21 @@ class Log:
 class Cone:
     """The files of a cone, read in the order in which they are opened again: the header of the journal, the log, the
     frames that its last record names, and the packets of the journal. The count is that of the events up to the last
-    packet, which are more than those read where the first packets aren't."""
+    packet, which are more than those read where the first packets aren't; the weight is what these and the frames add
+    up to."""
+
+    # Of the journals that are read.
+    versions: Sequence[int] = VERSIONS
 
     def __init__(self, files: Sequence[bytes], due: Header | None = None) -> None:
         """The three files in their order, and the header that is due in the journal, where it is known."""
         self.files = files
-        self.header = header = in_file(JOURNAL, lambda data: header_of(data, due), files[JOURNAL])
+        self.header = header = in_file(JOURNAL, lambda data: header_of(data, due, self.versions), files[JOURNAL])
         self.levels = levels_of(header)
         self.log = Log(header, self.levels)
         self.packets: list[tuple[int, Packet]] = []
-        self.events: list[int] = []
-        self.count = 0
+        self.events: list[Item] = []
+        self.count = self.weight = 0
         self.frames: list[tuple[int, int, list[Piece]]] = []
 
     def read(self) -> None:
@@ -280,13 +326,17 @@ class Cone:
 
     def shape(self, level: int) -> Shape:
         """That of a level's frames."""
-        return shape_of(self.levels.span(level), self.header.cone_bits)
+        return shape_of(self.levels.span(level), self.header.cone_bits, self.header.version)
+
+    def frame_place(self, level: int, frame: int) -> int:
+        return self.levels.frame_place(self.header.version, level, frame)
 
     def read_frames(self, data: bytes) -> None:
         for level, frames in enumerate(self.log.directory, 1):
             for (low, high), frame in zip(self.levels.ranges(level, self.log.n0), frames, strict=True):
-                place = self.levels.frame_place(level, frame)
-                self.frames.append((low, high, pieces_at(data, place, self.shape(level), high - low)))
+                pieces = pieces_at(data, self.frame_place(level, frame), self.shape(level), high - low)
+                self.frames.append((low, high, pieces))
+                self.weight += sum(count for _tail, count in pieces)
 
     def read_journal(self, data: bytes, gate: int = HEADER_LEN, first: int = 1) -> None:
         """Takes the packets from a gate on, of which the first one begins with the key at this position."""
@@ -294,16 +344,22 @@ class Cone:
         self.count = first - 1
         end = gate
         for gate, packet in packets(data, gate):
-            self.count += len(packet.keys)
+            self.weight += self.weight_behind(packet)
+            self.count += len(packet.items)
             if self.log.closed and self.count > n0:
                 raise Left(gate)
-            if self.count > capacity:
+            if self.count > capacity or self.weight > self.header.weight_room():
                 raise Left(gate + 1)
             self.packets.append((gate, packet))
-            self.events += packet.keys
-            end = packet.behind(gate)
+            self.events += packet.items
+            end = self.header.behind(gate, len(packet.items))
         if self.count < n0:
             raise Left(end)
+
+    def weight_behind(self, packet: Packet) -> int:
+        """That of the next packet's items behind the edge of level 0: those before it stand in the frames."""
+        before = max(0, self.levels.edge(0, self.log.n0) - self.count)
+        return sum(item.weight for item in packet.items[before:])
 
     @cached_property
     def looked(self) -> list[Report]:
@@ -315,14 +371,14 @@ class Cone:
     def check(self) -> None:
         """The files, which keep their formats, are sound for the packets of the journal."""
         n0, events = self.log.n0, len(self.events)
-        before_last = events - len(self.packets[-1][1].keys) if self.packets else 0
+        before_last = events - len(self.packets[-1][1].items) if self.packets else 0
         if n0 < self.levels.last_flush(before_last):
             raise Unsound(f"the log speaks of {n0} events, and a flush was due behind them")
         bits = 64 - self.header.cone_bits
         for low, high, pieces in self.frames:
             # No two keys of a cone have the same tail.
-            counts = Counter(self.events[low:high])
-            if pieces != sorted((mixed(key) % (1 << bits), times) for key, times in counts.items()):
+            counts = counts_of(self.events[low:high])
+            if pieces != sorted((mixed(key) % (1 << bits), count) for key, count in counts.items()):
                 raise Unsound(f"the frame of the positions above {low} up to {high} doesn't hold their counts")
         # What is listed at a position doesn't depend on the events behind it.
         made = self.reports(CLOSED) if self.log.closed else [report for report in self.looked if report.at <= n0]
@@ -345,7 +401,7 @@ class Cone:
     @cached_property
     def first_positions(self) -> list[int]:
         """Those of the journal's records, and behind them the next one."""
-        return list(accumulate((len(packet.keys) for _gate, packet in self.packets), initial=1))
+        return list(accumulate((len(packet.items) for _gate, packet in self.packets), initial=1))
 
     def begin_of(self, n0: int) -> tuple[int, int]:
         """The journal's record that holds the first position of level 0 behind n0 events: its gate, and the position of

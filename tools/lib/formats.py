@@ -1,18 +1,27 @@
 """The formats of traces and of a cone's files, as docs/FORMATS.md has them, for the tools beside it. Those of frames
 are in slots.py.
 
-It knows nothing of the program. A whole file is kept in memory.
+A trace or a journal of version 2 has a weight beside each key; in one of version 1 each weighs 1. It knows nothing of
+the program. A whole file is kept in memory.
 """
 
 from __future__ import annotations
 
 import struct
-from typing import Iterator, NamedTuple
+from itertools import repeat
+from typing import Iterable, Iterator, NamedTuple, Sequence
 
+VERSIONS = (1, 2)
+# That of the journals and frames that the program writes.
+WRITTEN = 1
+# The first bytes of a journal and of a trace. Behind them stands the version, and zeros up to the eighth byte.
+JOURNAL_HEAD, TRACE_HEAD = b"LERTJ", b"LERT"
+MAGIC_LEN = 8
 JOURNAL_MAGIC = bytes.fromhex("4c4552544a010000")
 LOG_MAGIC = bytes.fromhex("4c4552544c010000")
 TRACE_MAGIC = bytes.fromhex("4c45525401000000")
 HEADER_LEN = 32
+KEY_LEN = 8
 OPEN = 1
 MOST_BY = 63
 MOST_TRACE = 1023
@@ -27,8 +36,15 @@ class Left(Exception):
         self.at = at
 
 
+class Item(NamedTuple):
+    """A key, and by how much its count grows."""
+
+    key: int
+    weight: int
+
+
 class Header(NamedTuple):
-    """What the header of a journal says: the eight numbers, and the cone."""
+    """What the header of a journal says: the eight numbers, the cone, and the version."""
 
     threshold: int
     room: int
@@ -39,6 +55,19 @@ class Header(NamedTuple):
     levels: int
     cone_bits: int
     cone: int
+    version: int = WRITTEN
+
+    def most_payload(self) -> int:
+        """The bytes of the longest packet."""
+        return 8 + 4 * self.packet * item_len(self.version)
+
+    def weight_room(self) -> int:
+        """The greatest weight of a cone's items: up to it no more keys than there is room for have the threshold."""
+        return self.threshold * self.room
+
+    def behind(self, gate: int, items: int) -> int:
+        """The gate behind the record of a packet of so many items."""
+        return gate + 13 + item_len(self.version) * items
 
 
 class BadNumbers(Exception):
@@ -55,11 +84,36 @@ class OtherSettings(Exception):
 class Packet(NamedTuple):
     by: int
     trace: int
-    keys: tuple[int, ...]
+    items: tuple[Item, ...]
 
-    def behind(self, gate: int) -> int:
-        """The gate behind its record."""
-        return gate + 13 + 8 * len(self.keys)
+
+def item_len(version: int) -> int:
+    """The bytes of a key, and of its weight where it has one."""
+    return KEY_LEN if version == 1 else KEY_LEN + 1
+
+
+def units(keys: Iterable[int]) -> Iterator[Item]:
+    """Each of the keys with the weight 1."""
+    return map(Item, keys, repeat(1))
+
+
+def items_in(version: int, data: bytes) -> Iterator[Item]:
+    """The items of which these are the bytes, whole ones."""
+    if version == 1:
+        return units(key for (key,) in struct.iter_unpack("<Q", data))
+    return map(Item._make, struct.iter_unpack("<QB", data))
+
+
+def item_bytes(version: int, items: Iterable[Item]) -> bytes:
+    """The bytes of items. With version 1 they have no weight."""
+    if version == 1:
+        return b"".join(item.key.to_bytes(KEY_LEN, "little") for item in items)
+    return b"".join(struct.pack("<QB", *item) for item in items)
+
+
+def trace_bytes(version: int, items: Iterable[Item]) -> bytes:
+    """The trace of these items."""
+    return magic_of(TRACE_HEAD, version) + item_bytes(version, items)
 
 
 def mixed(key: int) -> int:
@@ -82,6 +136,19 @@ def begins_with(data: bytes, magic: bytes) -> None:
     for at, byte in enumerate(magic):
         if at >= len(data) or data[at] != byte:
             raise Left(at)
+
+
+def magic_of(head: bytes, version: int) -> bytes:
+    return (head + bytes([version])).ljust(MAGIC_LEN, b"\0")
+
+
+def version_of(data: bytes, head: bytes, versions: Sequence[int] = VERSIONS) -> int:
+    """The version of a trace or a journal, which is one of these."""
+    begins_with(data, head)
+    found = data[len(head) : len(head) + 1]
+    version = next((one for one in versions if found == bytes([one])), versions[0])
+    begins_with(data, magic_of(head, version))
+    return version
 
 
 def keeps_rules(header: Header) -> None:
@@ -108,13 +175,14 @@ def keeps_rules(header: Header) -> None:
         raise BadNumbers(0)
 
 
-def header_of(data: bytes, due: Header | None = None) -> Header:
-    """The header of a journal; where one is due, any other is refused, and else one that no settings have."""
-    begins_with(data, JOURNAL_MAGIC)
+def header_of(data: bytes, due: Header | None = None, versions: Sequence[int] = VERSIONS) -> Header:
+    """The header of a journal of one of these versions; where one is due, any other is refused, whatever their
+    versions, and else one that no settings have."""
+    version = version_of(data, JOURNAL_HEAD, versions)
     if len(data) < HEADER_LEN:
         raise Left(len(data))
-    header = Header(*struct.unpack_from("<4I4BI", data, 8))
-    if due not in (None, header):
+    header = Header(*struct.unpack_from("<4I4BI", data, MAGIC_LEN), version)
+    if due is not None and due._replace(version=version) != header:
         raise OtherSettings()
     keeps_rules(header)
     # Behind it stands the first gate.
@@ -144,39 +212,46 @@ def payloads(data: bytes, first: int, most: int, start: int = 0) -> Iterator[tup
         gate = end
 
 
-def keys_of(header: Header, at: int, payload: bytes) -> bytes:
-    """The bytes of a packet's keys, of which there are as many as the settings let a packet have."""
-    count, rest = divmod(len(payload) - 8, 8)
+def items_of(header: Header, at: int, payload: bytes) -> bytes:
+    """The bytes of a packet's items, of which there are as many as the settings let a packet have."""
+    count, rest = divmod(len(payload) - 8, item_len(header.version))
     if rest or not 1 <= count <= 4 * header.packet:
         raise Left(at)
     return payload[8:]
 
 
 def packet_of(header: Header, at: int, payload: bytes) -> Packet:
-    data = keys_of(header, at, payload)
+    data = items_of(header, at, payload)
     by, trace = struct.unpack_from("<2I", payload)
     if by > MOST_BY:
         raise Left(at + 4)
     if trace > MOST_TRACE:
         raise Left(at + 8)
-    keys = struct.unpack(f"<{len(data) // 8}Q", data)
-    for number, key in enumerate(keys):
-        if cone_of(header.cone_bits, key) != header.cone:
-            raise Left(at + 12 + 8 * number)
-    return Packet(by, trace, keys)
+    items = tuple(items_in(header.version, data))
+    for number, item in enumerate(items):
+        place = at + 12 + item_len(header.version) * number
+        if cone_of(header.cone_bits, item.key) != header.cone:
+            raise Left(place)
+        if item.weight == 0:
+            raise Left(place + KEY_LEN)
+    return Packet(by, trace, items)
 
 
 def packets(data: bytes, first: int = HEADER_LEN) -> Iterator[tuple[int, Packet]]:
     """The packets of a journal from a gate on, each with the place of its gate."""
     header = header_of(data)
-    for at, payload in payloads(data, first, 8 + 32 * header.packet):
+    for at, payload in payloads(data, first, header.most_payload()):
         yield at - 1, packet_of(header, at, payload)
 
 
-def trace_keys(data: bytes) -> Iterator[int]:
-    begins_with(data, TRACE_MAGIC)
-    whole = len(data) - len(data) % 8
-    for (key,) in struct.iter_unpack("<Q", data[8:whole]):
-        yield key
+def trace_items(data: bytes, versions: Sequence[int] = VERSIONS) -> Iterator[Item]:
+    """The items of a trace of one of these versions."""
+    version = version_of(data, TRACE_HEAD, versions)
+    whole = len(data) - (len(data) - MAGIC_LEN) % item_len(version)
+    for number, item in enumerate(items_in(version, data[MAGIC_LEN:whole])):
+        if item.weight == 0:
+            raise Left(MAGIC_LEN + item_len(version) * number + KEY_LEN)
+        yield item
     if whole < len(data):
         raise Left(whole)
+

@@ -6,7 +6,7 @@ import codecs
 import json
 from contextlib import suppress
 
-from .formats import JOURNAL_MAGIC, LOG_MAGIC, TRACE_MAGIC
+from .formats import JOURNAL_HEAD, LOG_MAGIC, TRACE_HEAD, Left, version_of
 
 # So many bytes are looked at.
 HEAD_LEN = 4096
@@ -14,7 +14,7 @@ PCAP, PCAPNG = "a pcap file: tools/keys pack --packets makes a trace of it", b"\
 UNPACK = "unpack it into tools/keys pack"
 UTF_16 = "UTF-16 text: iconv -f UTF-16 -t UTF-8 makes of it what tools/keys pack reads"
 BEGINNINGS = (
-    (JOURNAL_MAGIC[:5], "the journal of a cone: tools/journal reads it"),
+    (JOURNAL_HEAD, "the journal of a cone: tools/journal reads it"),
     (LOG_MAGIC[:5], "the log of a cone"),
     (b"\x1f\x8b", "a gzip file: tools/keys pack unpacks it"),
     (b"\x28\xb5\x2f\xfd", f"a zstd file: {UNPACK}"),
@@ -65,7 +65,8 @@ def look_of_text(text: str) -> str:
 
 def look_of(head: bytes) -> str | None:
     """What a file that begins so looks like, and what is to be done; None where nothing is known of it."""
-    if head.startswith(TRACE_MAGIC):
+    with suppress(Left):
+        version_of(head, TRACE_HEAD)
         return None
     for beginning, look in BEGINNINGS:
         if head.startswith(beginning):

@@ -12,7 +12,7 @@ import signal
 import socket
 import stat
 from contextlib import contextmanager, suppress
-from typing import BinaryIO, Iterator, NamedTuple
+from typing import BinaryIO, Iterator, NamedTuple, Sequence
 
 MOST_LINKS = 40
 # What ends a process where it isn't caught or ignored, but for want of memory and of what it does wrong.
@@ -87,13 +87,13 @@ def check_apart(out: Place, other: Place) -> None:
         raise Refused(f"{out.path} is not written, since it is the same file as {other.path}")
 
 
-def check_kind(out: Place, head: bytes, kind: str, at: int = 0) -> None:
-    """Refuses a file that has bytes, and not those at a place by which its kind is known."""
+def check_kind(out: Place, heads: Sequence[bytes], kind: str, at: int = 0) -> None:
+    """Refuses a file that has bytes, and none of those at a place by which its kind is known."""
     if out.status is None or out.is_straight:
         return
     with open(out.path, "rb") as file:
-        found = file.read(at + len(head))
-    if found and found[at:] != head:
+        found = file.read(at + max(map(len, heads)))
+    if found and not any(found[at:].startswith(head) for head in heads):
         raise Refused(f"{out.path} is not replaced, since what stands there is no {kind}")
 
 

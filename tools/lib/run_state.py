@@ -12,11 +12,10 @@ from pathlib import Path
 from typing import BinaryIO, Iterator
 
 from .cones import Report, levels_of
-from .formats import HEADER_LEN, OPEN, BadNumbers, Header, Left, keys_of
+from .formats import HEADER_LEN, OPEN, BadNumbers, Header, Item, Left, item_len, items_in, items_of
 from .inputs import BadInput
 from .logs import Cone, cones_of, in_file
 
-KEY_LEN = 8
 HEAD = struct.Struct("<BI")
 PACKET_LEN = 8
 
@@ -42,12 +41,12 @@ class Journal:
             if len(head) < HEAD.size:
                 raise Left(self.gate + len(head))
             length = HEAD.unpack(head)[1]
-            keys, rest = divmod(length - PACKET_LEN, KEY_LEN)
-            if rest or not 1 <= keys <= 4 * self.header.packet:
+            items, rest = divmod(length - PACKET_LEN, item_len(self.header.version))
+            if rest or not 1 <= items <= 4 * self.header.packet:
                 raise Left(self.gate + 1)
             yield length
             self.gate += HEAD.size + length
-            self.events += keys
+            self.events += items
 
     def count(self) -> int:
         """How many events it has by now."""
@@ -55,15 +54,14 @@ class Journal:
             in_file(self.path, lambda: [None for _ in self.lengths(file)])
         return self.events
 
-    def packets(self) -> Iterator[tuple[int, ...]]:
-        """The keys of each new packet."""
+    def packets(self) -> Iterator[tuple[Item, ...]]:
+        """The items of each new packet."""
         with self.path.open("rb") as file:
             for length in self.lengths(file):
                 payload = file.read(length)
                 if len(payload) < length:
                     raise Left(self.gate + HEAD.size + len(payload))
-                data = keys_of(self.header, self.gate + 1, payload)
-                yield struct.unpack(f"<{len(data) // KEY_LEN}Q", data)
+                yield tuple(items_in(self.header.version, items_of(self.header, self.gate + 1, payload)))
 
 
 @dataclass
@@ -77,10 +75,10 @@ class Reported:
     first: int = 0
     reached: int = 0
 
-    def meet(self, at: int, threshold: int) -> None:
-        self.count += 1
+    def meet(self, at: int, weight: int, threshold: int) -> None:
+        self.count += weight
         self.first = self.first or at
-        if self.count == threshold:
+        if self.count - weight < threshold <= self.count:
             self.reached = at
 
 
@@ -132,10 +130,11 @@ def reports_of(cone: Cone) -> list[Reported]:
     journal = Journal(cone.journal, cone.header)
     at = 0
     try:
-        for keys in journal.packets():
-            for key in found.keys() & set(keys):
-                meet_all(found[key], keys, key, at, cone.header.threshold)
-            at += len(keys)
+        for items in journal.packets():
+            for place, (key, weight) in enumerate(items, at + 1):
+                if key in found:
+                    found[key].meet(place, weight, cone.header.threshold)
+            at += len(items)
     except Left as left:
         raise BadInput(f"{cone.journal}, byte {left.at}: the file leaves its format") from None
     return list(found.values())
@@ -143,14 +142,6 @@ def reports_of(cone: Cone) -> list[Reported]:
 
 def reported(cone: Cone, report: Report) -> Reported:
     return Reported(cone.header.cone, report.key, report.at)
-
-
-def meet_all(one: Reported, keys: tuple[int, ...], key: int, before: int, threshold: int) -> None:
-    """Takes each time that the key comes in a packet behind so many events."""
-    place = -1
-    for _ in range(keys.count(key)):
-        place = keys.index(key, place + 1)
-        one.meet(before + place + 1, threshold)
 
 
 def run_at(folder: Path) -> Run | None:

@@ -1,6 +1,7 @@
 """Frames of slots, as docs/FORMATS.md has them: their shape, their text, and what a file says at a frame's place.
 
-It knows nothing of the program. A frame is kept in memory.
+Their version is that of their journal: with version 1 each key of a bin counts once, with version 2 up to 255 times. It
+knows nothing of the program. A frame is kept in memory.
 """
 
 from __future__ import annotations
@@ -19,9 +20,20 @@ COUNT_AT = 8
 WORD_LEN = 8
 # The most slots that a group has.
 MOST_OF_GROUP = 9
+MOST_WEIGHT = 255
 
 # A tail, and how often it occurs.
 Piece = tuple[int, int]
+
+
+def cost(version: int, count: int) -> int:
+    """How many keys of a bin a count takes at least."""
+    return count if version == 1 else -(-count // MOST_WEIGHT)
+
+
+def most_slots(span: int, version: int) -> int:
+    """Of the frames of a level whose bins have this span."""
+    return (2 if version == 1 else 4) * span
 
 
 def quotient_bits(span: int) -> int:
@@ -33,21 +45,25 @@ def block_count(span: int) -> int:
     return (1 << quotient_bits(span)) // QUOTIENTS
 
 
-def frame_len(span: int) -> int:
+def frame_len(span: int, version: int) -> int:
     """The bytes of a frame's place."""
-    return 20 * block_count(span) + 16 * span + 8 * (span // 32)
+    most = most_slots(span, version)
+    return 20 * block_count(span) + WORD_LEN * (most + most // 64)
 
 
 class Shape(NamedTuple):
-    """What the frames of a level have: the bits of a remainder, the blocks, and the most slots in all blocks."""
+    """What the frames of a level have: the version, the bits of a remainder, the blocks, and the most slots in all
+    blocks."""
 
+    version: int
     width: int
     blocks: int
     most: int
 
 
-def shape_of(span: int, cone_bits: int) -> Shape:
-    return Shape(64 - cone_bits - quotient_bits(span), block_count(span), 2 * span)
+def shape_of(span: int, cone_bits: int, version: int) -> Shape:
+    width = 64 - cone_bits - quotient_bits(span)
+    return Shape(version, width, block_count(span), most_slots(span, version))
 
 
 # --- groups
@@ -207,9 +223,10 @@ def blocks_at(data: bytes, place: int, shape: Shape) -> Iterator[tuple[Block, li
 
 
 def pieces_at(data: bytes, place: int, shape: Shape, wide: int) -> list[Piece]:
-    """The pieces of the frame at a place, whose counts add up to the width of its bin."""
+    """The pieces of the frame at a place, which as many keys may make as its bin is wide."""
     pieces = [piece for _block, found in blocks_at(data, place, shape) for piece in found]
-    if sum(count for _tail, count in pieces) != wide:
+    counts = [count for _tail, count in pieces]
+    if not sum(cost(shape.version, count) for count in counts) <= wide <= sum(counts):
         raise Left(place)
     return pieces
 

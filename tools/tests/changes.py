@@ -17,8 +17,8 @@ from lib.words import Settings
 from recovery import Folder, file_name, files_in
 
 CUTS = 50
-# Of the version in journal and log.
-VERSION_AT = 5
+# Of the version in journal and log, and one that neither has.
+VERSION_AT, NO_VERSION = 5, 3
 GARBAGE_LEN = 200
 # From a gate to its payload, and from that of a log's record to the place in the journal that it names.
 PAYLOAD_BEHIND_GATE = 5
@@ -119,7 +119,7 @@ def missing(kept: Kept, cone: int) -> Iterator[Case]:
 def headers(kept: Kept, cone: int) -> Iterator[Case]:
     for file in (JOURNAL, LOG):
         name = file_name(cone, file)
-        changed = put(kept.folder[name], VERSION_AT, 2)
+        changed = put(kept.folder[name], VERSION_AT, NO_VERSION)
         yield Case(f"{name} of another version", kept, {name: changed}, malformed(cone, file, VERSION_AT))
     name = file_name(cone, JOURNAL)
     header = kept.folder[name][:HEADER_LEN]
@@ -160,7 +160,7 @@ def in_order(kept: Kept, cone: int) -> Iterator[Case]:
     read = cone_in(kept, cone)
     named = [(level, frame) for level, row in enumerate(read.log.directory, 1) for frame in row]
     breaks = [Break(file, VERSION_AT, VERSION_AT) for file in (JOURNAL, LOG)]
-    places = [read.levels.frame_place(level, frame) for level, frame in named]
+    places = [read.frame_place(level, frame) for level, frame in named]
     breaks += [Break(FRAMES, place + COUNT_TOP_AT, place + COUNT_AT) for place in places]
     payload = read.log.begins()[0] + PAYLOAD_BEHIND_GATE
     breaks.append(Break(JOURNAL, payload, payload))
@@ -181,8 +181,9 @@ def frames_changed(kept: Kept, cone: int) -> Iterator[Case]:
     data = kept.folder[name]
     for level, row in enumerate(read.log.directory, 1):
         for frame in row[:1]:
-            place = read.levels.frame_place(level, frame)
-            for change in frame_changes(data, place, read.shape(level), place + frame_len(read.levels.span(level))):
+            place = read.frame_place(level, frame)
+            end = place + frame_len(read.levels.span(level), read.header.version)
+            for change in frame_changes(data, place, read.shape(level), end):
                 line = "" if change.left is None else malformed(cone, FRAMES, change.left)
                 case = f"{name} with {change.name} at {change.at}"
                 yield Case(case, kept, {name: put(data, change.at, *change.values)}, line)
@@ -207,7 +208,7 @@ def misnamed(kept: Kept, cone: int) -> Iterator[Case]:
     data, length = kept.folder[name], len(kept.folder[journal])
     place = read.log.records[-1].gate + OFFSET_BEHIND_GATE
     gate, first = read.log.begins()
-    # The lowest byte of a length is a multiple of 8, and so no open gate.
+    # The lowest byte of a length is no open gate: with weights it would be one behind 113 keys, which no packet has here.
     for named, left in ((gate + 1, gate + 1), (length - 1, length - 1), (length, length), (MOST_OFFSET, length)):
         changed = put(data, place, *named.to_bytes(8, "little"))
         yield Case(f"{name} that names byte {named}", kept, {name: changed}, malformed(cone, JOURNAL, left))
@@ -225,7 +226,7 @@ def gate_behind(read: Cone, events: int) -> int:
     for gate, packet in read.packets:
         if before >= events:
             return gate
-        before += len(packet.keys)
+        before += len(packet.items)
     return len(read.files[JOURNAL]) - 1
 
 

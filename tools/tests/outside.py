@@ -18,7 +18,7 @@ from pathlib import Path
 from typing import Callable, Iterator, Mapping, NamedTuple, Sequence
 
 from lib.cones import JOURNAL, LOG
-from lib.formats import HEADER_LEN, LOG_MAGIC, Left
+from lib.formats import HEADER_LEN, LOG_MAGIC, Left, units
 from lib.weaves import Weave, parts_of, weave_of
 from lib.words import Settings
 from recovery import (
@@ -191,7 +191,7 @@ class Outside:
         self.place = place
         self.workers = workers
         keys = some_traces(KEYS, traces)
-        self.parts = [parts_of(SMALL.cone_bits, trace) for trace in keys]
+        self.parts = [parts_of(SMALL.cone_bits, units(trace)) for trace in keys]
         self.paths = [place / f"trace{number}" for number in range(traces)]
         for path, trace in zip(self.paths, keys):
             write_trace(path, trace)

@@ -11,13 +11,12 @@ from contextlib import suppress
 from typing import Callable, Iterable, Iterator
 
 from lib.cones import JOURNAL, left_over, levels_of, look
-from lib.formats import TRACE_MAGIC, Left, cone_of, packets
+from lib.formats import KEY_LEN, TRACE_MAGIC, Left, cone_of, packets, trace_bytes, units
 from outside import KEYS, SMALL, Begin, Outside, Trial, some_keys
 from recovery import DONE, HANGS, MALFORMED, Answer, Form, Opened, files_in, folder_at, text_of
 
 # So many keys are written first, and some bytes of the next one.
 FIRST_KEYS, MORE_BYTES = 60, 3
-KEY_LEN = 8
 LOOKS_A_SECOND = 200
 
 
@@ -25,7 +24,7 @@ def keys_in(journal: bytes) -> int:
     count = 0
     with suppress(Left):
         for _gate, packet in packets(journal):
-            count += len(packet.keys)
+            count += len(packet.items)
     return count
 
 
@@ -39,7 +38,8 @@ def of_cones(keys: Iterable[int]) -> list[list[int]]:
 def text_due(keys: Iterable[int]) -> str:
     """The text of a run of one worker over one trace of these keys."""
     opened = []
-    for cone, events in enumerate(of_cones(keys)):
+    for cone, part in enumerate(of_cones(keys)):
+        events = list(units(part))
         looked = look(levels_of(SMALL.header(cone)), SMALL.threshold, events)
         reports = looked + left_over(SMALL.threshold, events, looked)
         opened.append(Opened(cone, len(events), True, tuple(reports)))
@@ -54,7 +54,7 @@ class Piped:
         self.outside = outside
         self.folder = place / "d"
         self.keys = some_keys(KEYS)
-        self.data = TRACE_MAGIC + b"".join(key.to_bytes(KEY_LEN, "little") for key in self.keys)
+        self.data = trace_bytes(1, units(self.keys))
         self.written = 0
         pipe = place / "pipe"
         os.mkfifo(pipe)

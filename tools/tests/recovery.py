@@ -14,13 +14,15 @@ from pathlib import Path
 from typing import Callable, Iterable, Iterator, Mapping, NamedTuple, Sequence
 
 from lib.cones import CLOSED, JOURNAL, LOG, LOOK, SUFFIXES, Broken, Cone, Report, Unsound, in_file
-from lib.formats import HEADER_LEN, TRACE_MAGIC, Header, Left, OtherSettings, Packet, packets
+from lib.formats import HEADER_LEN, Header, Left, OtherSettings, Packet, packets, trace_bytes, units
 from lib.words import Settings
 
 DONE, CAPACITY_FULL, MALFORMED, OTHER_SETTINGS = 0, 8, 9, 10
 # In place of the status of a program that doesn't end.
 HANGS = 999
 SECONDS = 10
+# The versions of the journals that the program opens.
+OPENED = (1,)
 
 # The files of a directory by their names, and the three of a cone.
 Folder = dict[str, bytes]
@@ -53,7 +55,7 @@ def in_memory() -> tempfile.TemporaryDirectory[str]:
 
 
 def write_trace(path: Path, keys: Iterable[int]) -> None:
-    path.write_bytes(TRACE_MAGIC + b"".join(key.to_bytes(8, "little") for key in keys))
+    path.write_bytes(trace_bytes(1, units(keys)))
 
 
 # --- what a program answers
@@ -123,6 +125,8 @@ def refused(cone: int, broken: Broken) -> Refused:
 class Reopened(Cone):
     """A cone as a recovery reads it: its packets are those from the record on that the log's last record names."""
 
+    versions = OPENED
+
     def read(self) -> None:
         self.read_before_packets()
         in_file(JOURNAL, lambda data: self.read_journal(data, *self.log.begins()), self.files[JOURNAL])
@@ -134,11 +138,11 @@ class Reopened(Cone):
         older: list[tuple[int, Packet]] = []
         for gate, packet in packets(data[:named] + bytes(1)):
             older.append((gate, packet))
-            end = packet.behind(gate)
+            end = self.header.behind(gate, len(packet.items))
         if end != named:
             raise Unsound(f"the log's last record names byte {named} of the journal, where no record begins")
         self.packets = older + self.packets
-        self.events = [key for _gate, packet in older for key in packet.keys] + self.events
+        self.events = [item for _gate, packet in older for item in packet.items] + self.events
 
 
 @lru_cache(maxsize=64)

@@ -14,9 +14,9 @@ from pathlib import Path
 from typing import Iterator, Protocol, Sequence
 
 from lib.cones import FRAMES
-from lib.formats import TRACE_MAGIC
+from lib.formats import trace_bytes, units
 from outside import KEYS, PLACE_FAULT, SMALL, Outside, Trial, some_keys, write_folder
-from piped import KEY_LEN, LOOKS_A_SECOND, Piped, text_due, usual_signals
+from piped import LOOKS_A_SECOND, Piped, text_due, usual_signals
 from recovery import (
     DONE,
     HANGS,
@@ -191,7 +191,7 @@ def crowd(outside: Outside, number: int) -> Iterator[Trial]:
     feed = os.open(pipe, os.O_RDWR)
     for run in all_but_one(outside, runs):
         run.kill()
-    os.write(feed, TRACE_MAGIC + b"".join(key.to_bytes(KEY_LEN, "little") for key in some_keys(KEYS)))
+    os.write(feed, trace_bytes(1, units(some_keys(KEYS))))
     os.close(feed)
     answers = [answer_of(outside, run) for run in runs]
     done = Answer(DONE, text_due(some_keys(KEYS)), "")

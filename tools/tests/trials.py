@@ -143,7 +143,7 @@ def named_bytes(files: Files, header: Header) -> Iterator[int]:
     cone.read()
     for level, frames in enumerate(cone.log.directory, 1):
         for frame in frames:
-            place = cone.levels.frame_place(level, frame)
+            place = cone.frame_place(level, frame)
             *_, (last, _pieces) = blocks_at(files[FRAMES], place, cone.shape(level))
             yield from range(place, last.end())
 
