@@ -1,5 +1,6 @@
 //! A cone's keys in std's hash map, its reports, and the lines that the program prints of all cones.
 
+use crate::item::Item;
 use std::collections::HashMap;
 use std::io::{self, Write};
 
@@ -11,12 +12,13 @@ pub struct Counted {
 }
 
 impl Counted {
-    /// Takes a key, and reports it at the event that makes it reach the threshold.
-    pub fn take(&mut self, threshold: u64, key: u64) {
+    /// Takes a key with its weight, and reports it at the event that makes it reach the threshold.
+    pub fn take(&mut self, threshold: u64, Item { key, weight }: Item) {
         self.events += 1;
         let count = self.counts.entry(key).or_insert(0);
-        *count += 1;
-        if *count == threshold {
+        let before = *count;
+        *count += u64::from(weight);
+        if before < threshold && threshold <= *count {
             self.reports.push((key, self.events));
         }
     }

@@ -1,4 +1,5 @@
-//! Writes a trace of keys of which no two are the same to standard output. Words: SEED KEYS.
+//! Writes a trace of keys of which no two are the same to standard output. Words: SEED KEYS [MOST], as trace_writer
+//! has them.
 //!
 //! Event i, from 1, has the mixed value of SEED + i as its key.
 
@@ -7,9 +8,9 @@ mod trace_writer;
 
 use mixer::mix;
 use std::io;
-use trace_writer::{seed_and_keys, write_trace};
+use trace_writer::Words;
 
 fn main() -> io::Result<()> {
-    let (seed, keys) = seed_and_keys()?;
-    write_trace((1..=keys).map(|event| mix(seed.wrapping_add(event))))
+    let words = Words::given()?;
+    words.write((1..=words.keys).map(|event| mix(words.seed.wrapping_add(event))))
 }

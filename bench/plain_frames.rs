@@ -1,6 +1,7 @@
-//! The frames of `crates/lert_bench` in plain Rust. Words: TEXT KIND FILE PIECES SEED. The text is `trusted`, for a
-//! reader that takes what it reads for a frame, or `tested`, for one that makes the tests of the proved reader. The
-//! kind is `distinct` or `skewed`.
+//! The frames of `crates/lert_bench` in plain Rust. Words: TEXT KIND FILE PIECES SEED [VERSION]. The text is `trusted`,
+//! for a reader that takes what it reads for a frame, or `tested`, for one that makes the tests of the proved reader.
+//! The kind is `distinct` or `skewed`. With version 2 a frame is one of a journal with weights, each up to 255, and has
+//! room for more; by default they are 1.
 //!
 //! It draws the same pieces, writes them as a frame into the file and reads them back, through buffers of 8 KiB. It
 //! prints the same sum over what it read, and on standard error the nanoseconds that the two took and their calls of
@@ -36,6 +37,7 @@ struct Piece {
 
 /// A level: its frames' quotients and room are its span.
 struct Level {
+    version: u8,
     span_bits: u32,
     place: u64,
 }
@@ -48,25 +50,31 @@ impl Level {
     fn blocks(&self) -> u64 {
         (1 << self.span_bits) / 64
     }
-}
 
-/// How many bytes a place has of a level of so many events.
-fn frame_len(span: u64) -> u64 {
-    20 * (span / 64) + 16 * span + 8 * (span / 32)
+    fn most_slots(&self) -> u64 {
+        if self.version == 1 { 2 << self.span_bits } else { 4 << self.span_bits }
+    }
+
+    /// How many bytes a place has.
+    fn frame_len(&self) -> u64 {
+        20 * self.blocks() + 8 * (self.most_slots() + self.most_slots() / 64)
+    }
 }
 
 fn wrong(text: &'static str) -> Error {
     Error::new(ErrorKind::InvalidData, text)
 }
 
-/// A frame as it is read.
-struct Reader<'a, const TESTED: bool> {
+/// A frame as it is read, by keys of this weight at most.
+struct Reader<'a, const TESTED: bool, const WEIGHT: u64> {
     file: &'a File,
     calls: u64,
     width: u32,
     blocks: u64,
     most: u64,
-    total: u64,
+    // The bin's keys that no count needs so far, and what the counts lack to be as many as its keys.
+    spare: u64,
+    lack: u64,
     buffer: Vec<u8>,
     from: usize,
     upto: usize,
@@ -127,15 +135,16 @@ fn read_group(width: u32, run: &[u64]) -> Option<(u64, usize)> {
     Some((number + least, at))
 }
 
-impl<'a, const TESTED: bool> Reader<'a, TESTED> {
-    fn new(file: &'a File, level: &Level, total: u64) -> Self {
+impl<'a, const TESTED: bool, const WEIGHT: u64> Reader<'a, TESTED, WEIGHT> {
+    fn new(file: &'a File, level: &Level, keys: u64) -> Self {
         Reader {
             file,
             calls: 0,
             width: level.width(),
             blocks: level.blocks(),
-            most: 2 << level.span_bits,
-            total,
+            most: level.most_slots(),
+            spare: keys,
+            lack: keys,
             buffer: vec![0; BUFFER],
             from: 0,
             upto: 0,
@@ -172,8 +181,8 @@ impl<'a, const TESTED: bool> Reader<'a, TESTED> {
                 self.read_word()?;
             } else if self.block < self.blocks {
                 self.begin_block()?;
-            } else if TESTED && self.total != 0 {
-                return Err(wrong("another sum"));
+            } else if TESTED && self.lack != 0 {
+                return Err(wrong("too few counts"));
             } else {
                 break;
             }
@@ -268,7 +277,8 @@ impl<'a, const TESTED: bool> Reader<'a, TESTED> {
             self.pieces[len % ROOM] = Piece { tail: (quotient << self.width) + x, count };
             len += 1;
             if TESTED {
-                self.total = self.total.checked_sub(count).ok_or_else(|| wrong("the sum"))?;
+                self.spare = self.spare.checked_sub(count.div_ceil(WEIGHT)).ok_or_else(|| wrong("the sum"))?;
+                self.lack = self.lack.saturating_sub(count);
             }
             at += used;
             let is_end = ends >> (used - 1) & 1 == 1;
@@ -292,8 +302,8 @@ fn sum_up(sum: u64, piece: Piece) -> u64 {
 }
 
 /// The sum over what is read, and the calls.
-fn read<const TESTED: bool>(file: &File, level: &Level, total: u64) -> io::Result<(u64, u64)> {
-    let mut reader = Reader::<TESTED>::new(file, level, total);
+fn read<const TESTED: bool, const WEIGHT: u64>(file: &File, level: &Level, keys: u64) -> io::Result<(u64, u64)> {
+    let mut reader = Reader::<TESTED, WEIGHT>::new(file, level, keys);
     let mut sum = 0;
     while let Some(piece) = reader.next()? {
         sum = sum_up(sum, piece);
@@ -302,20 +312,26 @@ fn read<const TESTED: bool>(file: &File, level: &Level, total: u64) -> io::Resul
 }
 
 fn main() -> io::Result<()> {
-    let usage = || Error::new(ErrorKind::InvalidInput, "the words are TEXT KIND FILE PIECES SEED");
+    let usage = || Error::new(ErrorKind::InvalidInput, "the words are TEXT KIND FILE PIECES SEED [VERSION]");
     let words: Vec<String> = env::args().skip(1).collect();
-    let [text, kind, path, pieces, seed] = words.as_slice() else {
-        return Err(usage());
+    let (version, text, kind, path, pieces, seed) = match words.as_slice() {
+        [text, kind, path, pieces, seed] => (1, text, kind, path, pieces, seed),
+        [text, kind, path, pieces, seed, version] if version == "2" => (2, text, kind, path, pieces, seed),
+        _ => return Err(usage()),
     };
     let number = |word: &String| word.parse::<u64>().map_err(|_| usage());
     // Three places of a level of 2^19 events stand before those of 2^22.
     let (level, is_skewed) = match kind.as_str() {
-        "distinct" => (Level { span_bits: 20, place: 0 }, false),
-        "skewed" => (Level { span_bits: 22, place: 3 * frame_len(1 << 19) }, true),
+        "distinct" => (Level { version, span_bits: 20, place: 0 }, false),
+        "skewed" => {
+            let younger = Level { version, span_bits: 19, place: 0 };
+            (Level { version, span_bits: 22, place: 3 * younger.frame_len() }, true)
+        }
         _ => return Err(usage()),
     };
     let pieces = Random(number(seed)?).pieces(number(pieces)?, is_skewed, 1 << level.span_bits);
-    let total = pieces.iter().map(|piece| piece.count).sum();
+    // As if each key had the weight 1.
+    let keys = pieces.iter().map(|piece| piece.count).sum();
     let file = OpenOptions::new().read(true).write(true).create(true).truncate(false).open(path)?;
     let start = Instant::now();
     let mut writer = Writer::new(&file, &level);
@@ -325,9 +341,10 @@ fn main() -> io::Result<()> {
     writer.end()?;
     let written = start.elapsed().as_nanos();
     let start = Instant::now();
-    let (sum, reads) = match text.as_str() {
-        "trusted" => read::<false>(&file, &level, total)?,
-        "tested" => read::<true>(&file, &level, total)?,
+    let (sum, reads) = match (text.as_str(), version) {
+        ("trusted", _) => read::<false, 1>(&file, &level, keys)?,
+        ("tested", 1) => read::<true, 1>(&file, &level, keys)?,
+        ("tested", _) => read::<true, 255>(&file, &level, keys)?,
         _ => return Err(usage()),
     };
     let read = start.elapsed().as_nanos();

@@ -6,14 +6,17 @@
 //! yardstick of `bench/reopen`, and ends at the first fault.
 
 mod counted_keys;
+mod item;
 
 use counted_keys::{Counted, print};
+use item::{Item, KEY_LEN, WEIGHED_LEN, version_of};
 use std::env;
 use std::fs::File;
 use std::io::{self, BufReader, BufWriter, ErrorKind, Read};
 use std::path::Path;
 
-const JOURNAL_MAGIC: [u8; 8] = *b"LERTJ\x01\0\0";
+const JOURNAL_NAME: &[u8] = b"LERTJ";
+const MAGIC_LEN: usize = 8;
 const HEADER_LEN: usize = 32;
 const THRESHOLD_AT: usize = 8;
 const CONE_BITS_AT: usize = 27;
@@ -23,16 +26,16 @@ const OPEN: u8 = 1;
 /// Before its keys a payload says who brought them, and their trace.
 const KEYS_AT: usize = 8;
 
-/// Takes the keys of all packets, up to the closed gate behind them.
-fn replay(journal: &mut impl Read, threshold: u64) -> io::Result<Counted> {
+/// Takes the items of all packets, of so many bytes each, up to the closed gate behind them.
+fn replay<const LEN: usize>(journal: &mut impl Read, threshold: u64) -> io::Result<Counted> {
     let mut counted = Counted::default();
     let mut payload = Vec::new();
     while let [OPEN] = bytes(journal)? {
         payload.resize(u32::from_le_bytes(bytes(journal)?) as usize, 0);
         journal.read_exact(&mut payload)?;
-        let keys = payload.get(KEYS_AT..).ok_or_else(|| bad("a packet has no key"))?;
-        for key in keys.chunks_exact(8) {
-            counted.take(threshold, u64::from_le_bytes(key.try_into().expect("eight bytes")));
+        let items = payload.get(KEYS_AT..).ok_or_else(|| bad("a packet has no key"))?;
+        for item in items.chunks_exact(LEN) {
+            counted.take(threshold, Item::of(item));
         }
     }
     Ok(counted)
@@ -48,22 +51,24 @@ fn bytes<const N: usize>(source: &mut impl Read) -> io::Result<[u8; N]> {
     Ok(bytes)
 }
 
-/// A journal that is on the disk, behind its header.
-fn open(dir: &Path, number: u32) -> io::Result<([u8; HEADER_LEN], BufReader<File>)> {
+/// The header of a journal that is on the disk, its version, and what stands behind it.
+fn open(dir: &Path, number: u32) -> io::Result<([u8; HEADER_LEN], u8, BufReader<File>)> {
     let file = File::open(dir.join(format!("cone-{number:03}.journal")))?;
     file.sync_data()?;
     let mut journal = BufReader::with_capacity(BUFFER_LEN, file);
     let header: [u8; HEADER_LEN] = bytes(&mut journal)?;
-    if !header.starts_with(&JOURNAL_MAGIC) {
-        return Err(bad("the journal has another header"));
-    }
-    Ok((header, journal))
+    let version = version_of(JOURNAL_NAME, &header[..MAGIC_LEN]);
+    Ok((header, version.ok_or_else(|| bad("the journal has another header"))?, journal))
 }
 
 fn reopen(dir: &Path, number: u32) -> io::Result<Counted> {
-    let (header, mut journal) = open(dir, number)?;
+    let (header, version, mut journal) = open(dir, number)?;
     let threshold: [u8; 4] = header[THRESHOLD_AT..][..4].try_into().expect("four bytes");
-    replay(&mut journal, u64::from(u32::from_le_bytes(threshold)))
+    let threshold = u64::from(u32::from_le_bytes(threshold));
+    match version {
+        1 => replay::<KEY_LEN>(&mut journal, threshold),
+        _ => replay::<WEIGHED_LEN>(&mut journal, threshold),
+    }
 }
 
 fn main() -> io::Result<()> {
@@ -72,7 +77,7 @@ fn main() -> io::Result<()> {
         return Err(io::Error::new(ErrorKind::InvalidInput, "the word is DIR"));
     };
     let dir = Path::new(dir);
-    let (header, _journal) = open(dir, 0)?;
+    let (header, _version, _journal) = open(dir, 0)?;
     let cone_bits = header[CONE_BITS_AT];
     if cone_bits > MOST_CONE_BITS {
         return Err(bad("the journal has too many cone bits"));

@@ -1,4 +1,5 @@
-//! Writes a trace of skewed keys to standard output. Words: SEED KEYS.
+//! Writes a trace of skewed keys to standard output. Words: SEED KEYS [MOST], as trace_writer
+//! has them.
 //!
 //! Each key is a number of `bits` random bits whose highest is 1, `bits` being 1 to 24 with the same
 //! chance, and then spread over 64 bits by an odd factor. So the n-th key is about as frequent as
@@ -10,7 +11,7 @@ mod trace_writer;
 
 use random::Random;
 use std::io;
-use trace_writer::{seed_and_keys, write_trace};
+use trace_writer::Words;
 
 const MOST_BITS: u64 = 24;
 const SPREAD: u64 = 0x9e37_79b9_7f4a_7c15;
@@ -22,7 +23,7 @@ fn skewed_key(random: &mut Random) -> u64 {
 }
 
 fn main() -> io::Result<()> {
-    let (seed, keys) = seed_and_keys()?;
-    let mut random = Random(seed);
-    write_trace((0..keys).map(|_| skewed_key(&mut random)))
+    let words = Words::given()?;
+    let mut random = Random(words.seed);
+    words.write((0..words.keys).map(|_| skewed_key(&mut random)))
 }

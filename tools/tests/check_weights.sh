@@ -26,7 +26,8 @@ check_weighed_traces() {
     gives 'unpacks no keys with weights' 0 '' '' keys unpack bad
     trace_of "$(item 07 01)" 08 00 00 00 >bad
     gives 'unpacks no cut key with a weight' 1 '7\n' "keys: bad, byte 17: $left" keys unpack bad
-    gives 'routes no cut key with a weight' 1 '0 7\n' 'journal: the file leaves its format at byte 17\n' journal --route 0 bad
+    gives 'routes no cut key with a weight' 1 '0 7\n' 'journal: the file leaves its format at byte 17\n' \
+        journal --route 0 bad
     trace_of "$(item 07 01)" 08 00 00 00 00 00 00 00 >bad
     gives 'unpacks no key without its weight' 1 '7\n' "keys: bad, byte 17: $left" keys unpack bad
     trace_of "$(item 07 00)" 08 00 00 00 >bad
@@ -103,8 +104,8 @@ check_weighed_weaves() {
 # log_of HEX..: a log of these records.
 log_of() { bytes 4c 45 52 54 4c 01 00 00 "$@" 00 >files/cone-000.log; }
 
-# closed_behind N KEY AT: the record of a closing behind so many events, all in the first packet, with one report. Numbers
-# are two hexadecimal digits.
+# closed_behind N KEY AT: the record of a closing behind so many events, all in the first packet, with one report, in two
+# hexadecimal digits each.
 closed_behind() {
     local zeros='00 00 00 00 00 00 00'
     echo "01 2f 00 00 00 02 $1 $zeros 20 $zeros 01 $zeros 00 00 01 00 00 00 $2 $zeros $3 $zeros"
@@ -133,7 +134,8 @@ check_weighed_reports() {
     said="cone 0 events 2 of 71 reports 1 closed\n${columns}0 7 3 1 2 2\n"
     gives 'tells of a report by weights' 0 "$said" '' "$top/tools/report" files
     log_of "$(closed_behind 02 07 01)"
-    gives 'a report before its weights add up' 1 '' "sound: cone-000: the log's reports aren't those of 2 events\n" sound files
+    gives 'a report before its weights add up' 1 '' \
+        "sound: cone-000: the log's reports aren't those of 2 events\n" sound files
     log_of
     journal_of "$little" "$(packet_of 1a "$(item 07 01)" "$(item 08 02)")" 00 >files/cone-000.journal
     gives 'as much weight as there is room for' 0 'cone 0 events 2 n0 0 reports 0 open\n' '' sound files
@@ -148,10 +150,11 @@ check_weighed_reports() {
 # So many keys make counts from 4 to 1,020.
 check_weighed_frames() {
     local slot='\54\313\302\64\374\274\126\0' zeros='\0\0\0\0\0\0' wrong='sound: cone-000:' eight
-    local many='d0070000 20000000 04000000 08000000 03020200 00000000' full='ff030000 01000000 04000000 08000000 03020200 00000000'
-    mkdir files && eight="$(times 4 "$(item 01 ff)") $(times 4 "$(item 01 01)")"
-    log_of 01 20 00 00 00 01 0c 00 00 00 00 00 00 00 20 00 00 00 00 00 00 00 01 00 00 00 00 00 00 00 01 00 00 00 00 00 00
-    journal_of "$many" "$(packet_of 50 "$eight")" "$(packet_of 2c "$(times 4 "$(item 01 01)")")" 00 >files/cone-000.journal
+    local many='d0070000 20000000 04000000 08000000 03020200 00000000' four
+    local full='ff030000 01000000 04000000 08000000 03020200 00000000'
+    mkdir files && four=$(times 4 "$(item 01 01)") && eight="$(times 4 "$(item 01 ff)") $four"
+    log_of 01 20000000 01 0c00000000000000 2000000000000000 0100000000000000 01 00 00 00000000
+    journal_of "$many" "$(packet_of 50 "$eight")" "$(packet_of 2c "$four")" 00 >files/cone-000.journal
     one_block '\3' '\4' "$slot"'\372\3'"$zeros$slot"
     gives 'files of twelve keys with weights' 0 'cone 0 events 12 n0 12 reports 0 open\n' '' sound files
     one_block '\3' '\4' "$slot"'\371\3'"$zeros$slot"
