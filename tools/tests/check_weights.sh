@@ -177,6 +177,18 @@ check_weighed_frames() {
     rm -r files
 }
 
+# causes_of AT: what ./lert tells behind a run of the trace `bad`, which leaves its format at this byte.
+causes_of() { "$top/tools/lib/causes" 4 "lert: trace 0 bad at $1" run d bad; }
+
+check_weighed_causes() {
+    local cut='which ends inside a key, as the trace of a refused input or a cut copy does'
+    trace_of "$(item 07 01)" 08 00 00 00 00 00 00 00 >bad
+    gives 'tells of a key without its weight' 0 '' "lert: trace 0 is bad, $cut\n" causes_of 17
+    trace_of "$(item 07 00)" >bad
+    gives 'tells of a weight of 0' 0 '' 'lert: trace 0 is bad, where a key has the weight 0\n' causes_of 16
+    gives 'tells of a version' 0 '' "lert: trace 0 is bad, a trace of version 2, which this program doesn't read\n" causes_of 4
+}
+
 # The sizes of frames and of packets, and which counts a bin may have, by the table of these cases.
 sizes() {
     python3 - "$top/tools" <<'END'
@@ -202,5 +214,6 @@ check_weights() {
     check_weighed_weaves
     check_weighed_reports
     check_weighed_frames
+    check_weighed_causes
     gives 'sizes with and without weights' 0 '148 276 276 540\n592 1104\n296 264\n1 1 1 2 2 3 1 256\n' '' sizes
 }
