@@ -7,7 +7,7 @@ from __future__ import annotations
 
 from typing import Iterator, NamedTuple
 
-from lib.slots import COUNT_AT, HEAD_LEN, WORD_LEN, Block, Shape, blocks_at, frame_text
+from lib.slots import COUNT_AT, HEAD_LEN, MOST_WEIGHT, WORD_LEN, Block, Shape, blocks_at, frame_text
 
 # The byte is above what a version, the low byte of who brings a packet, the highest byte of a block's number of slots,
 # and that of a slot may be in small runs.
@@ -46,9 +46,9 @@ def block_changes(data: bytes, block: Block) -> Iterator[Change]:
         yield Change("a wide slot", slot + WORD_LEN - 1, bytes([TOO_GREAT]), slot)
 
 
-def frame_changes(data: bytes, place: int, shape: Shape, end: int) -> Iterator[Change]:
-    """A frame with broken fields, one that misses a piece, and one with other bytes behind its blocks, up to the end of
-    its place."""
+def frame_changes(data: bytes, place: int, shape: Shape, wide: int, end: int) -> Iterator[Change]:
+    """The frame of a bin so wide with broken fields, one of too few events and one of too many, and one with other bytes
+    behind its blocks, up to the end of its place."""
     found = list(blocks_at(data, place, shape))
     blocks = [block for block, _pieces in found]
     pieces = [piece for _block, some in found for piece in some]
@@ -61,6 +61,8 @@ def frame_changes(data: bytes, place: int, shape: Shape, end: int) -> Iterator[C
     for block in blocks:
         if block.count == 0:
             yield Change("a run in a block without slots", block.at, bytes([1]), block.at + COUNT_AT)
-    yield Change("a piece less", place, frame_text(shape, pieces[:-1]), place)
+    tail, most = pieces[0][0], wide if shape.version == 1 else MOST_WEIGHT * wide
+    for name, count in (("an event less", wide - 1), ("more than its events make", most + 1)):
+        yield Change(name, place, frame_text(shape, [(tail, count)]), place)
     if blocks[-1].end() < end:
         yield Change("another byte behind its blocks", blocks[-1].end(), bytes([TOO_GREAT]), None)

@@ -11,7 +11,7 @@ from typing import Callable, Iterator, NamedTuple
 
 from breaks import COUNT_TOP_AT, TOO_GREAT, frame_changes
 from lib.cones import FLUSH, FRAMES, JOURNAL, LOG, MOST_OFFSET, SUFFIXES, Cone
-from lib.formats import HEADER_LEN, OPEN
+from lib.formats import HEADER_LEN, KEY_LEN, OPEN, item_len
 from lib.slots import COUNT_AT, frame_len
 from lib.words import Settings
 from recovery import Folder, file_name, files_in
@@ -20,17 +20,20 @@ CUTS = 50
 # Of the version in journal and log, and one that neither has.
 VERSION_AT, NO_VERSION = 5, 3
 GARBAGE_LEN = 200
-# From a gate to its payload, and from that of a log's record to the place in the journal that it names.
+# From a gate to its payload, to the first item of a packet, and from that of a log's record to the place in the journal
+# that it names.
 PAYLOAD_BEHIND_GATE = 5
+ITEMS_BEHIND_GATE = PAYLOAD_BEHIND_GATE + 8
 OFFSET_BEHIND_GATE = PAYLOAD_BEHIND_GATE + 9
+GREATEST_WEIGHT = 255
 
 
 Changes = dict[str, bytes | None]
 
 
 class Run(NamedTuple):
-    """A run that makes files: so many keys, and the status at its end. Its files come in the table, or in drawn changes
-    alone."""
+    """A run that makes files: so many keys, and the status at its end. Its files come in the table, or but as they are
+    and in drawn changes."""
 
     settings: Settings
     keys: int
@@ -39,7 +42,7 @@ class Run(NamedTuple):
 
 
 class Kept(NamedTuple):
-    """The files that a run left."""
+    """The files that a run left, or that one might have left."""
 
     run: Run
     folder: Folder
@@ -183,7 +186,8 @@ def frames_changed(kept: Kept, cone: int) -> Iterator[Case]:
         for frame in row[:1]:
             place = read.frame_place(level, frame)
             end = place + frame_len(read.levels.span(level), read.header.version)
-            for change in frame_changes(data, place, read.shape(level), end):
+            low, high = next(read.levels.ranges(level, read.log.n0))
+            for change in frame_changes(data, place, read.shape(level), high - low, end):
                 line = "" if change.left is None else malformed(cone, FRAMES, change.left)
                 case = f"{name} with {change.name} at {change.at}"
                 yield Case(case, kept, {name: put(data, change.at, *change.values)}, line)
@@ -220,6 +224,20 @@ def misnamed(kept: Kept, cone: int) -> Iterator[Case]:
     yield Case(f"{name} that names the first record", kept, {name: changed}, None if first > 1 else "")
 
 
+def weights_changed(kept: Kept, cone: int) -> Iterator[Case]:
+    """The first and the last weight of the last packet, where there are weights: none, and as much as one may be, for
+    which there may be no room."""
+    read = cone_in(kept, cone)
+    if read.header.version == 1:
+        return
+    name = file_name(cone, JOURNAL)
+    gate, packet = read.packets[-1]
+    for number in {0, len(packet.items) - 1}:
+        at = gate + ITEMS_BEHIND_GATE + item_len(read.header.version) * number + KEY_LEN
+        for weight, line in (0, malformed(cone, JOURNAL, at)), (GREATEST_WEIGHT, None):
+            yield Case(f"{name} with the weight {weight} at {at}", kept, {name: put(kept.folder[name], at, weight)}, line)
+
+
 def gate_behind(read: Cone, events: int) -> int:
     """The gate behind the packets in which the first events came."""
     before = 0
@@ -249,8 +267,12 @@ def stops(kept: Kept, cone: int) -> Iterator[Case]:
     yield Case(f"cone {cone} before its last flush", kept, before_flush)
 
 
+def as_it_is(kept: Kept) -> Case:
+    return Case("the files of a run", kept, {}, "")
+
+
 def table(kept: Kept, draw: random.Random) -> Iterator[Case]:
-    yield Case("the files of a run", kept, {}, "")
+    yield as_it_is(kept)
     yield from settings_changed(kept)
     yield from swaps(kept)
     for cone in kept.run.settings.cones():
@@ -262,6 +284,7 @@ def table(kept: Kept, draw: random.Random) -> Iterator[Case]:
         yield from frames_changed(kept, cone)
         yield from unread(kept, cone, draw)
         yield from misnamed(kept, cone)
+        yield from weights_changed(kept, cone)
         yield from stops(kept, cone)
     yield from cuts(kept)
 
@@ -347,6 +370,5 @@ def drawn(all_kept: list[Kept], draw: random.Random) -> Iterator[Case]:
 def cases(all_kept: list[Kept], changes: int, seed: int) -> Iterator[Case]:
     draw = random.Random(seed)
     for kept in all_kept:
-        if kept.run.is_in_table:
-            yield from table(kept, draw)
+        yield from table(kept, draw) if kept.run.is_in_table else [as_it_is(kept)]
     yield from islice(drawn(all_kept, draw), changes)
