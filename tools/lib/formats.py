@@ -94,13 +94,13 @@ def item_len(version: int) -> int:
 
 def units(keys: Iterable[int]) -> Iterator[Item]:
     """Each of the keys with the weight 1."""
-    return map(Item, keys, repeat(1))
+    return map(Item._make, zip(keys, repeat(1)))
 
 
 def items_in(version: int, data: bytes) -> Iterator[Item]:
     """The items of which these are the bytes, whole ones."""
     if version == 1:
-        return units(key for (key,) in struct.iter_unpack("<Q", data))
+        return units(struct.unpack(f"<{len(data) // KEY_LEN}Q", data))
     return map(Item._make, struct.iter_unpack("<QB", data))
 
 
