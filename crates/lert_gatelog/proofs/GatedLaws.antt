@@ -1,16 +1,14 @@
 -- Gated texts: what writes behind a closed gate and at it leave of the records.
 use Rattle.std.proofs.Common.{◌≡◌, ℕ, ◌+◌, ◌-◌, ◌<◌, ◌≤◌, List, [], ◌∷◌, ◌++◌, length, take, drop, replicate, get_or, refl}
-use Rattle.std.proofs.Common.{sym, ap, ◌∙◌, subst, inl, inr, arith, length-append, length-take, length-drop, append-nil}
-use Rattle.std.proofs.lemmas.Bool.{cases_eq}
+use Rattle.std.proofs.Common.{sym, ap, ◌∙◌, subst, inl, arith, length-append, length-take, length-drop, append-nil}
 use Rattle.std.proofs.lemmas.List.{get_or_at, ext_get_or, take_at, drop_at, take-append-le, length-take-le}
 use Rattle.byteorder.specs.Endian.{little_number, little_bytes}
 use Rattle.byteorder.specs.Numbers.{little_number-reads_back, length-bytes_low_first}
 use lib.ListN.{length-replicate}
 use Rattle.lert_bay.specs.Files.{Torn, Holds, padded}
 use Rattle.lert_bay.specs.Settled.{part}
-use Rattle.lert_bay.proofs.Settling.{part_at, part_same, part_torn, length_part}
+use Rattle.lert_bay.proofs.Settling.{part_at, part_same, length_part}
 use Rattle.lert_gatelog.specs.Gated.{body, next_gate, IsOpen, IsClosed, Records, IsGated, appendix}
-use Rattle.lert_gatelog.specs.Kept.{IsWithOrWithout}
 
 -- ---- two texts that agree up to a place
 
@@ -76,7 +74,7 @@ pub records_ascend : (most first : ℕ) (payloads : List (List ℕ)) (bytes : Li
 records_ascend most first [] bytes end records = omega (arith, records)
 records_ascend most first (payload ∷ rest) bytes end records = omega (arith, records_ascend most (next_gate first payload) rest bytes end records.1)
 
-records_kept : (most first : ℕ) (payloads : List (List ℕ)) (old new : List ℕ) (end : ℕ) → Records most old first payloads end → Agree end old new →
+pub records_kept : (most first : ℕ) (payloads : List (List ℕ)) (old new : List ℕ) (end : ℕ) → Records most old first payloads end → Agree end old new →
     Records most new first payloads end
 records_kept most first [] old new end records agree = records
 records_kept most first (payload ∷ rest) old new end records agree = (
@@ -85,7 +83,7 @@ records_kept most first (payload ∷ rest) old new end records agree = (
 )
 
 -- one record more
-records_more : (most first : ℕ) (payloads : List (List ℕ)) (payload bytes : List ℕ) (gate : ℕ) → Records most bytes first payloads gate → IsOpen most bytes gate payload →
+pub records_more : (most first : ℕ) (payloads : List (List ℕ)) (payload bytes : List ℕ) (gate : ℕ) → Records most bytes first payloads gate → IsOpen most bytes gate payload →
     Records most bytes first (payloads ++ payload ∷ []) (next_gate gate payload)
 records_more most first [] payload bytes gate records open_record =
     (subst (λ (g : ℕ). IsOpen most bytes g payload) records open_record, ap (λ g. next_gate g payload) records)
@@ -174,48 +172,7 @@ held_part at piece old new held =
     ∙ (ap (drop at) (take_at (take at (padded old at) ++ piece) (drop (at + length piece) old) (at + length piece) both)
     ∙ drop_at (take at (padded old at)) piece at front)
 
--- ---- the second write
-
--- what is behind the gate stays
-behind_kept : (gate : ℕ) (payload old new : List ℕ) → part old (gate + 1) (gate + 1 + length (appendix payload)) ≡ appendix payload → Torn gate 1 old new →
-    part new (gate + 1) (gate + 1 + length (appendix payload)) ≡ appendix payload
-behind_kept gate payload old new is torn =
-    let within : gate + 1 + length (appendix payload) ≤ length old = part_within old (appendix payload) (gate + 1) (gate + 1 + length (appendix payload)) is refl
-    (omega (arith, length_appendix payload)) in
-    part_torn gate 1 old new old (gate + 1) (gate + 1 + length (appendix payload)) torn refl within (inr (omega arith)) ∙ is
-
--- with the gate open the record counts
-pub gated_with : (most first : ℕ) (payloads : List (List ℕ)) (gate : ℕ) (payload old new : List ℕ) → IsGated most old first payloads gate →
-    part old (gate + 1) (gate + 1 + length (appendix payload)) ≡ appendix payload → 0 < length payload → length payload ≤ most → length payload < 4294967296 →
-    Torn gate 1 old new → get_or new gate 0 ≡ 1 → IsGated most new first (payloads ++ payload ∷ []) (next_gate gate payload)
-gated_with most first payloads gate payload old new gated is some fits small torn one =
-    let agree : Agree gate old new = torn_agrees gate 1 gate old new torn (omega arith) (omega (arith, gated.closed.within)) in
-    let there = behind_kept gate payload old new is torn in
-    record {
-      records = records_more most first payloads payload new gate (records_kept most first payloads old new gate gated.records agree)
-          (open_there most gate payload new there one some fits small);
-      closed = closed_there gate payload new there;
-    }
-
--- with or without it
-pub gated_either : (most first : ℕ) (payloads : List (List ℕ)) (gate : ℕ) (payload old new : List ℕ) → IsGated most old first payloads gate →
-    part old (gate + 1) (gate + 1 + length (appendix payload)) ≡ appendix payload → 0 < length payload → length payload ≤ most → length payload < 4294967296 →
-    Torn gate 1 old new → IsWithOrWithout most first payloads gate payload new
-gated_either most first payloads gate payload old new gated is some fits small torn =
-    let agree : Agree gate old new = torn_agrees gate 1 gate old new torn (omega arith) (omega (arith, gated.closed.within)) in
-    elim (cases_eq (get_or new gate 0) 1) [
-      | inl one ↦ inr (gated_with most first payloads gate payload old new gated is some fits small torn one)
-      | inr other ↦ inl (record {
-        records = records_kept most first payloads old new gate gated.records agree;
-        closed = record { within = omega (arith, gated.closed.within, torn.no_shorter); shut = other };
-      })
-    ]
-
 -- after a whole write of the gate
 pub gate_held : (gate : ℕ) (old new : List ℕ) → Holds gate (1 ∷ []) old new → get_or new gate 0 ≡ 1
 gate_held gate old new held = ap (λ n. get_or new n 0) (omega arith) ∙ byte_of_part new (1 ∷ []) gate (gate + length {A = ℕ} (1 ∷ [])) 0 (held_part gate (1 ∷ []) old new held)
     refl (omega arith)
-
-pub closed_after : (gate : ℕ) (payload old new : List ℕ) → part old (gate + 1) (gate + 1 + length (appendix payload)) ≡ appendix payload → Torn gate 1 old new →
-    IsClosed new (next_gate gate payload)
-closed_after gate payload old new is torn = closed_there gate payload new (behind_kept gate payload old new is torn)

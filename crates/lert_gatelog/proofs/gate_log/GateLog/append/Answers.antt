@@ -2,8 +2,9 @@ use Rattle.std.proofs.Common.{◌+◌, ◌<◌, length, refl, subst, sym}
 use Rattle.std.proofs.lemmas.Result.{err_from_is_err_and}
 use Rattle.lert_bay.specs.Kept.{Bays, seen_by}
 use Rattle.lert_bay.proofs.KeptLaws.{IsLawful, keeps_on}
-use Rattle.lert_gatelog.specs.Gated.{Log, IsAppendix}
-use Rattle.lert_gatelog.proofs.Appending.{others_once, before_once, moments_once, settled_once, others_twice, before_twice, moments_twice, appended_twice, closed_twice, written_twice}
+use Rattle.lert_gatelog.specs.Gated.{Log}
+use Rattle.lert_gatelog.proofs.Appending.{appends_once, appends_on, each_moment, settled_before, others, settled, appended, closed_next}
+use Rattle.lert_gatelog.proofs.Moments.{turns_appended}
 use Rattle.lert_gatelog.proofs.Seen.{others_seen, others_on, gate_in_reach}
 use Rattle.lert_gatelog.proofs.gate_log.GateLog.append.Given as given
 use Rattle.lert_gatelog.proofs.gate_log.GateLog.append.Goals as goal
@@ -32,16 +33,17 @@ pub returns-in_err-write_durably : goal.returns-in_err-write_durably
 returns-in_err-write_durably g c =
     let p = err_from_is_err_and c.from_residual.result c.from_residual.ensures.1 in
     let wrote = c.write_durably.ensures in
+    let appends = appends_once (bays g) (lawful g) c.args.self.now c.self.view_is c.requires wrote in
     rw (p.1, ← c.self.view_is) (record {
       moved = tt;
       stayed = refl;
-      each_moment = moments_once (bays g) c.self.inside.most c.self.inside.gate wrote;
+      each_moment = each_moment appends c.self.invariant.1;
       appended = λ seen told first payloads payload is gated. tt;
       closed = λ seen told. tt;
       settled = tt;
       written = tt;
-      before = before_once (bays g) c.self.inside.gate wrote;
-      others = others_once (bays g) wrote;
+      before = settled_before appends;
+      others = others appends;
       seen = others_seen _ _ _ _ wrote.seen;
       kept = c.in_err-write_durably.ensures.kept;
     })
@@ -52,17 +54,17 @@ returns-in_err-write_durably-2 g c =
     let p = err_from_is_err_and c.from_residual-in_err-write_durably-2.result c.from_residual-in_err-write_durably-2.ensures.1 in
     let one = c.in_ok-write_durably.ensures in
     let two = c.write_durably-2.ensures in
+    let appends = appends_on (bays g) (lawful g) (appends_once (bays g) (lawful g) c.args.self.now c.self.view_is c.requires one) one two in
     rw (p.1, ← c.self.view_is) (record {
       moved = tt;
       stayed = refl;
-      each_moment = moments_twice (bays g) (lawful g) c.self.inside.most c.self.inside.gate one two
-          (subst (λ (log : Log). IsAppendix log.most c.args.text.now) (sym c.self.view_is) c.requires.text) c.self.invariant.1;
+      each_moment = each_moment appends c.self.invariant.1;
       appended = λ seen told first payloads payload is gated. tt;
       closed = λ seen told. tt;
       settled = tt;
       written = tt;
-      before = before_twice (bays g) (lawful g) c.self.inside.gate one two;
-      others = others_twice (bays g) (lawful g) c.self.inside.gate one two;
+      before = settled_before appends;
+      others = others appends;
       seen = others_on _ _ _ _ (others_seen _ _ _ _ one.seen) (others_seen _ _ _ _ two.seen);
       kept = keeps_on (bays g) (lawful g) _ _ _ _ _ one.kept c.in_err-write_durably-2.ensures.kept;
     })
@@ -72,17 +74,18 @@ pub returns : goal.returns
 returns g c =
     let one = c.in_ok-write_durably.ensures in
     let two = c.in_ok-write_durably-2.ensures in
-    let fits = subst (λ (log : Log). IsAppendix log.most c.args.text.now) (sym c.self.view_is) c.requires.text in
+    let early = appends_once (bays g) (lawful g) c.args.self.now c.self.view_is c.requires one in
+    let appends = appends_on (bays g) (lawful g) early one two in
     rw (← c.self.view_is) (record {
       moved = refl;
       stayed = tt;
-      each_moment = moments_twice (bays g) (lawful g) c.self.inside.most c.self.inside.gate one two fits c.self.invariant.1;
-      appended = appended_twice (bays g) (lawful g) c.self.inside.most c.self.inside.gate one two fits c.self.invariant.1;
-      closed = closed_twice (bays g) (lawful g) c.self.inside.most c.self.inside.gate one two fits;
-      settled = settled_once (bays g) two;
-      written = written_twice (bays g) (lawful g) c.self.inside.gate one two;
-      before = before_twice (bays g) (lawful g) c.self.inside.gate one two;
-      others = others_twice (bays g) (lawful g) c.self.inside.gate one two;
+      each_moment = each_moment appends c.self.invariant.1;
+      appended = appended (bays g) (lawful g) early one two c.self.invariant.1;
+      closed = closed_next (bays g) (lawful g) early one two;
+      settled = settled two;
+      written = turns_appended c.self.inside.file c.self.inside.gate c.args.text.now _ _ _ one.written two.written;
+      before = settled_before appends;
+      others = others appends;
       seen = others_on _ _ _ _ (others_seen _ _ _ _ one.seen) (others_seen _ _ _ _ two.seen);
       kept = keeps_on (bays g) (lawful g) _ _ _ _ _ one.kept two.kept;
     })

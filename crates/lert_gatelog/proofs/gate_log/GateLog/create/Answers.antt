@@ -3,7 +3,7 @@ use Rattle.std.proofs.lemmas.Result.{err_from_is_err_and}
 use Rattle.lert_bay.proofs.Laid.{zeros_past}
 use Rattle.lert_gatelog.proofs.Looking.{text_alone, header_text, closed_text}
 use Rattle.lert_bay.specs.Kept.{Bays, seen_by}
-use Rattle.lert_gatelog.proofs.Appending.{others_once, settled_once}
+use Rattle.lert_gatelog.proofs.Appending.{keeps_others, settled}
 use Rattle.lert_gatelog.proofs.Seen.{others_seen, short_text}
 use Rattle.lert_gatelog.proofs.gate_log.GateLog.create.Given as given
 use Rattle.lert_gatelog.proofs.gate_log.GateLog.create.Goals as goal
@@ -22,7 +22,7 @@ returns-in_err-write_durably g c =
       text = λ seen told. tt;
       closed = λ seen told. tt;
       settled = tt;
-      others = others_once (bays g) c.write_durably.ensures;
+      others = keeps_others (bays g) c.args.bay.now c.write_durably.new.bay c.write_durably.ensures.moments;
       seen = others_seen _ _ _ _ c.write_durably.ensures.seen;
       kept = c.in_err-write_durably.ensures.kept;
     })
@@ -37,10 +37,10 @@ pub returns-clause-kept : goal.returns-clause-kept
 returns-clause-kept g c = c.in_ok-write_durably.ensures.kept
 
 pub returns-clause-others : goal.returns-clause-others
-returns-clause-others g c = others_once (bays g) c.write_durably.ensures
+returns-clause-others g c = keeps_others (bays g) c.args.bay.now c.write_durably.new.bay c.write_durably.ensures.moments
 
 pub returns-clause-settled : goal.returns-clause-settled
-returns-clause-settled g c = settled_once (bays g) c.in_ok-write_durably.ensures
+returns-clause-settled g c = settled c.in_ok-write_durably.ensures
 
 pub returns-clause-text : goal.returns-clause-text
 returns-clause-text g c seen told image now =
