@@ -60,7 +60,7 @@ def fullest_share(hottest: float, cones: int) -> float:
 
 def filter_len(bits: int, events: int) -> int:
     """The memory of a table of so many quotient bits and events: slots, three rows of bits, and a row of numbers."""
-    slots = (1 << bits) + 2 * events
+    slots = (1 << bits) + 4 * events
     return KEY_LEN * slots + slots // 4 + (4 << bits) + (1 << bits) // 8
 
 

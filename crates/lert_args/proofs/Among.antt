@@ -1,13 +1,9 @@
 -- Each option that is heard is one of the command's.
 use Rattle.std.proofs.Common.{◌≡◌, ◌∙◌, ℕ, ◌+◌, Bool, true, false, cond, ◌&&◌, ◌||◌, List, [], ◌∷◌, Option, Some, None, refl, sym, take, drop, ap, ap₂, true≢false}
-use Rattle.std.specs.List.{after_first, before_first, list_all, list_any}
-use Rattle.std.specs.Str.{bytes_eq}
+use Rattle.std.specs.{List.{after_first, before_first, list_all, list_any}, Str.bytes_eq}
 use Rattle.lert_args.specs.Word.{is_hyphened, is_late_name, is_name}
 use Rattle.lert_args.specs.Said.{Kind, Reading, awaits, behind, between, ends, is_among, is_equals_sign, kind_of, named, option_kind, refused, value_of, valued}
-use Rattle.lert_args.proofs.Heard.{Heard, heard, heard_by, heard_with, with_place, with_use}
-use Rattle.lert_args.proofs.Numbers.{use_names}
-use Rattle.lert_args.proofs.Settling.{all_before}
-use Rattle.lert_args.proofs.Texts.{both, equal_texts, same_text}
+use Rattle.lert_args.proofs.{Heard.{Heard, heard, heard_by, heard_with, with_place, with_use}, Numbers.use_names, Settling.all_before, Texts.{both, equal_texts, same_text}}
 
 -- what holds of each option holds of one that is among them
 pub each_among : (p : List ℕ → Bool) (options : List (List ℕ)) (name : List ℕ) → list_all p options ≡ true → is_among options name ≡ true → p name ≡ true

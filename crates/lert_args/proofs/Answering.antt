@@ -1,26 +1,12 @@
 -- What is said of the words, by what clap answers.
 use Rattle.std.proofs.Common.{◌≡◌, ◌∙◌, Bool, true, false, cond, List, [], ◌∷◌, Option, Some, None, refl, sym, ap, subst, option_map, true≢false}
-use Rattle.std.specs.Prelude.{codes, is_some, option_and_then, slice_get}
-use Rattle.std.specs.List.{find, list_all}
-use Rattle.std.specs.Str.{bytes_eq}
-use Rattle.clap.specs.Walk.{Row, Text, first_of, nothing_held}
-use Rattle.clap.specs.Simple.{matches_of}
-use Rattle.clap.specs.Kinds.{Kinds}
-use Rattle.clap.specs.Faults.{fault_of}
-use Rattle.lert_args.specs.App.{app_with, is_read}
-use Rattle.lert_args.specs.Word.{number_of}
-use Rattle.lert_args.specs.Said.{Given, Said, are_distinct, between, is_among, names_given, said, said_once, spelt, value_given}
-use Rattle.lert_args.specs.Scan.{places_from}
+use Rattle.std.specs.{Prelude.{codes, is_some, option_and_then, slice_get}, List.{find, list_all}, Str.bytes_eq}
+use Rattle.clap.specs.{Walk.{Row, Text, first_of, nothing_held}, Simple.matches_of, Kinds.Kinds, Faults.fault_of}
+use Rattle.lert_args.specs.{App.{app_with, is_read}, Word.number_of, Said.{Given, Said, are_distinct, between, is_among, names_given, said, said_once, spelt, value_given}, Scan.places_from}
 use Rattle.lert_args.specs.declared.scan.Stand.TheVariants.{Between}
-use Rattle.lert_args.proofs.Among.{AreKnown, all_among, each_among, heard_known}
-use Rattle.lert_args.proofs.Ending.{Ended, Taken, moved}
-use Rattle.lert_args.proofs.Finding.{FoundBy, found}
-use Rattle.lert_args.proofs.Heard.{Heard, Use, heard, numbered, numbers, said-heard, said_of}
-use Rattle.lert_args.proofs.Numbers.{numbers_exist, numbers_read, text_of, use_names}
-use Rattle.lert_args.proofs.Reaching.{fault_is, matches_are}
-use Rattle.lert_args.proofs.Rows.{fresh_first, joined, row_with, seen, seen_nothing, use_row}
-use Rattle.lert_args.proofs.Turning.{fails}
-use Rattle.lert_args.proofs.Walking.{walk_ends}
+use Rattle.lert_args.proofs.{Among.{AreKnown, all_among, each_among, heard_known}, Ending.{Ended, Taken, moved}, Finding.{FoundBy, found}}
+use Rattle.lert_args.proofs.{Heard.{Heard, Use, heard, numbered, numbers, said-heard, said_of}, Numbers.{numbers_exist, numbers_read, text_of, use_names}, Reaching.{fault_is, matches_are}}
+use Rattle.lert_args.proofs.{Rows.{fresh_first, joined, row_with, seen, seen_nothing, use_row}, Turning.fails, Walking.walk_ends}
 
 -- the text of an option, by its row
 use_row-text : (name : Text) (uses : List Use) → option_and_then (λ (r : Row). slice_get r.values 0) (use_row name uses) ≡ text_of name uses

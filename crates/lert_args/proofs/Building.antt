@@ -1,14 +1,9 @@
 -- The command that is built, and that clap's simple meaning speaks of it.
 use Rattle.std.proofs.Common.{◌≡◌, ◌∙◌, ℕ, ◌+◌, Bool, true, false, cond, ◌&&◌, ◌||◌, not, List, [], ◌∷◌, map, Some, None, refl, sym, ap, ap₂, true≢false}
-use Rattle.std.specs.Prelude.{codes, is_some, fold}
-use Rattle.std.specs.List.{find, list_all, list_any}
-use Rattle.std.specs.Str.{bytes_eq}
-use Rattle.clap.specs.Walk.{Rule, Text, arg_by_id, arg_by_long, is_early_multiple}
-use Rattle.clap.specs.Simple.{App, Shape, built, filled_from, is_in_order, is_simple, new_shape}
-use Rattle.clap.specs.Faults.{is_simple_and_free}
+use Rattle.std.specs.{Prelude.{codes, is_some, fold}, List.{find, list_all, list_any}, Str.bytes_eq}
+use Rattle.clap.specs.{Walk.{Rule, Text, arg_by_id, arg_by_long, is_early_multiple}, Simple.{App, Shape, built, filled_from, is_in_order, is_simple, new_shape}, Faults.is_simple_and_free}
 use Rattle.clap.specs.declared.builder.value_parser.ValueParser.TheVariants as parser
-use Rattle.lert_args.specs.App.{app_with, names_rule, option_rule}
-use Rattle.lert_args.specs.Said.{is_among}
+use Rattle.lert_args.specs.{App.{app_with, names_rule, option_rule}, Said.is_among}
 use Rattle.lert_args.proofs.Texts.{equal_texts}
 
 -- an option and the names, as building fills them in

@@ -1,13 +1,9 @@
 -- How the walk over words ends, by what is heard of them.
 use Rattle.std.proofs.Common.{◌≡◌, ◌∙◌, ℕ, Bool, true, false, ◌&&◌, not, List, [], ◌∷◌, Option, Some, None, sym, subst}
 use Rattle.std.specs.Prelude.{is_some}
-use Rattle.clap.specs.Walk.{Row, Text}
-use Rattle.clap.specs.Kinds.{Kinds}
+use Rattle.clap.specs.{Walk.{Row, Text}, Kinds.Kinds}
 use Rattle.lert_args.specs.Said.{is_among}
-use Rattle.lert_args.proofs.Heard.{Heard, Use, with_place, with_use}
-use Rattle.lert_args.proofs.Numbers.{use_names}
-use Rattle.lert_args.proofs.Rows.{and_row, fresh, fresh_behind, joined, joined_assoc, one_row, row_at, use_row}
-use Rattle.lert_args.proofs.Turning.{fails}
+use Rattle.lert_args.proofs.{Heard.{Heard, Use, with_place, with_use}, Numbers.use_names, Rows.{and_row, fresh, fresh_behind, joined, joined_assoc, one_row, row_at, use_row}, Turning.fails}
 
 -- the walk's end, where it fails and where not, by what is heard
 abbrev pub Taken : List Text → Bool → (Text → Option Row) → List Use → Kinds → List Row → Type 0

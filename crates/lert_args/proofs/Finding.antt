@@ -1,15 +1,10 @@
 -- The places of the names that words say are those that the scan finds.
 use Rattle.std.proofs.Common.{◌≡◌, ℕ, ◌+◌, Bool, true, false, cond, List, [], ◌∷◌, Option, Some, None, refl, sym, ap, subst, option_map}
-use Rattle.std.specs.Prelude.{option_and_then}
-use Rattle.std.specs.List.{list_any, before_first, after_first}
-use Rattle.lert_args.specs.Word.{is_hyphened, is_late_name}
-use Rattle.lert_args.specs.Said.{Reading, awaits, behind, between, is_among, is_equals_sign, option_kind, refused, value_of, valued}
-use Rattle.lert_args.specs.Scan.{places_by, places_from, turn_of, turn_of_option}
-use Rattle.lert_args.specs.declared.scan.Stand.{Stand}
+use Rattle.std.specs.{Prelude.option_and_then, List.{list_any, before_first, after_first}}
+use Rattle.lert_args.specs.{Word.{is_hyphened, is_late_name}, Said.{Reading, awaits, behind, between, is_among, is_equals_sign, option_kind, refused, value_of, valued}}
+use Rattle.lert_args.specs.{Scan.{places_by, places_from, turn_of, turn_of_option}, declared.scan.Stand.Stand, declared.scan.Turn.TheVariants.{Name, Other}}
 use Rattle.lert_args.specs.declared.scan.Stand.TheVariants as stand
-use Rattle.lert_args.specs.declared.scan.Turn.TheVariants.{Name, Other}
-use Rattle.lert_args.proofs.Heard.{Heard, heard, heard_by, heard_with, with_place, with_use}
-use Rattle.lert_args.proofs.Shapes.{Shape, is_end, is_named, is_option, is_other, kind_of-name, kind_of-none, shape, turn_of-name}
+use Rattle.lert_args.proofs.{Heard.{Heard, heard, heard_by, heard_with, with_place, with_use}, Shapes.{Shape, is_end, is_named, is_option, is_other, kind_of-name, kind_of-none, shape, turn_of-name}}
 
 abbrev pub stand_of : Reading → Stand
 stand_of between = stand.Between

@@ -1,9 +1,6 @@
 -- What words say before their values are read as numbers, and that it says what the definition says.
-use Rattle.std.proofs.Common.{◌≡◌, ◌∙◌, ℕ, ◌+◌, Bool, true, false, cond, ◌&&◌, List, [], ◌∷◌, length, Option, Some, None, refl, ap, option_map}
-use Rattle.std.specs.Prelude.{option_and_then, if◌then◌else◌, nat_lt, nat_le}
-use Rattle.std.specs.Str.Parse.{digits_value}
-use Rattle.std.proofs.Math.Bool.{and-false}
-use Rattle.std.proofs.lemmas.Bool.{eqb-true}
+use Rattle.std.proofs.{Common.{◌≡◌, ◌∙◌, ℕ, ◌+◌, Bool, true, false, cond, ◌&&◌, List, [], ◌∷◌, length, Option, Some, None, refl, ap, option_map}, Math.Bool.and-false, lemmas.Bool.eqb-true}
+use Rattle.std.specs.{Prelude.{option_and_then, if◌then◌else◌, nat_lt, nat_le}, Str.Parse.digits_value}
 use Rattle.lert_args.specs.Word.{is_hyphened, is_late_name, number_of}
 use Rattle.lert_args.specs.Said.{Given, Kind, Reading, Said, awaits, behind, between, ends, kind_of, named, refused, said, said_by, said_with, value_of, valued, with_name, with_value}
 

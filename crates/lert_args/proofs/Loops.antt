@@ -1,13 +1,9 @@
 -- One more step of the reader's loops.
 use Rattle.std.proofs.Common.{◌≡◌, ◌∙◌, ℕ, ◌+◌, ◌<◌, ◌≤◌, Bool, true, ◌&&◌, zero, suc, List, [], ◌∷◌, ◌++◌, length, map, take, drop, Some, slice_get, get_or, sym, ap, ap₂, append_assoc, arith}
-use Rattle.std.specs.Borrow.{Bor}
-use Rattle.std.specs.List.{list_all}
-use Rattle.std.proofs.lemmas.List.{append-nil, drop_all, map-append, map_more}
-use Rattle.std.proofs.lemmas.List.Folds.{list_all_more}
+use Rattle.std.proofs.{lemmas.List.{append-nil, drop_all, map-append, map_more}, lemmas.List.Folds.list_all_more}
+use Rattle.std.specs.{Borrow.Bor, List.list_all}
 use Rattle.clap.specs.Words.{App, Rule, with_rule}
-use Rattle.lert_args.specs.App.{app_with, names_rule, option_rule}
-use Rattle.lert_args.specs.declared.line.LineFault.{LineFault}
-use Rattle.lert_args.specs.declared.line.LineFault.TheVariants.{Usage}
+use Rattle.lert_args.specs.{App.{app_with, names_rule, option_rule}, declared.line.LineFault.LineFault, declared.line.LineFault.TheVariants.Usage}
 
 from_here : (words : List (List ℕ)) (n : ℕ) (word : List ℕ) → slice_get words n ≡ Some word → drop n words ≡ word ∷ drop (n + 1) words
 from_here [] n word at = absurd (cc)

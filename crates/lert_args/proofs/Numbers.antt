@@ -1,13 +1,8 @@
 -- The numbers that the values of options spell, option by option.
 use Rattle.std.proofs.Common.{◌≡◌, ◌∙◌, ℕ, Bool, true, false, cond, ◌||◌, not, List, [], ◌∷◌, map, Option, Some, None, refl, sym, ap, subst, option_map, true≢false}
-use Rattle.std.specs.Prelude.{option_and_then, is_some, find}
-use Rattle.std.specs.List.{list_all}
-use Rattle.std.specs.Str.{bytes_eq}
-use Rattle.lert_args.specs.App.{is_read}
-use Rattle.lert_args.specs.Word.{number_of}
-use Rattle.lert_args.specs.Said.{Given, are_distinct, is_among}
-use Rattle.lert_args.proofs.Texts.{both, equal_texts, is_not, same_text}
-use Rattle.lert_args.proofs.Heard.{Use, numbered_use, numbers}
+use Rattle.std.specs.{Prelude.{option_and_then, is_some, find}, List.list_all, Str.bytes_eq}
+use Rattle.lert_args.specs.{App.is_read, Word.number_of, Said.{Given, are_distinct, is_among}}
+use Rattle.lert_args.proofs.{Texts.{both, equal_texts, is_not, same_text}, Heard.{Use, numbered_use, numbers}}
 
 -- the text that an option is given
 abbrev pub text_of : List ℕ → List Use → Option (List ℕ)

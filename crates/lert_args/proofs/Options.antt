@@ -1,12 +1,10 @@
 -- What clap makes of an option.
 use Rattle.std.proofs.Common.{◌≡◌, ◌∙◌, ℕ, Bool, true, false, cond, List, [], ◌∷◌, Option, Some, None, refl, ap, ap₂}
 use Rattle.std.specs.List.{after_first, before_first, list_any}
-use Rattle.clap.specs.Walk.{Held, Rule, Text, Waiting, Walk, after_flag, after_step, arg_by_long, idle, long_met, option, positional, reacted, settled, walked}
-use Rattle.clap.specs.Kinds.{Kinds, or_else}
+use Rattle.clap.specs.{Walk.{Held, Rule, Text, Waiting, Walk, after_flag, after_step, arg_by_long, idle, long_met, option, positional, reacted, settled, walked}, Kinds.{Kinds, or_else}}
 use Rattle.clap.specs.Faults.{long_fault, react_fault, settle_fault, step_fault, turn_fault}
 use Rattle.lert_args.specs.Said.{is_among, is_equals_sign}
-use Rattle.lert_args.proofs.Building.{built_option, by_long, no_long, rules, shape_of_options}
-use Rattle.lert_args.proofs.Turning.{at_word, awaiting, fails}
+use Rattle.lert_args.proofs.{Building.{built_option, by_long, no_long, rules, shape_of_options}, Turning.{at_word, awaiting, fails}}
 
 pub or_none : (kinds : Kinds) → or_else kinds [] ≡ kinds
 or_none [] = refl

@@ -1,27 +1,11 @@
 -- What the reader answers, by what clap answers.
-use Rattle.std.proofs.Common.{◌≡◌, ◌∙◌, ℕ, ◌||◌, Bool, true, false, List, [], ◌∷◌, map, Option, Some, None, inl, inr, refl, sym, ap, ap₂, subst}
-use Rattle.std.specs.Prelude.{◌≢◌, codes, is_some, option_and_then}
-use Rattle.std.specs.Borrow.{Bor}
-use Rattle.std.specs.List.{list_all}
-use Rattle.std.specs.Str.{bytes_eq}
-use Rattle.std.proofs.lemmas.List.Folds.{list_all-map}
-use Rattle.clap.specs.Walk.{Row, Text, first_of, rows_of}
-use Rattle.clap.specs.Words.{App, fault_of, first_value, matches_of}
-use Rattle.clap.specs.Kinds.{HasKind, IsAmong, Kinds}
-use Rattle.clap.specs.Values.{kind_of}
-use Rattle.clap.specs.declared.error.Error.{Error}
-use Rattle.clap.specs.declared.error.kind.ErrorKind.{ErrorKind}
-use Rattle.clap.specs.declared.error.kind.ErrorKind.TheVariants.{OutOfMemory}
-use Rattle.clap.specs.declared.parser.matches.Found.{Found}
+use Rattle.std.proofs.{Common.{◌≡◌, ◌∙◌, ℕ, ◌||◌, Bool, true, false, List, [], ◌∷◌, map, Option, Some, None, inl, inr, refl, sym, ap, ap₂, subst}, lemmas.List.Folds.list_all-map}
+use Rattle.std.specs.{Prelude.{◌≢◌, codes, is_some, option_and_then}, Borrow.Bor, List.list_all, Str.bytes_eq}
+use Rattle.clap.specs.{Walk.{Row, Text, first_of, rows_of}, Words.{App, fault_of, first_value, matches_of}, Kinds.{HasKind, IsAmong, Kinds}, Values.kind_of, declared.error.Error.Error}
+use Rattle.clap.specs.{declared.error.kind.ErrorKind.ErrorKind, declared.error.kind.ErrorKind.TheVariants.OutOfMemory, declared.parser.matches.Found.Found}
 use Rattle.clap.proofs.WalkLemmas.{first_value-rows}
-use Rattle.lert_args.specs.App.{app_with, is_read}
-use Rattle.lert_args.specs.Word.{number_of}
-use Rattle.lert_args.specs.Said.{Said, is_among, spelt, value_given}
-use Rattle.lert_args.specs.Scan.{places_from}
-use Rattle.lert_args.specs.declared.scan.Stand.TheVariants.{Between}
-use Rattle.lert_args.proofs.Answering.{Told, all_read, told}
-use Rattle.lert_args.proofs.Texts.{same_text}
-use Rattle.lert_args.proofs.Turning.{fails}
+use Rattle.lert_args.specs.{App.{app_with, is_read}, Word.number_of, Said.{Said, is_among, spelt, value_given}, Scan.places_from, declared.scan.Stand.TheVariants.Between}
+use Rattle.lert_args.proofs.{Answering.{Told, all_read, told}, Texts.same_text, Turning.fails}
 
 -- options' values that are the same for each name among them
 values_same : (g h : Text → Option ℕ) (options : List (Bor Text)) → ((name : Text) → is_among (map (λ o. o.now) options) name ≡ true → g name ≡ h name)

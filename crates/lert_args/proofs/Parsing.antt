@@ -1,12 +1,7 @@
 -- What a parse of decimal digits says of the number that a word spells.
-use Rattle.std.proofs.Common.{◌≡◌, ℕ, ◌<◌, ◌≤◌, ◌^◌, Bool, true, false, ◌&&◌, ltb, leb, cond, List, length, Some, None, Result, Ok, Err, ap, sym, ◌∙◌, rules}
-use Rattle.std.proofs.Common.{lt-ltb, le-leb, le-ltb, inl, inr}
-use Rattle.std.proofs.lemmas.Bool.{cases_lt}
-use Rattle.std.specs.Char.{is_ascii_digit}
-use Rattle.std.specs.List.{list_all}
-use Rattle.std.specs.Result.{OkIff, result_ok}
-use Rattle.std.specs.Str.Parse.{digits_value, ParsesUnsigned}
-use Rattle.std.proofs.lemmas.Str.Parse.{IsNumeralModel, numerals_by_value, parse_digits}
+use Rattle.std.proofs.Common.{◌≡◌, ℕ, ◌<◌, ◌≤◌, ◌^◌, Bool, true, false, ◌&&◌, ltb, leb, cond, List, length, Some, None, Result, Ok, Err, ap, sym, ◌∙◌, rules, lt-ltb, le-leb, le-ltb, inl, inr}
+use Rattle.std.proofs.{lemmas.Bool.cases_lt, lemmas.Str.Parse.{IsNumeralModel, numerals_by_value, parse_digits}}
+use Rattle.std.specs.{Char.is_ascii_digit, List.list_all, Result.{OkIff, result_ok}, Str.Parse.{digits_value, ParsesUnsigned}}
 use Rattle.lert_args.specs.Word.{number_of}
 
 digits : IsNumeralModel (λ ds. list_all is_ascii_digit ds ≡ true) (digits_value 10)

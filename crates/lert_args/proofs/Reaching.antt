@@ -1,17 +1,11 @@
 -- The faults and the matches of the whole command are those of the walk.
 use Rattle.std.proofs.Common.{◌≡◌, ◌∙◌, Bool, true, false, cond, ◌&&◌, ◌||◌, not, List, [], ◌∷◌, map, refl, ap, ap₂}
 use Rattle.std.specs.Prelude.{fold}
-use Rattle.clap.specs.Walk.{Row, Rule, Text, finished, has_row, idle, nothing_held, rows_after, walk, walk_from, with_default}
-use Rattle.clap.specs.Simple.{App, matches_of, names_of}
-use Rattle.clap.specs.Kinds.{check_kinds, or_else}
-use Rattle.clap.specs.Faults.{built_fault, check_fault, defaults_fault, fault_of, given_default_fault, settle_fault, walk_fault}
-use Rattle.clap.specs.Takes.{is_given}
+use Rattle.clap.specs.{Walk.{Row, Rule, Text, finished, has_row, idle, nothing_held, rows_after, walk, walk_from, with_default}, Simple.{App, matches_of, names_of}, Kinds.{check_kinds, or_else}}
+use Rattle.clap.specs.{Faults.{built_fault, check_fault, defaults_fault, fault_of, given_default_fault, settle_fault, walk_fault}, Takes.is_given}
 use Rattle.clap.proofs.FaultLemmas.{leaf_fault}
 use Rattle.lert_args.specs.App.{app_with}
-use Rattle.lert_args.proofs.Building.{built_is, built_names, built_option, none_mapped, rules, shape_of_options}
-use Rattle.lert_args.proofs.Options.{or_none}
-use Rattle.lert_args.proofs.Settling.{faults, rows_end}
-use Rattle.lert_args.proofs.Turning.{at_word}
+use Rattle.lert_args.proofs.{Building.{built_is, built_names, built_option, none_mapped, rules, shape_of_options}, Options.or_none, Settling.{faults, rows_end}, Turning.at_word}
 
 or_true : (b : Bool) → (b || true) ≡ true
 or_true true = refl

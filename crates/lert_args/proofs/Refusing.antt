@@ -1,11 +1,8 @@
 -- Where the scan refuses words, nothing is said.
 use Rattle.std.proofs.Common.{◌≡◌, ◌∙◌, ℕ, List, Option, Some, None, refl, ap}
 use Rattle.std.specs.Prelude.{option_and_then}
-use Rattle.lert_args.specs.Said.{between, said_once, spelt}
-use Rattle.lert_args.specs.Scan.{places_from}
-use Rattle.lert_args.specs.declared.scan.Stand.TheVariants.{Between}
-use Rattle.lert_args.proofs.Finding.{FoundBy, found}
-use Rattle.lert_args.proofs.Heard.{Heard, heard, numbered, said-heard}
+use Rattle.lert_args.specs.{Said.{between, said_once, spelt}, Scan.places_from, declared.scan.Stand.TheVariants.Between}
+use Rattle.lert_args.proofs.{Finding.{FoundBy, found}, Heard.{Heard, heard, numbered, said-heard}}
 
 pub refused_by_scan : (options words : List (List ℕ)) → places_from 1 words Between ≡ None → spelt options words ≡ None
 refused_by_scan options words none = go (heard options 1 words between) refl (found options 1 words between)

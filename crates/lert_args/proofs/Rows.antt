@@ -1,14 +1,9 @@
 -- What clap's rows hold of each option, as a function of its name.
 use Rattle.std.proofs.Common.{◌≡◌, ◌∙◌, Bool, true, false, cond, ◌&&◌, ◌||◌, not, List, [], ◌∷◌, ◌++◌, Option, Some, None, refl, sym, ap, ap₂, true≢false}
-use Rattle.std.specs.Prelude.{codes, is_some}
-use Rattle.std.specs.List.{find}
-use Rattle.std.specs.Str.{bytes_eq}
-use Rattle.clap.specs.Walk.{Row, Text, at_row, has_row, reading_by, more_values, stronger, used, with_values}
-use Rattle.clap.specs.declared.parser.matches.ValueSource.TheVariants.{CommandLine}
+use Rattle.std.specs.{Prelude.{codes, is_some}, List.find, Str.bytes_eq}
+use Rattle.clap.specs.{Walk.{Row, Text, at_row, has_row, reading_by, more_values, stronger, used, with_values}, declared.parser.matches.ValueSource.TheVariants.CommandLine}
 use Rattle.lert_args.specs.Said.{are_distinct, is_among}
-use Rattle.lert_args.proofs.Building.{built_names, built_option, not_names}
-use Rattle.lert_args.proofs.Heard.{Use}
-use Rattle.lert_args.proofs.Texts.{equal_texts, text_swap}
+use Rattle.lert_args.proofs.{Building.{built_names, built_option, not_names}, Heard.Use, Texts.{equal_texts, text_swap}}
 
 abbrev pub row_at : Text → List Row → Option Row
 row_at name rows = find (λ r. bytes_eq r.id name) rows

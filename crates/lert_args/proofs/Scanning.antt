@@ -1,12 +1,8 @@
 -- One more word of the scan for the places of names.
 use Rattle.std.proofs.Common.{◌≡◌, ◌∙◌, ℕ, ◌+◌, ◌<◌, ◌≤◌, List, [], ◌∷◌, ◌++◌, length, map, drop, get_or, Option, Some, None, refl, sym, ap, append_assoc, append-nil}
-use Rattle.std.specs.Borrow.{Bor}
-use Rattle.std.specs.Prelude.{option_and_then, option_map}
 use Rattle.std.proofs.lemmas.List.{at_drop_more, at_drop_all}
-use Rattle.lert_args.specs.Scan.{places_by, places_from, turn_of}
-use Rattle.lert_args.specs.declared.scan.Stand.{Stand}
-use Rattle.lert_args.specs.declared.scan.Turn.{Turn}
-use Rattle.lert_args.specs.declared.scan.Turn.TheVariants.{Name, Other}
+use Rattle.std.specs.{Borrow.Bor, Prelude.{option_and_then, option_map}}
+use Rattle.lert_args.specs.{Scan.{places_by, places_from, turn_of}, declared.scan.Stand.Stand, declared.scan.Turn.Turn, declared.scan.Turn.TheVariants.{Name, Other}}
 
 pushed : (so_far : List ℕ) (place : ℕ) (o : Option (List ℕ)) →
     option_map (λ places. so_far ++ places) (option_map (λ places. place ∷ places) o) ≡ option_map (λ places. (so_far ++ place ∷ []) ++ places) o

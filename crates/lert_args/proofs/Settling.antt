@@ -1,15 +1,10 @@
 -- What settles between two words, and the walk over the words that are left.
 use Rattle.std.proofs.Common.{◌≡◌, ◌∙◌, ℕ, ◌+◌, Bool, true, false, cond, ◌&&◌, ◌||◌, not, List, [], ◌∷◌, Option, refl, sym, ap, ap₂, arith, suc, take, true≢false}
-use Rattle.std.specs.Prelude.{codes, fold}
-use Rattle.std.specs.List.{before_first, list_any, position_or_len}
-use Rattle.std.specs.Option.{option_map_or}
-use Rattle.clap.specs.Walk.{Held, Row, Rule, Text, Walk, has_row, settled, used, used_by_id, walked}
-use Rattle.clap.specs.Kinds.{Kinds, or_else}
-use Rattle.clap.specs.Faults.{settle_fault, turn_fault, use_fault, walk_fault}
+use Rattle.std.specs.{Prelude.{codes, fold}, List.{before_first, list_any, position_or_len}, Option.option_map_or}
+use Rattle.clap.specs.{Walk.{Held, Row, Rule, Text, Walk, has_row, settled, used, used_by_id, walked}, Kinds.{Kinds, or_else}, Faults.{settle_fault, turn_fault, use_fault, walk_fault}}
 use Rattle.clap.specs.declared.error.kind.ErrorKind.TheVariants.{ArgumentConflict}
 use Rattle.lert_args.specs.Said.{is_among}
-use Rattle.lert_args.proofs.Building.{built_option, by_id, rules, shape_of_options}
-use Rattle.lert_args.proofs.Turning.{awaiting, fails, holding}
+use Rattle.lert_args.proofs.{Building.{built_option, by_id, rules, shape_of_options}, Turning.{awaiting, fails, holding}}
 
 -- a name without the byte is all that stands before it
 pub all_before : (p : ℕ → Bool) (text : List ℕ) → list_any p text ≡ false → before_first p text ≡ text

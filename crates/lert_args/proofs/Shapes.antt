@@ -1,11 +1,7 @@
 -- The shapes of a word where options may stand.
-use Rattle.std.proofs.Common.{◌≡◌, ◌∙◌, ℕ, Bool, true, false, cond, List, [], ◌∷◌, Some, None, refl, ap}
+use Rattle.std.proofs.{Common.{◌≡◌, ◌∙◌, ℕ, Bool, true, false, cond, List, [], ◌∷◌, Some, None, refl, ap}, lemmas.Bool.eqb-true}
 use Rattle.std.specs.Prelude.{◌==◌}
-use Rattle.std.proofs.lemmas.Bool.{eqb-true}
-use Rattle.lert_args.specs.Said.{kind_of, named, refused}
-use Rattle.lert_args.specs.Scan.{turn_between, turn_hyphened, turn_of_option}
-use Rattle.lert_args.specs.declared.scan.Stand.TheVariants.{Between}
-use Rattle.lert_args.specs.declared.scan.Turn.TheVariants.{Name}
+use Rattle.lert_args.specs.{Said.{kind_of, named, refused}, Scan.{turn_between, turn_hyphened, turn_of_option}, declared.scan.Stand.TheVariants.Between, declared.scan.Turn.TheVariants.Name}
 
 -- `--`, an option, a name, or a word that no line has there
 pub data Shape (word : List ℕ) : Type 0 where

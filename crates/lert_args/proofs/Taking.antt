@@ -1,14 +1,8 @@
 -- What the scan says of the words behind a word that it takes.
 use Rattle.std.proofs.Common.{◌≡◌, ◌∙◌, ℕ, ◌+◌, Bool, true, false, cond, List, ◌∷◌, Option, Some, None, refl, sym, ap, option_map, true≢false}
-use Rattle.std.specs.Prelude.{◌==◌, is_some, option_and_then}
-use Rattle.std.specs.List.{list_any}
-use Rattle.lert_args.specs.Word.{is_hyphened, is_late_name}
-use Rattle.lert_args.specs.Said.{is_equals_sign}
-use Rattle.lert_args.specs.Scan.{places_by, places_from, turn_between}
-use Rattle.lert_args.specs.declared.scan.Stand.{Stand}
-use Rattle.lert_args.specs.declared.scan.Stand.TheVariants.{Behind, Between, Value}
-use Rattle.lert_args.specs.declared.scan.Turn.{Turn}
-use Rattle.lert_args.specs.declared.scan.Turn.TheVariants.{Name, Other}
+use Rattle.std.specs.{Prelude.{◌==◌, is_some, option_and_then}, List.list_any}
+use Rattle.lert_args.specs.{Word.{is_hyphened, is_late_name}, Said.is_equals_sign, Scan.{places_by, places_from, turn_between}, declared.scan.Stand.Stand}
+use Rattle.lert_args.specs.{declared.scan.Stand.TheVariants.{Behind, Between, Value}, declared.scan.Turn.Turn, declared.scan.Turn.TheVariants.{Name, Other}}
 use Rattle.lert_args.proofs.Shapes.{turn_of-name}
 
 -- the scan takes the words, of which the first stands at this place

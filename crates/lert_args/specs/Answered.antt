@@ -1,9 +1,6 @@
 -- What is answered where words spell a line, and where they spell none.
 use Rattle.std.specs.Prelude.{◌≡◌, ℕ, Option, Some, None, Result, IfOk, IfErr}
-use Rattle.lert_args.specs.Command.{usage_of}
-use Rattle.lert_args.specs.declared.line.Line.{Line}
-use Rattle.lert_args.specs.declared.line.LineFault.{LineFault}
-use Rattle.lert_args.specs.declared.line.LineFault.TheVariants.{Usage}
+use Rattle.lert_args.specs.{Command.usage_of, declared.line.Line.Line, declared.line.LineFault.LineFault, declared.line.LineFault.TheVariants.Usage}
 
 -- the line that was spelled is answered where it breaks no rule, or the first rule that it breaks, or 0 where there is no line
 pub record IsAnswered (result : Result Line LineFault) (spelled : Option Line) : Type 0 where

@@ -1,8 +1,7 @@
 -- The simple command of `clap` that reads the options of a command.
 use Rattle.std.specs.Prelude.{List, ℕ, Bool, ◌∷◌, map, codes, true, Option, Some, None, is_some}
-use Rattle.clap.specs.Words.{App, Rule, new_app, new_rule}
+use Rattle.clap.specs.{Words.{App, Rule, new_app, new_rule}, declared.builder.action.ArgAction.TheVariants.{Append, Set}}
 use Rattle.lert_args.specs.Word.{number_of}
-use Rattle.clap.specs.declared.builder.action.ArgAction.TheVariants.{Append, Set}
 
 -- an option, by its name, and the names behind all of them
 abbrev pub option_rule : List ℕ → Rule

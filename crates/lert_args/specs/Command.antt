@@ -1,11 +1,7 @@
 -- The command lines, and the first rule that a line breaks.
-use Rattle.std.specs.Prelude.{ℕ, nat_le, ◌^◌, List, [], ◌∷◌, ◌++◌, length, codes, Option, Some, None, option_and_then, unwrap_or, if◌then◌else◌}
-use Rattle.std.specs.Str.{bytes_eq}
-use Rattle.lert_spec.specs.declared.numbers.Numbers.{Numbers}
-use Rattle.lert_spec.specs.Limits.{first_broken, lies}
-use Rattle.lert_args.specs.Said.{Said, spelt, value_given}
-use Rattle.lert_args.specs.declared.line.Line.{Line}
-use Rattle.lert_args.specs.declared.line.Line.TheVariants.{Run, Recover, Gen, Drill}
+use Rattle.std.specs.{Prelude.{ℕ, nat_le, ◌^◌, List, [], ◌∷◌, ◌++◌, length, codes, Option, Some, None, option_and_then, unwrap_or, if◌then◌else◌}, Str.bytes_eq}
+use Rattle.lert_spec.specs.{declared.numbers.Numbers.Numbers, Limits.{first_broken, lies}}
+use Rattle.lert_args.specs.{Said.{Said, spelt, value_given}, declared.line.Line.Line, declared.line.Line.TheVariants.{Run, Recover, Gen, Drill}}
 
 -- the options of the settings, and those of each command
 abbrev pub setting_options : List (List ℕ)

@@ -1,7 +1,5 @@
 -- The options of a command, lent as texts.
-use Rattle.std.specs.Prelude.{ℕ, Bool, List, map}
-use Rattle.std.specs.Borrow.{Bor}
-use Rattle.std.specs.List.{list_all}
+use Rattle.std.specs.{Prelude.{ℕ, Bool, List, map}, Borrow.Bor, List.list_all}
 use Rattle.lert_args.specs.Said.{is_among}
 
 -- these are among the options

@@ -1,7 +1,6 @@
 -- What the words behind a command say, read from left to right.
 use Rattle.std.specs.Prelude.{ℕ, ◌+◌, ◌==◌, Bool, true, not, ◌&&◌, List, [], ◌∷◌, take, drop, map, find, codes, Option, Some, None, option_map, option_and_then, if◌then◌else◌}
-use Rattle.std.specs.List.{after_first, before_first, list_any}
-use Rattle.std.specs.Str.{bytes_eq}
+use Rattle.std.specs.{List.{after_first, before_first, list_any}, Str.bytes_eq}
 use Rattle.lert_args.specs.Word.{is_late_name, is_name, number_of}
 
 -- an option that is given: its name, without the two hyphens, and its value

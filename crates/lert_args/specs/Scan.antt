@@ -1,11 +1,6 @@
 -- Where names stand in words, read before anything is known of the options: what a word is there, by its hyphens alone.
-use Rattle.std.specs.Prelude.{ℕ, ◌+◌, ◌==◌, List, [], ◌∷◌, Option, Some, None, option_map, option_and_then, if◌then◌else◌}
-use Rattle.std.specs.List.{list_any}
-use Rattle.lert_args.specs.Said.{is_equals_sign}
-use Rattle.lert_args.specs.Word.{is_hyphened, is_late_name}
-use Rattle.lert_args.specs.declared.scan.Stand.{Stand}
-use Rattle.lert_args.specs.declared.scan.Stand.TheVariants.{Between, Value, Behind}
-use Rattle.lert_args.specs.declared.scan.Turn.{Turn}
+use Rattle.std.specs.{Prelude.{ℕ, ◌+◌, ◌==◌, List, [], ◌∷◌, Option, Some, None, option_map, option_and_then, if◌then◌else◌}, List.list_any}
+use Rattle.lert_args.specs.{Said.is_equals_sign, Word.{is_hyphened, is_late_name}, declared.scan.Stand.Stand, declared.scan.Stand.TheVariants.{Between, Value, Behind}, declared.scan.Turn.Turn}
 use Rattle.lert_args.specs.declared.scan.Turn.TheVariants.{Name, Other}
 
 -- behind two hyphens: the end of the options, an option with its value, or one whose value comes

@@ -1,9 +1,6 @@
 -- The words of a command line: texts, numbers and names.
-use Rattle.std.specs.Prelude.{ℕ, ◌==◌, nat_lt, nat_le, Bool, false, not, ◌&&◌, List, [], ◌∷◌, length, codes, Option, Some, None, slice_index_or, if◌then◌else◌}
-use Rattle.std.specs.Char.{is_ascii_digit}
-use Rattle.std.specs.List.{list_all}
-use Rattle.std.specs.Str.{bytes_eq}
-use Rattle.std.specs.Str.Parse.{digits_value}
+use Rattle.std.specs.{Prelude.{ℕ, ◌==◌, nat_lt, nat_le, Bool, false, not, ◌&&◌, List, [], ◌∷◌, length, codes, Option, Some, None, slice_index_or, if◌then◌else◌}, Char.is_ascii_digit, List.list_all}
+use Rattle.std.specs.{Str.bytes_eq, Str.Parse.digits_value}
 
 -- the word with a number, from 0
 abbrev pub word_at : List (List ℕ) → ℕ → List ℕ

@@ -1,12 +1,8 @@
 -- The loops that compute the spans and the offsets, a level further.
-use Rattle.std.proofs.Common.{ℕ, ◌≡◌, ◌≢◌, ◌+◌, ◌-◌, ◌*◌, ◌^◌, ◌<◌, ◌≤◌, zero, suc, List, length, get_or, set, ap, ap₂, sym, ◌∙◌, arith, inl, inr}
-use Rattle.std.proofs.lemmas.Bool.{cases_lt}
+use Rattle.std.proofs.{Common.{ℕ, ◌≡◌, ◌≢◌, ◌+◌, ◌-◌, ◌*◌, ◌^◌, ◌<◌, ◌≤◌, zero, suc, List, length, get_or, set, ap, ap₂, sym, ◌∙◌, arith, inl, inr}, lemmas.Bool.cases_lt}
 use Rattle.std.proofs.lemmas.List.{get_or-set_same, get_or-set_other, length-set}
-use Rattle.lert_spec.specs.declared.numbers.Numbers.{Numbers}
-use Rattle.lert_spec.specs.Edges.{span, spans, offset}
-use Rattle.lert_spec.specs.Limits.{IsInLimits}
-use Rattle.lert_spec.proofs.EdgeLaws.{span-suc}
-use Rattle.lert_spec.proofs.LimitLaws.{span_within, offset_within}
+use Rattle.lert_spec.specs.{declared.numbers.Numbers.Numbers, Edges.{span, spans, offset}, Limits.IsInLimits}
+use Rattle.lert_spec.proofs.{EdgeLaws.span-suc, LimitLaws.{span_within, offset_within}}
 use Rattle.lert_base.specs.Computed.{sum_below, spans_of, offsets_of}
 use Rattle.lert_base.proofs.Levels.{get_or-spans_of, get_or-offsets_of}
 

@@ -1,14 +1,9 @@
 -- What stands beside the numbers of settings, read at a level.
-use Rattle.std.proofs.Common.{ℕ, ◌≡◌, ◌-◌, ◌<◌, ◌≤◌, List, get_or, ap, ap₂, sym, ◌∙◌, arith, ◌≢◌, ◌%◌, inl, inr, subst, eqb, ltb, eq-eqb, IsTrue, ◌↔◌}
-use Rattle.std.proofs.Common.{max}
+use Rattle.std.proofs.Common.{ℕ, ◌≡◌, ◌-◌, ◌<◌, ◌≤◌, List, get_or, ap, ap₂, sym, ◌∙◌, arith, ◌≢◌, ◌%◌, inl, inr, subst, eqb, ltb, eq-eqb, IsTrue, ◌↔◌, max}
+use Rattle.std.proofs.{lemmas.Bool.{cases_eq, eqb-true, ltb-true}, lemmas.List.FromFn.get_or-map-range_with_len}
 use Rattle.std.specs.Int.Count.{count_leading_zeros}
-use Rattle.std.proofs.lemmas.Bool.{cases_eq, eqb-true, ltb-true}
-use Rattle.std.proofs.lemmas.List.FromFn.{get_or-map-range_with_len}
-use Rattle.lert_spec.specs.declared.numbers.Numbers.{Numbers}
-use Rattle.lert_spec.specs.Edges.{span, offset, edge, depth, quotient_bits}
-use Rattle.lert_spec.specs.Limits.{IsValid}
-use Rattle.lert_spec.proofs.EdgeLaws.{span_pos, moves_there, stays_elsewhere, deepest_is}
-use Rattle.lert_spec.proofs.LimitLaws.{quotient_bits_by_zeros}
+use Rattle.lert_spec.specs.{declared.numbers.Numbers.Numbers, Edges.{span, offset, edge, depth, quotient_bits}, Limits.IsValid}
+use Rattle.lert_spec.proofs.{EdgeLaws.{span_pos, moves_there, stays_elsewhere, deepest_is}, LimitLaws.quotient_bits_by_zeros}
 use Rattle.lert_base.specs.Computed.{spans_of, offsets_of, IsComputed}
 
 pub get_or-spans_of : (s : Numbers) (level : ℕ) → level ≤ 8 → get_or (spans_of s) level 0 ≡ span s level
@@ -77,7 +72,7 @@ depth_reached s valid reached m within moves stays =
 
 -- the quotient bits of a level, from its span as it is read
 pub quotient_bits_read : (s : Numbers) (level wide : ℕ) → IsValid s → level ≤ s.levels → wide ≡ span s level →
-    (max (64 - count_leading_zeros 64 (wide - 1)) 6 ≡ quotient_bits s level) × (max (64 - count_leading_zeros 64 (wide - 1)) 6 ≤ 32)
+    (max (64 - count_leading_zeros 64 (wide - 1)) 6 ≡ quotient_bits s level) × (max (64 - count_leading_zeros 64 (wide - 1)) 6 ≤ 30)
 quotient_bits_read s level wide valid within wide_is =
-    let P : ℕ → Type 0 = λ w. (max (64 - count_leading_zeros 64 (w - 1)) 6 ≡ quotient_bits s level) × (max (64 - count_leading_zeros 64 (w - 1)) 6 ≤ 32) in
+    let P : ℕ → Type 0 = λ w. (max (64 - count_leading_zeros 64 (w - 1)) 6 ≡ quotient_bits s level) × (max (64 - count_leading_zeros 64 (w - 1)) 6 ≤ 30) in
     subst P (sym wide_is) (quotient_bits_by_zeros s level valid within)

@@ -1,12 +1,9 @@
 -- The definition of a weave, computed: two traces, two workers, and a history of four packets that is one, and one that isn't.
-use Rattle.std.proofs.Common.{◌≡◌, ℕ, zero, suc, ◌<◌, List, [], ◌∷◌, ◌*◌, length, Some, slice_get, get_or, refl, sym, ap, ◌∙◌, subst, arith}
-use Rattle.std.specs.Prelude.{All}
-use Rattle.std.proofs.lemmas.List.Elements.{All-nil, All-cons}
+use Rattle.std.proofs.{Common.{◌≡◌, ℕ, zero, suc, ◌<◌, List, [], ◌∷◌, ◌*◌, length, Some, slice_get, get_or, refl, sym, ap, ◌∙◌, subst, arith}, lemmas.List.Elements.{All-nil, All-cons}}
 use Rattle.std.proofs.lemmas.Option.{none-some, same_Some}
-use Rattle.lert_base.specs.Packet.{Packet, events_of, of_trace}
-use Rattle.lert_base.specs.Weave.{AreCut, IsBrought, IsWhole, IsWoven}
-use Rattle.lert_spec.specs.declared.numbers.Numbers.{Numbers}
-use Rattle.lert_spec.specs.Mix.{mix, part_of}
+use Rattle.std.specs.Prelude.{All}
+use Rattle.lert_base.specs.{Packet.{Packet, events_of, of_trace}, Weave.{AreCut, IsBrought, IsWhole, IsWoven}}
+use Rattle.lert_spec.specs.{declared.numbers.Numbers.Numbers, Mix.{mix, part_of}}
 
 -- settings with two cones and packets of two keys
 abbrev small : Numbers

@@ -1,9 +1,6 @@
 -- What settings keep beside their numbers: the span and the offset of each level from 0 to 8.
-use Rattle.std.specs.Prelude.{ℕ, zero, suc, ◌≡◌, List, map}
-use Rattle.std.specs.List.{range_with_len}
-use Rattle.lert_spec.specs.declared.numbers.Numbers.{Numbers}
-use Rattle.lert_spec.specs.Edges.{span, spans, offset}
-use Rattle.lert_spec.specs.Limits.{IsValid}
+use Rattle.std.specs.{Prelude.{ℕ, zero, suc, ◌≡◌, List, map}, List.range_with_len}
+use Rattle.lert_spec.specs.{declared.numbers.Numbers.Numbers, Edges.{span, spans, offset}, Limits.IsValid}
 
 unfoldable pub spans_of : Numbers → List ℕ
 spans_of s = map (span s) (range_with_len 0 9)

@@ -1,9 +1,7 @@
 -- How the keys of traces stand in the journal of a cone.
 use Rattle.std.specs.Prelude.{◌≡◌, ℕ, ◌+◌, ◌*◌, ◌%◌, ◌<◌, ◌≤◌, List, length, All, Some, slice_get}
-use Rattle.lert_base.specs.Beginning.{BeginsWith}
-use Rattle.lert_base.specs.Packet.{Packet, of_trace, events_of}
-use Rattle.lert_spec.specs.declared.numbers.Numbers.{Numbers}
-use Rattle.lert_spec.specs.Mix.{part_of}
+use Rattle.lert_base.specs.{Beginning.BeginsWith, Packet.{Packet, of_trace, events_of}}
+use Rattle.lert_spec.specs.{declared.numbers.Numbers.Numbers, Mix.part_of}
 
 -- a packet has as many keys as the settings name, or two, three or four times as many
 pub record IsWhole (size : ℕ) (packet : Packet) : Type 0 where

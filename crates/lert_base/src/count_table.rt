@@ -1,14 +1,15 @@
-//! Count tables: how often each tail occurred, in ascending tails.
+//! Count tables: what was added to each tail, in ascending tails.
 
 ghost use Rattle.std.specs.Prelude.{◌≡◌, ℕ, ◌+◌, ◌-◌, ◌*◌, ◌^◌, ◌<◌, ◌≤◌, ◌↔◌, List, [], ◌∷◌, IfOk, MatchOption, IsNone};
-ghost use Rattle.lert_spec.specs.Table.{count_of, total, plus, IsTable};
+ghost use Rattle.lert_spec.specs.Table.{costs, count_of, total, plus, IsTable};
 ghost use Rattle.lert_spec.specs.declared.piece.Piece.{Piece};
 
 use lert_io::OutOfMemory;
 use lert_spec::Piece;
 use std::alloc::Global;
 
-/// A table of counts, seen as its pieces in ascending tails and a room in events.
+/// A table of counts, seen as its pieces in ascending tails, how often something was added, and a room: how often that
+/// may be.
 ///
 /// Only `new` takes memory.
 pub trait CountTable: Drop {
@@ -18,7 +19,10 @@ pub trait CountTable: Drop {
     /// The pieces, a count table.
     ghost pieces: { Self → List Piece };
 
-    /// At most so many events.
+    /// How often something was added since the table was made or emptied.
+    ghost adds: { Self → ℕ };
+
+    /// And how often it may be.
     ghost room: { Self → ℕ };
 
     /// A tail's quotient has so many bits.
@@ -33,7 +37,7 @@ pub trait CountTable: Drop {
     /// The pieces that the cursor has still to give.
     ghost left: { Self → Self.Cursor → List Piece };
 
-    /// An empty table for at most `events` events, of tails with `quotient` bits above the last `remainder` bits.
+    /// An empty table for `events` adds, of tails with `quotient` bits above the last `remainder` bits.
     fn new(alloc: Global, quotient: u32, remainder: u32, events: u64) -> Result<Self, OutOfMemory>
         requires least_quotient { 6 ≤ quotient }
         requires most_quotient { quotient ≤ 39 }
@@ -41,32 +45,39 @@ pub trait CountTable: Drop {
         requires most_width { remainder ≤ 58 }
         requires events { events ≤ 2 ^ 39 }
         ensures empty { IfOk result (λ t. pieces t ≡ []) }
+        ensures adds { IfOk result (λ t. adds t ≡ 0) }
         ensures room { IfOk result (λ t. room t ≡ events) }
         ensures quotient_bits { IfOk result (λ t. quotient_bits t ≡ quotient) }
         ensures width { IfOk result (λ t. width t ≡ remainder) };
 
-    /// Raises the count of `tail` by `n`.
+    /// Raises the count of `tail` by `n`: one add, whatever `n` is.
     fn add(&mut self, tail: u64, n: u64)
-        requires positive { 1 ≤ n }
-        requires has_room { total (pieces self.old) + n ≤ room self.old }
+        requires some { 1 ≤ n }
+        requires few { n ≤ 255 }
+        requires has_room { adds self.old < room self.old }
         requires below { tail < 2 ^ (quotient_bits self.old + width self.old) }
         ensures pieces { pieces self.new ≡ plus (pieces self.old) tail n }
+        ensures adds { adds self.new ≡ adds self.old + 1 }
         ensures room { room self.new ≡ room self.old }
         ensures quotient_bits { quotient_bits self.new ≡ quotient_bits self.old }
         ensures width { width self.new ≡ width self.old };
 
-    /// How often `tail` was added, 0 where it is absent.
+    /// What was added to `tail` in all, 0 where it is absent.
     fn count(&self, tail: u64) -> u64
         ensures { result ≡ count_of (pieces self.now) tail };
 
-    /// The sum of all counts.
-    fn events(&self) -> u64
-        ensures sum { result ≡ total (pieces self.now) }
-        ensures in_room { result ≤ room self.now };
+    /// How often something was added: no more than the counts together, and a 255th of them at least.
+    fn adds(&self) -> u64
+        ensures value { result ≡ adds self.now }
+        ensures in_room { result ≤ room self.now }
+        ensures costs { costs 2 (pieces self.now) ≤ result }
+        ensures least { result ≤ total (pieces self.now) }
+        ensures most { total (pieces self.now) ≤ 255 * result };
 
     /// Empties the table. Its room and the bits of its tails stay.
     fn clear(&mut self)
         ensures pieces { pieces self.new ≡ [] }
+        ensures adds { adds self.new ≡ 0 }
         ensures room { room self.new ≡ room self.old }
         ensures quotient_bits { quotient_bits self.new ≡ quotient_bits self.old }
         ensures width { width self.new ≡ width self.old };

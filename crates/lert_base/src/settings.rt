@@ -1,7 +1,7 @@
 //! The settings of a cone, and what they make of a position.
 
 ghost use Rattle.std.specs.Prelude.{◌≡◌, ◌≢◌, ℕ, ◌-◌, ◌^◌, ◌<◌, ◌≤◌, ◌↔◌, Some, None, MatchResult, IsTrue};
-ghost use Rattle.lert_spec.specs.Edges.{span, offset, edge, depth, lookback, capacity, quotient_bits, width};
+ghost use Rattle.lert_spec.specs.Edges.{span, offset, edge, depth, lookback, capacity, weight_room, quotient_bits, width};
 ghost use Rattle.lert_spec.specs.Limits.{first_broken, IsValid};
 
 use lert_spec::Numbers;
@@ -53,9 +53,9 @@ impl Settings {
     /// | 6 | the cone bits are in 0..=8 |
     /// | 7 | the room is in 1..=4,194,304 |
     /// | 8 | the packet is in 1..=1,024 |
-    /// | 9 | the bins of level 0 hold at most 2^24 events over all cones |
+    /// | 9 | the bins of level 0 hold at most 2^23 events over all cones |
     /// | 10 | there is room for at most 2^24 reports over all cones |
-    /// | 11 | the offset and the span of the oldest level end at 2^32 |
+    /// | 11 | the offset and the span of the oldest level end at 2^31 |
     pub fn new(numbers: Numbers) -> Result<Settings, BadSetting>
         ensures { MatchResult result
             (λ settings. (first_broken numbers ≡ None) × (settings ≡ numbers))
@@ -145,33 +145,42 @@ impl Settings {
         self.edge(self.depth(m), m - 1)
     }
 
-    /// How many events a cone takes: from 1 to below 2^32.
+    /// How many events a cone takes: from 1 to below 2^31.
     pub fn capacity(&self) -> u64
         ensures value { result ≡ capacity self.now }
         ensures least { 1 ≤ result }
-        ensures most { result < 2 ^ 32 }
+        ensures most { result < 2 ^ 31 }
     {
         let oldest = self.numbers.levels as usize;
         let positions = self.offsets[oldest] + self.spans[oldest] - 1;
-        positions.min(self.numbers.threshold * self.numbers.room)
+        positions.min(self.weight_room())
     }
 
-    /// How many bits of a tail are its quotient in a level's tables: from 6 to 32.
+    /// How much weight a cone takes: the threshold for each key that it has room to report, from 1 to below 2^54.
+    pub fn weight_room(&self) -> u64
+        ensures value { result ≡ weight_room self.now }
+        ensures least { 1 ≤ result }
+        ensures most { result < 2 ^ 54 }
+    {
+        self.numbers.threshold * self.numbers.room
+    }
+
+    /// How many bits of a tail are its quotient in a level's tables: from 6 to 30.
     pub fn quotient_bits(&self, level: u32) -> u32
         requires { level ≤ self.now.levels }
         ensures value { result ≡ quotient_bits self.now level }
         ensures least { 6 ≤ result }
-        ensures most { result ≤ 32 }
+        ensures most { result ≤ 30 }
     {
         let last = self.spans[level as usize] - 1;
         (u64::BITS - last.leading_zeros()).max(6)
     }
 
-    /// How many bits of a tail are its remainder in a level's tables: from 24 to 58.
+    /// How many bits of a tail are its remainder in a level's tables: from 26 to 58.
     pub fn width(&self, level: u32) -> u32
         requires { level ≤ self.now.levels }
         ensures value { result ≡ width self.now level }
-        ensures least { 24 ≤ result }
+        ensures least { 26 ≤ result }
         ensures most { result ≤ 58 }
     {
         64 - self.numbers.cone_bits as u32 - self.quotient_bits(level)

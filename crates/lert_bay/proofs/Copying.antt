@@ -1,12 +1,7 @@
 -- What a copy of a file in memory has to take back.
-use Rattle.std.proofs.Common.{◌≡◌, ℕ, ◌+◌, ◌-◌, ◌<◌, List, [], ◌∷◌, length, map, get_or, nat_le, nat_lt, ◌&&◌, if◌then◌else◌, slice_index, refl, sym, ap}
-use Rattle.std.proofs.Common.{◌∙◌, subst}
-use Rattle.std.proofs.lemmas.List.{length-map}
+use Rattle.std.proofs.{Common.{◌≡◌, ℕ, ◌+◌, ◌-◌, ◌<◌, List, [], ◌∷◌, length, map, get_or, nat_le, nat_lt, ◌&&◌, if◌then◌else◌, slice_index, refl, sym, ap, ◌∙◌, subst}, lemmas.List.length-map}
 use Rattle.std.proofs.Math.ListN.{get_or-map}
-use Rattle.lert_bay.specs.Files.{IsOutside}
-use Rattle.lert_bay.specs.declared.extent.Extent.{Extent}
-use Rattle.lert_bay.specs.declared.overwrite.Overwrite.{Overwrite}
-use Rattle.lert_bay.specs.Pending.{IsPending, before_all, covers, kept_by}
+use Rattle.lert_bay.specs.{Files.IsOutside, declared.extent.Extent.Extent, declared.overwrite.Overwrite.Overwrite, Pending.{IsPending, before_all, covers, kept_by}}
 
 -- the byte before all writes, by what they keep
 before_kept : List (ℕ × List ℕ) → ℕ → ℕ → ℕ

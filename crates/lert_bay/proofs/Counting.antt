@@ -1,11 +1,7 @@
 -- What a call of a bay in memory keeps from its beginning on: it is counted, and its moment is kept.
-use Rattle.std.proofs.Common.{◌≡◌, ℕ, ◌+◌, ◌<◌, ◌≤◌, List, [], ◌∷◌, ◌++◌, min, length, slice_index_or, Some, Ok, Err, sym, ap, ◌∙◌, subst, arith}
-use Rattle.std.proofs.lemmas.List.{get_or_default}
+use Rattle.std.proofs.{Common.{◌≡◌, ℕ, ◌+◌, ◌<◌, ◌≤◌, List, [], ◌∷◌, ◌++◌, min, length, slice_index_or, Some, Ok, Err, sym, ap, ◌∙◌, subst, arith}, lemmas.List.get_or_default}
 use Rattle.lert_io.specs.Fault.{HasCause}
-use Rattle.lert_bay.specs.Files.{Files, CopiesFrom}
-use Rattle.lert_bay.specs.Handed.{HandsOut}
-use Rattle.lert_bay.specs.Images.{KeepsImages}
-use Rattle.lert_bay.specs.Memory.{FileState, untouched, seen_of, handed_of, MayLeaveAll, Disk, IsCounted, ticked}
+use Rattle.lert_bay.specs.{Files.{Files, CopiesFrom}, Handed.HandsOut, Images.KeepsImages, Memory.{FileState, untouched, seen_of, handed_of, MayLeaveAll, Disk, IsCounted, ticked}}
 
 -- what stands once a call was counted
 abbrev pub counted : Disk → ℕ → Disk

@@ -1,10 +1,7 @@
 -- What is left of a bay in memory by a crash, file by file.
-use Rattle.std.proofs.Common.{◌≡◌, ◌≢◌, ℕ, ◌+◌, ◌<◌, ◌≤◌, List, [], length, slice_set, slice_index_or, refl, sym, ap, ◌∙◌, subst, inl, inr, arith, length-set}
-use Rattle.std.proofs.lemmas.Bool.{cases_lt, cases_eq}
+use Rattle.std.proofs.{Common.{◌≡◌, ◌≢◌, ℕ, ◌+◌, ◌<◌, ◌≤◌, List, [], length, slice_set, slice_index_or, refl, sym, ap, ◌∙◌, subst, inl, inr, arith, length-set}, lemmas.Bool.{cases_lt, cases_eq}}
 use Rattle.std.proofs.lemmas.List.{get_or_past, get_or_default, get_or-set_same, get_or-set_other}
-use Rattle.lert_bay.specs.Files.{Files}
-use Rattle.lert_bay.specs.Since.{IsTornSince}
-use Rattle.lert_bay.specs.Memory.{FileState, untouched, durable, file_of, seen_of, MayLeave, MayLeaveAll}
+use Rattle.lert_bay.specs.{Files.Files, Since.IsTornSince, Memory.{FileState, untouched, durable, file_of, seen_of, MayLeave, MayLeaveAll}}
 use Rattle.lert_bay.proofs.Steps.{only_durable}
 
 -- what a crash makes of a file by a pick: an image, with nothing pending, by pick 0 the bytes of the last sync and by pick 1

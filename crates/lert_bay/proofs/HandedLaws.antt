@@ -1,10 +1,7 @@
 -- How many bytes calls in turn hand out of a file.
-use Rattle.std.proofs.Common.{◌≡◌, ℕ, ◌+◌, ◌<◌, ◌≤◌, ◌∙◌, min, List, length, slice_set, Option, Result, Ok, Err, ap, subst, arith}
+use Rattle.std.proofs.{Common.{◌≡◌, ℕ, ◌+◌, ◌<◌, ◌≤◌, ◌∙◌, min, List, length, slice_set, Option, Result, Ok, Err, ap, subst, arith}, lemmas.List.{get_or-set_same, get_or-set_other}}
 use Rattle.std.specs.Prelude.{IfOk}
-use Rattle.std.proofs.lemmas.List.{get_or-set_same, get_or-set_other}
-use Rattle.lert_bay.specs.Files.{Files}
-use Rattle.lert_bay.specs.Handed.{HandsOut, ReadsUpTo}
-use Rattle.lert_bay.specs.Memory.{handed_of}
+use Rattle.lert_bay.specs.{Files.Files, Handed.{HandsOut, ReadsUpTo}, Memory.handed_of}
 
 -- ---- a bay in memory
 

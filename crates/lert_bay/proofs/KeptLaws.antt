@@ -1,10 +1,6 @@
 -- What calls in turn keep of a bay.
 use Rattle.std.proofs.Common.{◌≡◌, ◌≢◌, ℕ, ◌≤◌, ◌∙◌, Some, refl, inl, inr, arith}
-use Rattle.lert_bay.specs.Files.{Files}
-use Rattle.lert_bay.specs.Images.{Elapses, KeepsImages}
-use Rattle.lert_bay.specs.Handed.{ReadsUpTo}
-use Rattle.lert_bay.specs.Kept.{Bays, CallsBay, ReadsBay, KeepsBay, OnlyReads}
-use Rattle.lert_bay.specs.declared.bay.TheConstants.{JOURNAL, LOG, FRAMES}
+use Rattle.lert_bay.specs.{Files.Files, Images.{Elapses, KeepsImages}, Handed.ReadsUpTo, Kept.{Bays, CallsBay, ReadsBay, KeepsBay, OnlyReads}, declared.bay.TheConstants.{JOURNAL, LOG, FRAMES}}
 use Rattle.lert_bay.proofs.Lasting.{lasts_none, lasts_on, lasts_more}
 use Rattle.lert_io.specs.Fault.{HasRisen}
 use Rattle.lert_io.proofs.Rising.{risen_since}

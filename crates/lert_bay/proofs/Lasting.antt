@@ -1,7 +1,6 @@
 -- Several calls one after the other.
 use Rattle.std.proofs.Common.{ℕ, ◌≤◌, inl, inr, arith}
-use Rattle.lert_bay.specs.Files.{Files}
-use Rattle.lert_bay.specs.Images.{Elapses, Lasts}
+use Rattle.lert_bay.specs.{Files.Files, Images.{Elapses, Lasts}}
 
 -- no call
 pub lasts_none : (now : ℕ) (since : ℕ → Files → Type 0) → Lasts now now since since

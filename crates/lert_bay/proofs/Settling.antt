@@ -1,10 +1,7 @@
 -- Settled ranges through calls: what a write leaves alone, every image keeps.
-use Rattle.std.proofs.Common.{◌≡◌, ℕ, ◌+◌, ◌-◌, ◌<◌, ◌≤◌, List, [], length, take, get_or, sym, ap, ◌∙◌, ◌⊎◌, inl, inr, arith, length-take}
-use Rattle.std.proofs.Common.{length-drop}
-use Rattle.std.proofs.lemmas.Bool.{cases_lt}
+use Rattle.std.proofs.{Common.{◌≡◌, ℕ, ◌+◌, ◌-◌, ◌<◌, ◌≤◌, List, [], length, take, get_or, sym, ap, ◌∙◌, ◌⊎◌, inl, inr, arith, length-take, length-drop}, lemmas.Bool.cases_lt}
 use Rattle.std.proofs.lemmas.List.{get_or-take, get_or-drop, drop_all, ext_get_or, length-take-le}
-use Rattle.lert_bay.specs.Files.{IsOutside, Torn}
-use Rattle.lert_bay.specs.Settled.{part}
+use Rattle.lert_bay.specs.{Files.{IsOutside, Torn}, Settled.part}
 
 -- an empty range
 pub part_none : (bytes : List ℕ) (from to : ℕ) → to ≤ from → part bytes from to ≡ []

@@ -1,14 +1,8 @@
 -- What stood in a file before writes, place by place.
-use Rattle.std.proofs.Common.{◌≡◌, ℕ, ◌+◌, ◌-◌, ◌<◌, ◌≤◌, List, [], ◌∷◌, ◌++◌, length, take, drop, replicate, get_or, All, true, cond, nat_le, nat_lt, refl}
-use Rattle.std.proofs.Common.{sym, ap, ◌∙◌, subst, inl, inr, arith}
-use Rattle.std.proofs.lemmas.Bool.{and_parts, leb-true, ltb-true}
-use Rattle.std.proofs.lemmas.List.{get_or-take, get_or-drop}
-use Rattle.std.proofs.lemmas.List.Elements.{All-nil, All-cons}
-use Rattle.lert_bay.specs.Files.{IsOutside}
-use Rattle.lert_bay.specs.Pending.{covers, before_all}
-use Rattle.lert_bay.specs.declared.overwrite.Overwrite.{Overwrite}
-use Rattle.lert_bay.proofs.Laid.{zeros_past}
-use Rattle.lert_bay.proofs.Tearing.{inside_not, inside_cases}
+use Rattle.std.proofs.Common.{◌≡◌, ℕ, ◌+◌, ◌-◌, ◌<◌, ◌≤◌, List, [], ◌∷◌, ◌++◌, length, take, drop, replicate, get_or, All, true, cond, nat_le, nat_lt, refl, sym, ap, ◌∙◌, subst, inl, inr, arith}
+use Rattle.std.proofs.{lemmas.Bool.{and_parts, leb-true, ltb-true}, lemmas.List.{get_or-take, get_or-drop}, lemmas.List.Elements.{All-nil, All-cons}}
+use Rattle.lert_bay.specs.{Files.IsOutside, Pending.{covers, before_all}, declared.overwrite.Overwrite.Overwrite}
+use Rattle.lert_bay.proofs.{Laid.zeros_past, Tearing.{inside_not, inside_cases}}
 
 -- one write more at the end
 pub before_append : (writes : List Overwrite) (last : Overwrite) (place now : ℕ) → before_all (writes ++ last ∷ []) place now ≡ before_all writes place

@@ -1,11 +1,7 @@
 -- What calls keep of a bay, one or several in turn, and what those keep that read alone.
 use Rattle.std.specs.Prelude.{◌≡◌, ℕ, ◌≤◌, Option}
-use Rattle.lert_bay.specs.Files.{Files}
-use Rattle.lert_bay.specs.Images.{KeepsImages, Lasts}
-use Rattle.lert_bay.specs.declared.bay.Bay.{Ghosts as Told}
-use Rattle.lert_bay.specs.declared.bay.TheConstants.{JOURNAL}
-use Rattle.lert_io.specs.Fault.{HasRisen}
-use Rattle.lert_io.specs.declared.faulty.Faulty.{Ghosts as Counted}
+use Rattle.lert_bay.specs.{Files.Files, Images.{KeepsImages, Lasts}, declared.bay.Bay.Ghosts as Told, declared.bay.TheConstants.JOURNAL}
+use Rattle.lert_io.specs.{Fault.HasRisen, declared.faulty.Faulty.Ghosts as Counted}
 
 -- what bays of a type are seen by: the count of faults of each and its mark, its files, its images, its moment, its images
 -- since a time, and how many bytes reads have handed out of each file

@@ -1,8 +1,6 @@
 -- The list that a chain of snapshots stands for.
 use Rattle.std.specs.Prelude.{◌+◌, [], ◌∷◌, ◌++◌}
-use Rattle.lert_bay.specs.Chain.{Chain}
-use Rattle.lert_bay.specs.declared.past.Link.{Link}
-use Rattle.lert_bay.specs.declared.past.Link.TheVariants.{Start, Then, Same}
+use Rattle.lert_bay.specs.{Chain.Chain, declared.past.Link.Link, declared.past.Link.TheVariants.{Start, Then, Same}}
 
 -- what a link stands for
 abbrev pub chain : {T : Type 0} → Link T → Chain T

@@ -1,12 +1,7 @@
 -- What a bay in memory is seen as, and the meanings that it gives to the members of `Bay`.
-use Rattle.std.specs.Prelude.{◌≡◌, ℕ, ◌+◌, ◌-◌, ◌<◌, ◌≤◌, min, Result, OnOk, OnErr, List, [], ◌∷◌, ◌++◌, length, slice_index, slice_index_or, slice_set, Some, None}
-use Rattle.std.specs.Prelude.{option_map, IsSomeAnd}
+use Rattle.std.specs.Prelude.{◌≡◌, ℕ, ◌+◌, ◌-◌, ◌<◌, ◌≤◌, min, Result, OnOk, OnErr, List, [], ◌∷◌, ◌++◌, length, slice_index, slice_index_or, slice_set, Some, None, option_map, IsSomeAnd}
 use Rattle.std.proofs.Common.{◌⊎◌, inl, inr, ap, arith}
-use Rattle.lert_bay.specs.Files.{Files}
-use Rattle.lert_bay.specs.Images.{Elapses}
-use Rattle.lert_bay.specs.Since.{IsTornSince}
-use Rattle.lert_bay.specs.declared.extent.Extent.{Extent}
-use Rattle.lert_bay.specs.declared.plan.Plan.{Plan}
+use Rattle.lert_bay.specs.{Files.Files, Images.Elapses, Since.IsTornSince, declared.extent.Extent.Extent, declared.plan.Plan.Plan}
 
 -- a file: as a read gives it, as it was at its last sync, and the ranges written since
 pub record FileState : Type 0 where

@@ -1,10 +1,6 @@
 -- What a file in memory keeps so that a crash can undo it.
-use Rattle.std.specs.Prelude.{◌≡◌, ℕ, ◌+◌, ◌-◌, ◌<◌, List, [], ◌∷◌, length, slice_index, nat_le, nat_lt, ◌&&◌, if◌then◌else◌, Bool, All}
-use Rattle.std.specs.declared.vec.Vec.{Vec}
-use Rattle.lert_bay.specs.Files.{IsOutside}
-use Rattle.lert_bay.specs.Since.{IsTornSince, IsUnwritten}
-use Rattle.lert_bay.specs.declared.extent.Extent.{Extent}
-use Rattle.lert_bay.specs.declared.overwrite.Overwrite.{Overwrite}
+use Rattle.std.specs.{Prelude.{◌≡◌, ℕ, ◌+◌, ◌-◌, ◌<◌, List, [], ◌∷◌, length, slice_index, nat_le, nat_lt, ◌&&◌, if◌then◌else◌, Bool, All}, declared.vec.Vec.Vec}
+use Rattle.lert_bay.specs.{Files.IsOutside, Since.{IsTornSince, IsUnwritten}, declared.extent.Extent.Extent, declared.overwrite.Overwrite.Overwrite}
 
 -- the bytes at the last sync, by the list of these bytes alone
 abbrev pub bytes_of : {A : Type 0} → List (Vec ℕ A) → List ℕ

@@ -1,7 +1,6 @@
 -- What a crash may leave of one file, said at once for all writes since its last sync.
 use Rattle.std.specs.Prelude.{◌≡◌, ℕ, ◌+◌, ◌<◌, ◌≤◌, List, [], ◌∷◌, length, max, slice_index, All}
-use Rattle.lert_bay.specs.Files.{IsOutside, Torn}
-use Rattle.lert_bay.specs.declared.extent.Extent.{Extent}
+use Rattle.lert_bay.specs.{Files.{IsOutside, Torn}, declared.extent.Extent.Extent}
 
 -- the greatest length since a sync: the one at the sync, or how far a write was to reach
 abbrev pub longest : ℕ → List Extent → ℕ

@@ -33,6 +33,7 @@ pub struct Bin {
 
 impl Model for Bin {
     ghost use Rattle.std.specs.Prelude.{◌≡◌, ◌+◌};
+    ghost use Rattle.lert_spec.specs.Table.{total};
     ghost use Rattle.lert_bench.specs.Filled.{Filled};
 
     ghost Value = { Filled };
@@ -40,6 +41,7 @@ impl Model for Bin {
     ghost view = { λ b. record { pieces = b.table.pieces; room = b.shape.room; greatest = b.shape.greatest } };
 
     ghost invariant = { λ b. (b.table.room ≡ b.shape.room)
+        × (b.table.adds ≡ total b.table.pieces)
         × (b.table.quotient_bits + b.table.width ≡ b.shape.quotient_bits + b.shape.width) };
 }
 
@@ -65,7 +67,7 @@ impl Bin {
     pub fn is_full(&self) -> bool
         ensures { IsTrue result ↔ (self.now.room ≤ total self.now.pieces) }
     {
-        self.table.events() >= self.shape.room
+        self.table.adds() >= self.shape.room
     }
 
     /// Counts one event of the tail, if there is room and the tail isn't too great.
@@ -78,7 +80,7 @@ impl Bin {
         if tail > self.shape.greatest {
             return;
         }
-        if self.table.events() >= self.shape.room {
+        if self.table.adds() >= self.shape.room {
             return;
         }
         self.table.add(tail, 1);

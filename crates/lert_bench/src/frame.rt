@@ -64,7 +64,7 @@ pub fn read_frame<B: Bay>(
     let mut reader = FrameReader::new(alloc, settings, level)
         .ok()
         .context("out of memory")?;
-    reader.start(0, width);
+    reader.start(1, 0, width);
     let sum = sum_up(&mut reader, bay, most);
     drop(reader);
     sum.ok().context("a frame that isn't one")

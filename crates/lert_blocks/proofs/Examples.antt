@@ -3,8 +3,7 @@ use Rattle.std.proofs.Common.{◌≡◌, ℕ, List, [], ◌∷◌, refl, Some, N
 use Rattle.lert_counter.specs.Group.{group}
 use Rattle.lert_slotbits.specs.Bits.{word_bits}
 use Rattle.lert_spec.specs.declared.piece.Piece.{Piece}
-use Rattle.lert_blocks.specs.Text.{blocks_text}
-use Rattle.lert_blocks.specs.Frame.{blocks_found}
+use Rattle.lert_blocks.specs.{Text.blocks_text, Frame.blocks_found}
 
 -- one piece of count 2, whose quotient is 45
 one : List Piece

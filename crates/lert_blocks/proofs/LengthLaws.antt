@@ -1,21 +1,12 @@
 -- How long the slots of pieces and the text of blocks are.
-use Rattle.std.proofs.Common.{◌≡◌, ℕ, zero, suc, ◌+◌, ◌-◌, ◌*◌, ◌/◌, ◌%◌, ◌^◌, ◌≤◌, List, [], ◌∷◌, ◌++◌, length, ap, ◌∙◌, arith, length-append}
-use Rattle.std.specs.Prelude.{flat_map}
-use Rattle.std.specs.List.{range_with_len}
+use Rattle.std.proofs.{Common.{◌≡◌, ℕ, zero, suc, ◌+◌, ◌-◌, ◌*◌, ◌/◌, ◌%◌, ◌^◌, ◌≤◌, List, [], ◌∷◌, ◌++◌, length, ap, ◌∙◌, arith, length-append}, lemmas.Bool.Decides.nat_tests}
+use Rattle.std.specs.{Prelude.flat_map, List.range_with_len}
 use Rattle.byteorder.specs.Endian.{little_bytes}
 use Rattle.lert_counter.specs.Group.{digit_base, group}
-use Rattle.lert_counter.proofs.GroupLemmas.{shape_of, length_middle}
-use Rattle.lert_counter.proofs.GroupLemmas.Shape.{one, two, three, zeros, bare, guarded}
-use Rattle.lert_counter.proofs.GrowthLemmas.{length_digits-number}
-use Rattle.lert_counter.proofs.Widths.{width_least}
-use Rattle.std.proofs.lemmas.Bool.Decides.{nat_tests}
-use Rattle.lert_spec.specs.declared.piece.Piece.{Piece}
-use Rattle.lert_spec.specs.Table.{AscendsFrom, total}
+use Rattle.lert_counter.proofs.{GroupLemmas.{shape_of, length_middle}, GroupLemmas.Shape.{one, two, three, zeros, bare, guarded}, GrowthLemmas.length_digits-number, Widths.width_least}
+use Rattle.lert_spec.specs.{declared.piece.Piece.Piece, Table.{AscendsFrom, total}}
 use Rattle.lert_blocks.specs.Text.{group_of, slots_of, ends_of, word_count, words_of, numbers_text, occupied_of, number_of_bits, head_text, block_text, blocks_text, pieces_in}
-use Rattle.lert_blocks.proofs.BitLaws.{length-words_of}
-use Rattle.lert_blocks.proofs.FieldLaws.{length-little_bytes, length-numbers_text}
-use Rattle.lert_blocks.proofs.BlockLaws.{length_ends}
-use Rattle.lert_blocks.proofs.PieceLaws.{pieces_in-ascend, slots_by_block}
+use Rattle.lert_blocks.proofs.{BitLaws.length-words_of, FieldLaws.{length-little_bytes, length-numbers_text}, BlockLaws.length_ends, PieceLaws.{pieces_in-ascend, slots_by_block}}
 
 -- ---- slots
 
@@ -80,7 +71,7 @@ texts_fit text slots long first (suc count) =
     )
 
 pub text_fits : (width first count most : ℕ) (pieces : List Piece) → AscendsFrom (64 * first * 2 ^ width) (64 * (first + count) * 2 ^ width) pieces →
-    length (slots_of width pieces) ≤ 2 * most → length (blocks_text width first count pieces) ≤ 20 * count + 16 * most + 8 * (most / 32)
+    length (slots_of width pieces) ≤ most → length (blocks_text width first count pieces) ≤ 20 * count + 8 * most + 8 * (most / 64)
 text_fits width first count most pieces up few =
     let slots : ℕ → List ℕ = λ block. slots_of width (pieces_in width block pieces) in
     let fits = texts_fit (λ block. block_text width block (pieces_in width block pieces)) slots

@@ -1,13 +1,10 @@
 -- What a write to a part of a list leaves.
-use Rattle.std.proofs.Common.{◌≡◌, ℕ, ◌+◌, ◌-◌, ◌*◌, ◌≤◌, Bool, true, false, cond, List, [], ◌∷◌, ◌++◌, length, take, drop, set, replicate, Vec}
-use Rattle.std.proofs.Common.{refl, sym, ap, ◌∙◌, arith}
+use Rattle.std.proofs.Common.{◌≡◌, ℕ, ◌+◌, ◌-◌, ◌*◌, ◌≤◌, Bool, true, false, cond, List, [], ◌∷◌, ◌++◌, length, take, drop, set, replicate, Vec, refl, sym, ap, ◌∙◌, arith}
+use Rattle.std.proofs.{lemmas.List.{append-nil, append_assoc, drop-drop, drop_all, drop_at, length-append, length-drop, length-take-le, take_at, take_all, with_items_is}, Math.Seq.take-append-add}
 use Rattle.std.specs.Vec.{with_items}
-use Rattle.std.proofs.lemmas.List.{append-nil, append_assoc, drop-drop, drop_all, drop_at, length-append, length-drop, length-take-le, take_at, take_all, with_items_is}
-use Rattle.std.proofs.Math.Seq.{take-append-add}
 use lib.Seq.{paste}
 use borrow.Rule.Slice.PartMut.{put_mid}
-use Rattle.byteorder.specs.Endian.{little_bytes}
-use Rattle.byteorder.specs.Numbers.{length-bytes_low_first}
+use Rattle.byteorder.specs.{Endian.little_bytes, Numbers.length-bytes_low_first}
 use Rattle.lert_slotbits.specs.Bits.{row_of}
 use Rattle.lert_blocks.specs.Text.{numbers_text}
 

@@ -1,13 +1,8 @@
 -- Pieces in ascending tails: their bounds, and the pieces of each block.
 use Rattle.std.proofs.Common.{◌≡◌, ℕ, zero, suc, ◌+◌, ◌*◌, ◌/◌, ◌^◌, ◌<◌, ◌≤◌, ◌==◌, max, List, [], ◌∷◌, ◌++◌, refl, sym, ap, ap₂, ◌∙◌, inl, inr, arith, eq-eqb, ne_eqb, pow_pos}
-use Rattle.std.specs.Prelude.{flat_map}
-use Rattle.std.specs.List.{range_with_len}
-use Rattle.std.proofs.lemmas.Bool.{cases_eq, cond-true, cond-false}
-use Rattle.std.proofs.lemmas.Grind.{flat_map-append}
-use Rattle.std.proofs.lemmas.Nat.{div_below, le-div}
-use Rattle.std.proofs.Math.Nat.{div-mul-le_self, mul-le-mul_right, div-add-mod, mod-lt}
-use Rattle.lert_spec.specs.declared.piece.Piece.{Piece}
-use Rattle.lert_spec.specs.Table.{AscendsFrom}
+use Rattle.std.proofs.{lemmas.Bool.{cases_eq, cond-true, cond-false}, lemmas.Grind.flat_map-append, lemmas.Nat.{div_below, le-div}, Math.Nat.{div-mul-le_self, mul-le-mul_right, div-add-mod, mod-lt}}
+use Rattle.std.specs.{Prelude.flat_map, List.range_with_len}
+use Rattle.lert_spec.specs.{declared.piece.Piece.Piece, Table.AscendsFrom}
 use Rattle.lert_blocks.specs.Text.{quotient_of, group_of, slots_of, pieces_in}
 
 -- ---- bounds

@@ -1,10 +1,8 @@
 -- What a block that is filled piece by piece has of its text.
 use Rattle.std.specs.Prelude.{◌≡◌, ℕ, ◌+◌, ◌-◌, ◌/◌, ◌^◌, ◌<◌, ◌≤◌, ◌++◌, false, List, [], ◌∷◌, length, take, drop, replicate}
 use Rattle.lert_slotbits.specs.Bits.{word_bits, row_of}
-use Rattle.lert_spec.specs.declared.piece.Piece.{Piece}
-use Rattle.lert_spec.specs.Table.{AscendsFrom}
-use Rattle.lert_blocks.specs.declared.block.Block.{Block}
-use Rattle.lert_blocks.specs.Text.{quotient_of, slots_of, ends_of, occupied_of}
+use Rattle.lert_spec.specs.{declared.piece.Piece.Piece, Table.AscendsFrom}
+use Rattle.lert_blocks.specs.{declared.block.Block.Block, Text.{quotient_of, slots_of, ends_of, occupied_of}}
 
 -- a block holds these pieces, but for the first slots, which were let go: what it has are the slots behind them, with
 -- their run ends, the quotients that have a run, and the quotient of the last piece, or more than any where there is none

@@ -1,9 +1,7 @@
 -- Which group stands at the front of slots, as a function.
 use Rattle.std.specs.Prelude.{ℕ, ◌+◌, ◌-◌, ◌^◌, ◌==◌, ◌||◌, ◌&&◌, Bool, false, not, nat_eq, nat_lt, nat_le, if◌then◌else◌, List, [], ◌∷◌, map, take, take_while, slice_index_or, Option, Some, None}
 use Rattle.std.specs.List.{starts_with}
-use Rattle.lert_counter.specs.Group.{group, digit_base, least_counter}
-use Rattle.lert_counter.specs.Reading.{number_of, read_as}
-use Rattle.lert_counter.specs.declared.group.Group.{Group}
+use Rattle.lert_counter.specs.{Group.{group, digit_base, least_counter}, Reading.{number_of, read_as}, declared.group.Group.Group}
 
 -- the digit that is written so beside x
 abbrev pub unwritten : ℕ → ℕ → ℕ

@@ -1,8 +1,6 @@
 -- What the rings hold, ring by ring.
-use Rattle.std.proofs.Common.{ℕ, ◌≡◌, ◌-◌, ◌*◌, ◌<◌, ◌≤◌, zero, suc, List, [], ◌∷◌, ◌++◌, length, map, get_or, set, drop, refl, ap, sym, ◌∙◌, arith}
-use Rattle.std.proofs.Common.{length-append}
-use Rattle.std.proofs.lemmas.List.{get_or-map, length-map}
-use Rattle.std.proofs.lemmas.List.Elements.{All-get_or}
+use Rattle.std.proofs.Common.{ℕ, ◌≡◌, ◌-◌, ◌*◌, ◌<◌, ◌≤◌, zero, suc, List, [], ◌∷◌, ◌++◌, length, map, get_or, set, drop, refl, ap, sym, ◌∙◌, arith, length-append}
+use Rattle.std.proofs.{lemmas.List.{get_or-map, length-map}, lemmas.List.Elements.All-get_or}
 use Rattle.circular_buffer.specs.Buffer.{Buffer, keep_last}
 use Rattle.lert_buffers.specs.Rings.{Rings, IsRoomy, ring_of, with_ring}
 

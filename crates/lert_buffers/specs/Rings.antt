@@ -2,8 +2,7 @@
 use Rattle.std.specs.Prelude.{◌≡◌, ℕ, ◌*◌, ◌≤◌, ◌==◌, ◌||◌, All, List, [], length, slice_index_or, slice_set, if◌then◌else◌}
 use Rattle.circular_buffer.specs.Buffer.{Buffer}
 use Rattle.lert_base.specs.declared.entry.Entry.{Entry}
-use Rattle.lert_buffers.specs.declared.buffers.Fill.{Fill}
-use Rattle.lert_buffers.specs.declared.buffers.Fill.TheVariants.{Low, Ready, MustGo}
+use Rattle.lert_buffers.specs.{declared.buffers.Fill.Fill, declared.buffers.Fill.TheVariants.{Low, Ready, MustGo}}
 
 -- how many keys a packet has at least, and the keys of each cone in the order in which they came
 pub record Rings : Type 0 where

@@ -1,5 +1,5 @@
 -- What a cone answers to a packet that it takes.
-use Rattle.std.proofs.{Common.{◌≡◌, ℕ, ◌+◌, ◌<◌, ◌≤◌, false, List, [], ◌∷◌, ◌++◌, length, Option, Ok, refl, sym, ap, ◌∙◌, subst, arith}, lemmas.Bool.false≢true}
+use Rattle.std.proofs.Common.{◌≡◌, ℕ, ◌+◌, ◌<◌, ◌≤◌, false, List, [], ◌∷◌, ◌++◌, length, Option, Ok, refl, sym, ap, ◌∙◌, subst, arith}
 use Rattle.lert_base.specs.Packet.{Packet, events_of}
 use Rattle.lert_bay.specs.{Files.IfTold, Kept.Bays}
 use Rattle.lert_gatelog.specs.Gated.{Log, next_gate}
@@ -7,10 +7,10 @@ use Rattle.lert_journal.specs.Payload.{payload_of}
 use Rattle.lert_spec.specs.{declared.numbers.Numbers.Numbers, Edges.capacity, Look.look, Timely.IsTimelySoFar}
 use Rattle.lert_reports.specs.declared.log_point.LogPoint.{LogPoint}
 use Rattle.lert_cone.specs.{declared.state.ConeState.ConeState, declared.state.ConeState.TheVariants.Running, InStep.IsLogging, Listing.Listing, Record.LogPlace, Sound.IsSound}
-use Rattle.lert_cone.specs.{Stands.{Standing, StandsFor, WasSound, IsCone, IsSameCone, is_broken, is_finished}, Takes.{TakesPacket, work_at}, Tally.Tallied}
-use Rattle.lert_bay.proofs.KeptLaws.{IsLawful, keeps_as}
+use Rattle.lert_cone.specs.{Stands.{Standing, StandsFor, WasSound, IsCone, IsSameCone, is_broken}, Takes.{TakesPacket, work_at}, Tally.Tallied}
+use Rattle.lert_bay.proofs.KeptLaws.{IsLawful}
 use Rattle.lert_cone.proofs.{SoundLaws.{turns_back, counted_more, end_more}, AppendLaws.{whole_of, some_more, keys_more}, StandLaws.{more_cone, stands_whole, reports_running, cone_at}}
-use Rattle.lert_cone.proofs.{TimeLaws.timely_so_far, Admits.Admits}
+use Rattle.lert_cone.proofs.{TimeLaws.timely_so_far, Admits.Admits, Stepping.passes}
 
 module _ {B : Type 0} {bays : Bays B} (lawful : IsLawful bays) (packet : Packet) where
   module _ {bay bay_after : B} {tally after : Tallied} {room room_after : ℕ} {state : ConeState} {journal journal_after : Log} {log log_after : LogPlace} (made : B) (events : ℕ)
@@ -77,19 +77,10 @@ module _ {B : Type 0} {bays : Bays B} (lawful : IsLawful bays) (packet : Packet)
             acked = λ i. record { from = events + 1; to = events_are i; reports = reports_are i };
             taken = new_is;
             in_time_so_far = timely_then;
-            stays = tt;
-            unchanged = tt;
+            step = passes lawful same running did.seen did.kept;
             broke = tt;
-            same_cone = same;
-            closed = ((λ given. absurd (let never : ⊥ = cc in never)), (λ ended. absurd (false≢true (sym (ap is_finished running) ∙ ap is_finished ended))));
-            broken = ((λ given. absurd (let never : ⊥ = cc in never)), (λ broken. absurd (false≢true (sym (ap is_broken running) ∙ broken))));
             full = λ n len. ((λ given. absurd (let never : ⊥ = cc in never)), (λ why. absurd (omega (arith, why.1, why.2, why.3, within))));
-            bay_failed = λ given. absurd (let never : ⊥ = cc in never);
-            unsound = λ file at given. absurd (let never : ⊥ = cc in never);
-            shows = λ file at given. absurd (let never : ⊥ = cc in never);
             each_moment = λ unbroken sound seen told h stands image may. did.each_moment seen told h (stands.whole unbroken sound seen told) image may;
-            seen = did.seen;
-            kept = keeps_as bays lawful bay bay_after _ _ (λ given. absurd (let never : ⊥ = cc in never)) did.kept;
           })
 
     -- and it is a cone again, whose buffer has the room that was lent

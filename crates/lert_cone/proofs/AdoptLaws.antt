@@ -15,19 +15,20 @@ use Rattle.lert_cone.specs.{Framed.{last_flush, flushed}, InStep.IsInStep, Logge
 use Rattle.lert_cone.specs.{JournalPlaces.{HoldsPosition, IsPlaceIn, NamesRecord, first_place, last_place, places_from}, Replay.{IsLastOf, IsOnWay, IsPast}}
 use Rattle.lert_cone.specs.{Sound.{IsSound, HoldFrames, HoldsDirectory}, Unread.unread}
 use Rattle.lert_cone.proofs.{FlushLaws.last_flush_logged, JournalPlaceLaws.places_none, StepLaws.{journal_since, log_since, frames_since}, UnreadLaws.unread_is}
+use Rattle.lert_levels.specs.OnDisk.{written}
 
 -- ---- frames
 
 -- what the frames of a row hold, from what those of its directory do
 from_frames : (s : Numbers) (events file : List ℕ) (level : ℕ) (row : List BinAt) → HoldFrames s level file (map (λ bin. bin.frame) row) (map (filled s events) (map range_of row)) →
-    All (λ bin. HoldsFrame s level bin.frame file (tallied_in s events bin)) row
-from_frames s events file level [] holds = All-nil (λ (bin : BinAt). HoldsFrame s level bin.frame file (tallied_in s events bin))
+    All (λ bin. HoldsFrame s written level bin.frame file (tallied_in s events bin)) row
+from_frames s events file level [] holds = All-nil (λ (bin : BinAt). HoldsFrame s written level bin.frame file (tallied_in s events bin))
 from_frames s events file level (bin ∷ row) holds =
-    All-cons (λ (b : BinAt). HoldsFrame s level b.frame file (tallied_in s events b)) bin row holds.0 (from_frames s events file level row holds.1)
+    All-cons (λ (b : BinAt). HoldsFrame s written level b.frame file (tallied_in s events b)) bin row holds.0 (from_frames s events file level row holds.1)
 
 -- the frames of a directory are those of the rows that it was read into
 pub bins_there : (s : Numbers) (events : List ℕ) (rows : List (List BinAt)) (directory : List (List ℕ)) (file : List ℕ) → IsAt s (length events) rows → directory ≡ frames_of rows →
-    HoldsDirectory s events directory file → HoldsBins s events rows file
+    HoldsDirectory s events directory file → HoldsBins s written events rows file
 bins_there s events rows directory file at named holds level first last =
     let row = row_of rows level in
     let frames_are : slice_index_or directory (level - 1) [] ≡ map (λ (bin : BinAt). bin.frame) row =
@@ -40,11 +41,11 @@ bins_there s events rows directory file at named holds level first last =
     (subst (λ (frames : List ℕ). HoldFrames s level file frames (bins s events level)) frames_are (holds.each level first last)))
 
 -- frames that are settled hold in each image what they hold as a read gives them
-pub frames_settled : (leaves : Files → Type 0) (seen : Files) (s : Numbers) (events : List ℕ) (rows : List (List BinAt)) → IsValid s → AreRows s rows → HoldsBins s events rows (seen 2) →
-    ((from to : ℕ) → InNamed s rows from to → to ≤ length (seen 2) → IsSettled leaves seen 2 from to) → InEach leaves 2 (HoldsBins s events rows)
+pub frames_settled : (leaves : Files → Type 0) (seen : Files) (s : Numbers) (events : List ℕ) (rows : List (List BinAt)) → IsValid s → AreRows s rows → HoldsBins s written events rows (seen 2) →
+    ((from to : ℕ) → InNamed s written rows from to → to ≤ length (seen 2) → IsSettled leaves seen 2 from to) → InEach leaves 2 (HoldsBins s written events rows)
 frames_settled leaves seen s events rows valid are holds settled =
     frames_since (λ image. image ≡ seen) leaves seen s events rows valid are refl
-    (λ image is. subst (λ (files : Files). HoldsBins s events rows (files 2)) (sym is) holds)
+    (λ image is. subst (λ (files : Files). HoldsBins s written events rows (files 2)) (sym is) holds)
     (λ from to named here. (settled from to named here.within).same)
 
 -- ---- the packets that aren't read
@@ -68,7 +69,7 @@ module _ (leaves : Files → Type 0) (seen : Files) (s : Numbers) (cone : ℕ) (
     (log_end n0 offset first : ℕ)
     (closed : Bool)
     (valid : IsValid s) (at : IsAt s n0 rows) (are : AreRows s rows) (log : HasLog s cone (seen 1) records log_end) (last : IsLastOf s n0 offset first closed rows reports records)
-    (journal_settled : IsWhollySettled leaves seen 0) (log_settled : IsWhollySettled leaves seen 1) (named_settled : (from to : ℕ) → InNamed s rows from to → to ≤ length (seen 2) →
+    (journal_settled : IsWhollySettled leaves seen 0) (log_settled : IsWhollySettled leaves seen 1) (named_settled : (from to : ℕ) → InNamed s written rows from to → to ≤ length (seen 2) →
     IsSettled leaves seen 2 from to)
     (sound : IsSound s cone history seen) (early : first ≤ edge s 0 n0 + 1) where
   -- the records that were read are those for which the files are sound
@@ -145,7 +146,7 @@ module _ (leaves : Files → Type 0) (seen : Files) (s : Numbers) (cone : ℕ) (
     reports_are = listed_there;
   }
 
-  held : HoldsBins s (take n0 (events_of history)) rows (seen 2)
+  held : HoldsBins s written (take n0 (events_of history)) rows (seen 2)
   held =
       bins_there s (take n0 (events_of history)) rows (last_directory s sound.logged) (seen 2) (subst (λ n. IsAt s n rows) (sym long) at)
       (ap (last_directory s) (sym same) ∙ last.directory_is)

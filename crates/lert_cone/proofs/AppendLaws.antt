@@ -13,6 +13,7 @@ use Rattle.lert_cone.specs.{Framed.last_flush, History.{most_payload, end_of}, I
 use Rattle.lert_cone.specs.{Sound.{IsJournal, IsSoundAs, IsSoundOver, but_last}, Stands.IsWhole, Tally.{Tallied, IsCounted}}
 use Rattle.lert_cone.proofs.{EndStep.{partway_all, late_all}, JournalPlaceLaws.{places_more, names_more}, SoundLaws.{events_more, counted_more, end_more}}
 use Rattle.lert_cone.proofs.StepLaws.{log_since, frames_since, sound_of, sound_as}
+use Rattle.lert_levels.specs.OnDisk.{written}
 
 -- ---- what goes together with memory
 
@@ -67,7 +68,7 @@ module _ (leaves since : Files → Type 0) (seen : Files) (t : Tallied) (log : L
   log_then = log_since since seen t.listing.settings t.listing.cone up.logged log.gate (up.log_there seen read)
       (others 1 0 (length (seen 1)) (λ same. absurd (omega (arith, same))) up.log_settled)
 
-  frames_then : InEach since 2 (HoldsBins t.listing.settings t.listing.events t.rows)
+  frames_then : InEach since 2 (HoldsBins t.listing.settings written t.listing.events t.rows)
   frames_then = frames_since leaves since seen t.listing.settings t.listing.events t.rows counted.valid counted.are read up.frames
       (λ from to named. others 2 from to (λ same. absurd (omega (arith, same))))
 

@@ -2,6 +2,7 @@
 use Rattle.std.proofs.Common.{ℕ, ◌≡◌, ◌+◌, ◌-◌, ◌^◌, ◌<◌, ◌≤◌, suc, Bool, true, false, cond, eqb, leb, not, ◌&&◌, ◌||◌, List, [], ◌∷◌, ◌++◌, length, map, filter, All, Option, Some, None, refl, ap}
 use Rattle.std.proofs.{Common.{sym, ◌∙◌, arith, inl, inr, subst, append_assoc, length-append}, lemmas.Bool.{cases_Bool, cases_eq, eq-eqb, ne_eqb, le-leb, lt-leb, false≢true}, lemmas.List.map-append}
 use Rattle.std.proofs.lemmas.List.Elements.{filter-append}
+use Rattle.lert_spec.specs.Edges.{tail_bits}
 use Rattle.lert_spec.specs.{declared.numbers.Numbers.Numbers, declared.piece.Piece.Piece, declared.report.Report.Report, Look.is_listed, Mix.{cone_of, tail_of}, Table.{AscendsFrom, IsTable}}
 use Rattle.lert_spec.proofs.TailLaws.{key_with, is_due_piece}
 use Rattle.lert_cone.specs.Due.{Dues, PassesOver, TookFrom, TookTotals, due_reports, due_key, with_report, with_total}
@@ -47,7 +48,7 @@ due-cons_false s cone listed at p pieces due =
 
 module _ (s : Numbers) (cone : ℕ) (bits : s.cone_bits ≤ 64) (named : cone < 2 ^ s.cone_bits) where
   -- a tail's key isn't among the reports of lesser tails
-  unlisted : (listed : List Report) (at least tail : ℕ) (pieces : List Piece) → AscendsFrom least (2 ^ (64 - s.cone_bits)) pieces → tail < 2 ^ (64 - s.cone_bits) → All
+  unlisted : (listed : List Report) (at least tail : ℕ) (pieces : List Piece) → AscendsFrom least (2 ^ tail_bits s) pieces → tail < 2 ^ tail_bits s → All
       (λ piece. piece.tail < tail) pieces →
       is_listed (key_with s cone tail) (due_reports s cone listed at pieces) ≡ false
   unlisted listed at least tail [] up below less = refl
@@ -65,10 +66,10 @@ module _ (s : Numbers) (cone : ℕ) (bits : s.cone_bits ≤ 64) (named : cone < 
       ]
 
   -- whether a piece is due doesn't change by the reports of lesser tails
-  due_still : (before : List Report) (at : ℕ) (pieces : List Piece) (p : Piece) → IsTable (2 ^ (64 - s.cone_bits)) (pieces ++ p ∷ []) → All (λ piece. piece.tail < p.tail) pieces →
+  due_still : (before : List Report) (at : ℕ) (pieces : List Piece) (p : Piece) → IsTable (2 ^ tail_bits s) (pieces ++ p ∷ []) → All (λ piece. piece.tail < p.tail) pieces →
       is_due_piece s cone s.threshold (before ++ due_reports s cone before at pieces) p ≡ is_due_piece s cone s.threshold before p
   due_still before at pieces p table less =
-      let parts = front 0 (2 ^ (64 - s.cone_bits)) pieces p table in
+      let parts = front 0 (2 ^ tail_bits s) pieces p table in
       let key = key_with s cone p.tail in
       ap (λ b. leb s.threshold p.count && not b)
       (is_listed-append key before (due_reports s cone before at pieces)
@@ -89,7 +90,7 @@ module _ (d : Dues) (bits : d.settings.cone_bits ≤ 64) (named : d.cone < 2 ^ d
   due_of ps = due_reports d.settings d.cone d.before d.at ps
 
   abbrev limit : ℕ
-  limit = 2 ^ (64 - d.settings.cone_bits)
+  limit = 2 ^ tail_bits d.settings
 
   abbrev report : Report
   report = record { key = key_with d.settings d.cone p.tail; at = d.at }
@@ -217,10 +218,10 @@ module _ (d : Dues) (p : Piece) where
       ] (took_more d bits named pieces p from.took less)
 
 -- a number that is no tail makes no table
-pub took_none : (d : Dues) (pieces : List Piece) (p : Piece) → (p.tail < 2 ^ (64 - d.settings.cone_bits) → ⊥) → TookTotals d (pieces ++ p ∷ [])
+pub took_none : (d : Dues) (pieces : List Piece) (p : Piece) → (p.tail < 2 ^ tail_bits d.settings → ⊥) → TookTotals d (pieces ++ p ∷ [])
 took_none d pieces p above = record {
-  reported = λ table _. absurd (above (front 0 (2 ^ (64 - d.settings.cone_bits)) pieces p table).1);
-  too_many = λ table _. absurd (above (front 0 (2 ^ (64 - d.settings.cone_bits)) pieces p table).1);
+  reported = λ table _. absurd (above (front 0 (2 ^ tail_bits d.settings) pieces p table).1);
+  too_many = λ table _. absurd (above (front 0 (2 ^ tail_bits d.settings) pieces p table).1);
 }
 
 -- the key of a piece that reaches the threshold
@@ -231,7 +232,7 @@ module _ (s : Numbers) (cone : ℕ) (listed : List Report) (piece : Piece) where
   pub due_key-few : piece.count < s.threshold → None ≡ due_key s cone listed piece
   due_key-few few = sym (ap (λ t. tested (t && not (is_listed (key_with s cone piece.tail) listed))) (lt-leb s.threshold piece.count few))
 
-  module _ (bits : s.cone_bits ≤ 64) (named : cone < 2 ^ s.cone_bits) (below : piece.tail < 2 ^ (64 - s.cone_bits)) (key : ℕ)
+  module _ (bits : s.cone_bits ≤ 64) (named : cone < 2 ^ s.cone_bits) (below : piece.tail < 2 ^ tail_bits s) (key : ℕ)
       (only : (k : ℕ) → k < 2 ^ 64 → cone_of s k ≡ cone → tail_of s k ≡ piece.tail → key ≡ k) (enough : s.threshold ≤ piece.count) where
     is_key : key ≡ key_with s cone piece.tail
     is_key = key_with_is s cone bits named piece.tail below key only

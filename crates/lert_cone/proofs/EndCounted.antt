@@ -2,7 +2,7 @@
 use Rattle.std.proofs.Common.{◌≡◌, ℕ, ◌^◌, ◌<◌, Bool, true, false, List, length, Result, Ok, Err, Some, refl, sym, ap, ◌∙◌, subst, arith}
 use Rattle.std.specs.Result.{IsErrAnd}
 use Rattle.lert_bay.specs.{Files.Files, Kept.Bays}
-use Rattle.lert_levels.specs.{declared.rows.bin_at.BinAt.BinAt, declared.rows.fault.FlushFault.FlushFault, rows.Checked.rows_left, rows.Loading.OneBreaks, OnDisk.OnDisk}
+use Rattle.lert_levels.specs.{declared.rows.bin_at.BinAt.BinAt, declared.rows.fault.FlushFault.FlushFault, rows.Checked.rows_left, rows.Loading.OneBreaks, OnDisk.{OnDisk, written}}
 use Rattle.lert_spec.specs.{declared.numbers.Numbers.Numbers, declared.report.Report.Report, Bins.tallied, Limits.IsValid}
 use Rattle.lert_cone.specs.{declared.tally.TakeFault.TakeFault, declared.tally.TakeFault.TheVariants.{Failed, Unsound}, Counts.{CountsEnd, Scans}, Due.{Dues, TookFrom, started}}
 use Rattle.lert_cone.specs.Tally.{Tallied, IsCounted, IsHeld, take_fault}
@@ -48,7 +48,7 @@ module _ {B : Type 0} {bays : Bays B} (lawful : IsLawful bays) {t : Tallied} {ls
         sound_fault fault (λ place is. fine place (ap Err is)) file at (let inner : take_fault fault ≡ Unsound file at = cc in inner);
     shows = λ seen told file at same.
         shows_frame (Err (take_fault fault)) fault refl t.listing.settings t.rows due.reports (seen 2)
-        (λ place is. subst (λ (v : Numbers). OneBreaks v t.rows (seen 2) place) levels_are (scans.malformed seen (sym scans.reads.seen ∙ told) place (ap Err is))) file at same;
+        (λ place is. subst (λ (v : Numbers). OneBreaks v written t.rows (seen 2) place) levels_are (scans.malformed seen (sym scans.reads.seen ∙ told) place (ap Err is))) file at same;
     reads = reads_as bays lawful bay bay_after _ _ (λ same. ap Err (failed_flush fault (let inner : take_fault fault ≡ Failed = cc in inner))) scans.reads;
   }
 
@@ -104,7 +104,7 @@ module _ {B : Type 0} {bays : Bays B} (lawful : IsLawful bays) {t : Tallied} {ls
       grows = omega (arith, scans.took.1.grows, ap (λ (d : Dues). length d.before) start_is, ap (length {A = Report}) scans.took.1.before_is);
       counted = counted_end t ls levels_are valid named counted m m_is start due start_is scans.took;
       held = λ seen told held. held_end t ls levels_are valid named counted m m_is start due start_is still seen held (took_all seen told held) room;
-      whole = λ seen told. ap (λ (v : Numbers). rows_left v (seen 2) t.rows) (sym levels_are) ∙ scans.whole seen told;
+      whole = λ seen told. ap (λ (v : Numbers). rows_left v written (seen 2) t.rows) (sym levels_are) ∙ scans.whole seen told;
       sound = λ seen told held file at same. (let never : ⊥ = cc in never);
       shows = λ seen told file at same. absurd (let never : ⊥ = cc in never);
       reads = reads_as bays lawful bay bay_after _ _ (λ same. absurd (let never : ⊥ = cc in never)) scans.reads;

@@ -12,6 +12,7 @@ use Rattle.lert_cone.specs.{JournalPlaces.{ArePlacesIn, Places, MayName, NamesRe
 use Rattle.lert_cone.specs.Tally.{Tallied, IsCounted}
 use Rattle.lert_cone.proofs.{KeyStep.{next_payload, journal_beside, frames_beside, log_beside, log_behind}, LogLaws.{LogsNext, log_at_close}, FlushLaws.last_flush_grows}
 use Rattle.lert_cone.proofs.{JournalPlaceLaws.{may_name, names_pushed, oldest_names}, StepLaws.sound_of}
+use Rattle.lert_levels.specs.OnDisk.{written}
 
 -- all keys are taken
 pub partway_all : (s : Numbers) (history : List Packet) (events : List ℕ) → events ≡ events_of history → length (events_of (but_last history)) ≤ length events →
@@ -29,7 +30,7 @@ pub record IsEnding (leaves : Files → Type 0) (seen : Files) (history : List P
   pub journal : InEach leaves 0 (IsJournal t.listing.settings t.listing.cone history)
   pub journal_settled : IsWhollySettled leaves seen 0
   pub log_there : InEach leaves 1 (λ bytes. HasLog t.listing.settings t.listing.cone bytes logged log.gate)
-  pub frames : InEach leaves 2 (HoldsBins t.listing.settings t.listing.events t.rows)
+  pub frames : InEach leaves 2 (HoldsBins t.listing.settings written t.listing.events t.rows)
   pub reports_are : a.due.reports ≡ reports_of a.listing
   pub all : t.listing.events ≡ events_of history
   pub late : length (events_of (but_last history)) ≤ length t.listing.events
@@ -82,7 +83,7 @@ module _ (leaves : Files → Type 0) (seen : Files) (history : List Packet) (t a
     journal_then = journal_beside leaves since seen t.listing.settings t.listing.cone history logged last log.gate payload ending.read ending.journal ending.journal_settled ending.log_there
         next.is.rules payload_here others earlier
 
-    frames_then : InEach since 2 (HoldsBins t.listing.settings t.listing.events t.rows)
+    frames_then : InEach since 2 (HoldsBins t.listing.settings written t.listing.events t.rows)
     frames_then =
         frames_beside leaves since seen t.listing.settings t.listing.cone history logged last log.gate payload ending.read ending.journal ending.journal_settled ending.log_there next.is.rules
         payload_here others earlier
@@ -120,7 +121,7 @@ module _ (leaves : Files → Type 0) (seen : Files) (history : List Packet) (t a
           (log_behind leaves since seen t.listing.settings t.listing.cone history logged last log.gate payload ending.read ending.journal ending.journal_settled ending.log_there next.is.rules
           payload_here others earlier
           after log_after.gate now stands image may);
-      frames = λ image may. of_listing (λ s cone events rows closed. HoldsBins s events rows (image 2)) (frames_then image (now image may));
+      frames = λ image may. of_listing (λ s cone events rows closed. HoldsBins s written events rows (image 2)) (frames_then image (now image may));
       journal_settled = journal_settled;
       log_settled = log_settled;
       reports_are = ending.reports_are;

@@ -1,4 +1,5 @@
 -- Since the last flush no bin of an older level changed.
+use Rattle.lert_spec.specs.Counts.{plain}
 use Rattle.std.proofs.{Common.{ℕ, zero, suc, ◌≡◌, ◌+◌, ◌-◌, ◌≤◌, cond, List, [], ◌∷◌, ◌++◌, length, take, get_or, refl, ap, sym, ◌∙◌, arith, inl, inr}, lemmas.Bool.{cases_eq, eq-eqb, ne_eqb}}
 use Rattle.std.proofs.lemmas.List.{take_more, length-take, take_all}
 use Rattle.lert_spec.specs.{declared.numbers.Numbers.Numbers, Bins.bins, Edges.edge, Limits.IsValid}
@@ -31,7 +32,7 @@ module _ (s : Numbers) (valid : IsValid s) where
               λ i. ap (λ k. edge s i (suc k)) long ∙ all_stay (suc n) n i stays ∙ ap (edge s i) (sym long) in
               ap (λ t. bins s (take (cond t (last_flush s n) (suc n)) events) level) (eq-eqb (edge s 0 (suc n)) (edge s 0 n) stays)
               ∙ bins_since n (omega (arith, within))
-              ∙ sym (ap (λ keys. bins s keys level) one ∙ bins-still s (take n events) (get_or events n 0) level base ratio (still level) (still (level - 1))))
+              ∙ sym (ap (λ keys. bins s keys level) one ∙ bins-still plain s (take n events) (get_or events n 0) level base ratio (still level) (still (level - 1))))
           | inr moves ↦ ap (λ t. bins s (take (cond t (last_flush s n) (suc n)) events) level) (ne_eqb (edge s 0 (suc n)) (edge s 0 n) moves)
         ]
 

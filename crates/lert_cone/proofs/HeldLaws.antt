@@ -41,15 +41,15 @@ module _ {B : Type 0} (bays : Bays B) (packet : Packet) (old new : Standing B) w
       (RefusesUnder (terms_of bays.faults bays.mark old) h packet fault × (is_stopped new.state ≡ is_stopped old.state) × (new.over ≡ old.over))
       ⊎ (IsTrue (is_stopped new.state) × ((new.over ≡ old.over) ⊎ (new.over ≡ Some packet))))
   refuses_under (Ok acked) did = tt
-  refuses_under (Err Closed) did = λ h stands. inr (unchanged (did.unchanged refl) (ap is_stopped (did.closed.0 refl)))
-  refuses_under (Err Broken) did = λ h stands. inr (unchanged (did.unchanged refl) (stopped_if old.state (did.broken.0 refl)))
+  refuses_under (Err Closed) did = λ h stands. inr (unchanged (did.step.unchanged refl) (ap is_stopped (did.step.closed.0 refl)))
+  refuses_under (Err Broken) did = λ h stands. inr (unchanged (did.step.unchanged refl) (stopped_if old.state (did.step.broken.0 refl)))
   refuses_under (Err (CapacityFull n len)) did = λ h stands.
       let why = (did.full n len).0 refl in
       let count : n ≡ length (events_of h) = why.1 ∙ sym stands.counted in
       inl (
         record { fault_is = λ i. CapacityFull (count i) (why.2 i); too_many = omega (arith, why.3, count, why.2) },
-        ap (λ (v : Standing B). is_stopped v.state) (did.unchanged refl),
-        ap (λ (v : Standing B). v.over) (did.unchanged refl),
+        ap (λ (v : Standing B). is_stopped v.state) (did.step.unchanged refl),
+        ap (λ (v : Standing B). v.over) (did.step.unchanged refl),
       )
-  refuses_under (Err BayFailed) did = λ h stands. inr (broke (ap is_broken (did.bay_failed refl).0) (ap (λ (v : Standing B). v.over) (did.broke refl)))
-  refuses_under (Err (Unsound file at)) did = λ h stands. inr (broke (ap is_broken (did.unsound file at refl).0) (ap (λ (v : Standing B). v.over) (did.broke refl)))
+  refuses_under (Err BayFailed) did = λ h stands. inr (broke (ap is_broken (did.step.bay_failed refl).0) (ap (λ (v : Standing B). v.over) (did.broke refl)))
+  refuses_under (Err (Unsound file at)) did = λ h stands. inr (broke (ap is_broken (did.step.unsound file at refl).0) (ap (λ (v : Standing B). v.over) (did.broke refl)))

@@ -10,6 +10,7 @@ use Rattle.lert_reports.specs.{Log.{HasRecords, last_directory, last_n0, most_re
 use Rattle.lert_spec.specs.declared.numbers.Numbers.{Numbers}
 use Rattle.lert_cone.specs.{Framed.HoldsSome, KeepsLog.{AreNextFlushes, IsNextFlush, InDirectory, NamesRows, HoldsNamed, KeepsRecords, KeepsLog}, Wrote.IsShut}
 use Rattle.lert_cone.proofs.{StepLaws.first_same, WroteLaws.torn_behind}
+use Rattle.lert_levels.specs.OnDisk.{written}
 
 -- ---- rows, by what a directory names
 
@@ -46,12 +47,12 @@ named_some s records rows file names holds = record {
       let same : row_of holds.rows level ≡ row_of rows level = row_same (row_of holds.rows level) (row_of rows level)
       (level_frames s records holds.rows holds.names level first last ∙ sym (level_frames s records rows names level first last))
       (holds.names.at.each level first last ∙ sym (names.at.each level first last)) in
-      subst (λ (row : List BinAt). All (λ bin. HoldsFrame s level bin.frame file (tallied_in s holds.some.events bin)) row) same (holds.some.holds level first last);
+      subst (λ (row : List BinAt). All (λ bin. HoldsFrame s written level bin.frame file (tallied_in s holds.some.events bin)) row) same (holds.some.holds level first last);
 }
 
 -- a range in a frame that the directory names is in one of a bin
 pub in_named : (s : Numbers) (records : List LogRecord) (rows : List (List BinAt)) (from to : ℕ) → NamesRows s records rows → InDirectory s (last_directory s records) from to →
-    InNamed s rows from to
+    InNamed s written rows from to
 in_named s records rows from to names is =
     let row = row_of rows is.level in
     let none : BinAt = record { from = 0; to = 0; frame = 0 } in
@@ -65,8 +66,8 @@ in_named s records rows from to names is =
       last = is.last;
       bin = get_or row there.0 none;
       named = Contains-get_or row there.0 none below;
-      above = omega (arith, is.above, ap (frame_place s is.level) frame_is);
-      below = omega (arith, is.below, ap (frame_place s is.level) frame_is);
+      above = omega (arith, is.above, ap (frame_place s written is.level) frame_is);
+      below = omega (arith, is.below, ap (frame_place s written is.level) frame_is);
     }
 
 -- ---- the log

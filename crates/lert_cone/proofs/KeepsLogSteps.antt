@@ -13,6 +13,7 @@ use Rattle.lert_cone.specs.{JournalPlaces.oldest_place, Record.{LogPlace, payloa
 use Rattle.lert_cone.proofs.Calls.{now_since}
 use Rattle.lert_cone.proofs.KeepsLogLaws.{begins_each, gate_within, in_named, keeps_log_none, keeps_log_on, named_some, one_end, records_each, records_on, records_push, records_same}
 use Rattle.lert_cone.proofs.{LogLaws.{directory_is, frames_are}, RecordLaws.payload_is_at, StepLaws.frames_since, TakeLaws.ok_holds}
+use Rattle.lert_levels.specs.OnDisk.{written}
 
 -- the step from files that were told to those that are
 pub step_of : (step : Files → Files → Type 0) (before after : Option Files) → Turns step before after → (seen : Files) → before ≡ Some seen → (now : Files) → after ≡ Some now → step seen now
@@ -90,7 +91,7 @@ module _ {B : Type 0} (bays : Bays B) (lawful : IsLawful bays) (s : Numbers) whe
 
   -- ---- a flush, whole or not
 
-  module _ (valid : IsValid s) (rows : List (List BinAt)) (are : AreRows s rows) (n gate : ℕ) (old bay : B) (rest : KeepsRest bays (InNamed s rows) old bay)
+  module _ (valid : IsValid s) (rows : List (List BinAt)) (are : AreRows s rows) (n gate : ℕ) (old bay : B) (rest : KeepsRest bays (InNamed s written rows) old bay)
       (shut : IsShutIfTold (bays.files old) (bays.leaves old) 1 gate)
     where
       abbrev head : LogHead
@@ -100,23 +101,23 @@ module _ {B : Type 0} (bays : Bays B) (lawful : IsLawful bays) (s : Numbers) whe
       apart same = absurd (omega (arith, same))
 
       module _ (seen : Files) (told : bays.files old ≡ Some seen) (records : List LogRecord) (is : IsHeadOf s records head (seen 1)) where
-        some_stays : (now : Files) → LeavesRest (InNamed s rows) seen now → HoldsNamed s records (seen 2) → HoldsSome s (last_n0 records) rows (now 2)
+        some_stays : (now : Files) → LeavesRest (InNamed s written rows) seen now → HoldsNamed s records (seen 2) → HoldsSome s (last_n0 records) rows (now 2)
         some_stays now leaves holds =
             let some = named_some s records rows (seen 2) is.names holds in
             record {
               events = some.events;
               len = some.len;
               holds = frames_since (λ (image : Files). image ≡ seen) (λ (image : Files). image ≡ now) seen s some.events rows valid are refl
-                  (λ image image_is. subst (λ (files : Files). HoldsBins s some.events rows (files 2)) (sym image_is) some.holds)
+                  (λ image image_is. subst (λ (files : Files). HoldsBins s written some.events rows (files 2)) (sym image_is) some.holds)
                   (λ from to named settled image image_is. ap (λ (files : Files). part (files 2) from to) image_is ∙ leaves.rest from to named settled.within) now refl;
             }
 
         -- the frames, where no record came
-        named_stays : (now : Files) → LeavesRest (InNamed s rows) seen now → HoldsNamed s records (seen 2) → HoldsNamed s (records ++ []) (now 2)
+        named_stays : (now : Files) → LeavesRest (InNamed s written rows) seen now → HoldsNamed s records (seen 2) → HoldsNamed s (records ++ []) (now 2)
         named_stays now leaves holds =
             subst (λ (rs : List LogRecord). HoldsNamed s rs (now 2)) (sym (append-nil records)) (record { rows = rows; names = is.names; some = some_stays now leaves holds })
 
-        abbrev rest_kept : (now : Files) → LeavesRest (InNamed s rows) seen now → KeepsLog s records gate seen now
+        abbrev rest_kept : (now : Files) → LeavesRest (InNamed s written rows) seen now → KeepsLog s records gate seen now
         rest_kept now leaves = record {
           log = records_same s records gate (seen 1) (now 1) (ap (λ (bytes : List ℕ). part bytes 0 gate) (leaves.others 1 apart))
               (subst (λ (bytes : List ℕ). HasRecords s bytes records gate) (sym (leaves.others 1 apart)) is.stand);
@@ -133,7 +134,7 @@ module _ {B : Type 0} (bays : Bays B) (lawful : IsLawful bays) (s : Numbers) whe
             records_same s records gate (seen 1) (image 1) (begins_each s records gate (bays.leaves old) seen shut_here read image same)
             (records_each s records gate (bays.leaves old) seen shut_here read is.stand image same)
 
-        head_now : (now : Files) → LeavesRest (InNamed s rows) seen now → IsHeadOf s (records ++ []) head (now 1)
+        head_now : (now : Files) → LeavesRest (InNamed s written rows) seen now → IsHeadOf s (records ++ []) head (now 1)
         head_now now leaves = subst (λ (bytes : List ℕ). IsHeadOf s (records ++ []) head bytes) (sym (leaves.others 1 apart)) (head_nil s records head (seen 1) is)
 
       -- no record is written behind it
@@ -141,7 +142,7 @@ module _ {B : Type 0} (bays : Bays B) (lawful : IsLawful bays) (s : Numbers) whe
           ((records : List LogRecord) (bytes : List ℕ) → IsHeadOf s records head bytes → OnOk result (IsHeadOf s records new bytes)) → KeepsLogOf bays s head new old bay result
       log_rest new result goes seen told records is = record {
         read = λ now told_now.
-            let leaves = step_of (LeavesRest (InNamed s rows)) (bays.files old) (bays.files bay) rest.seen seen told now told_now in
+            let leaves = step_of (LeavesRest (InNamed s written rows)) (bays.files old) (bays.files bay) rest.seen seen told now told_now in
             (rest_kept seen told records is now leaves, goes (records ++ []) (now 1) (head_now seen told records is now leaves));
         each_moment = rest_each seen told records is;
       }
@@ -170,8 +171,8 @@ module _ {B : Type 0} (bays : Bays B) (lawful : IsLawful bays) (s : Numbers) whe
               ∙ ap (λ directory. log_payload LogKind.Flush n0 (oldest_place log.places).gate (oldest_place log.places).first directory (drop log.named reports)) (sym (directory_is moved))
 
           module _ (seen : Files) (told : bays.files old ≡ Some seen) (records : List LogRecord) (is : IsHeadOf s records head (seen 1)) (mid : Files) (told_mid : bays.files bay ≡ Some mid) where
-            leaves_mid : LeavesRest (InNamed s rows) seen mid
-            leaves_mid = step_of (LeavesRest (InNamed s rows)) (bays.files old) (bays.files bay) rest.seen seen told mid told_mid
+            leaves_mid : LeavesRest (InNamed s written rows) seen mid
+            leaves_mid = step_of (LeavesRest (InNamed s written rows)) (bays.files old) (bays.files bay) rest.seen seen told mid told_mid
 
             stand_mid : HasRecords s (mid 1) records gate
             stand_mid = subst (λ (bytes : List ℕ). HasRecords s bytes records gate) (sym (leaves_mid.others 1 apart)) is.stand

@@ -4,7 +4,7 @@ use Rattle.std.specs.Result.{IsErrAnd}
 use Rattle.lert_bay.specs.{Files.Files, Kept.Bays}
 use Rattle.lert_gatelog.specs.Kept.{InEach}
 use Rattle.lert_levels.specs.{declared.rows.fault.FlushFault.FlushFault, declared.rows.fault.FlushFault.TheVariants.{Failed as FlushFailed, Malformed}, Flushed.InNamed, rows.Landing.KeepsRest}
-use Rattle.lert_levels.specs.{rows.Loading.OneBreaks, OnDisk.OnDisk, rows.Rows.{AreRows, HoldsBins}, rows.Young.Young}
+use Rattle.lert_levels.specs.{rows.Loading.OneBreaks, OnDisk.{OnDisk, written}, rows.Rows.{AreRows, HoldsBins}, rows.Young.Young}
 use Rattle.lert_spec.specs.{declared.numbers.Numbers.Numbers, declared.report.Report.Report, Edges.edge, Mix.cone_of}
 use Rattle.lert_cone.specs.{declared.tally.TakeFault.TakeFault, declared.tally.TakeFault.TheVariants.{Failed, Unsound}, Counts.{GivesTotals, CountsKey}, Due.{Dues, started}, Framed.HoldsSome}
 use Rattle.lert_cone.specs.Tally.{Tallied, AreYoung, IsHeld, take_fault}
@@ -27,7 +27,7 @@ module _ {B : Type 0} {bays : Bays B} (lawful : IsLawful bays) {t : Tallied} {ls
   now_young : AreYoung ls (t.listing.events ++ key ∷ []) young.from young.bins
   now_young = young_now taking
 
-  now_frames : (seen : Files) → IsHeld t seen → HoldsBins ls (t.listing.events ++ key ∷ []) t.rows (seen 2)
+  now_frames : (seen : Files) → IsHeld t seen → HoldsBins ls written (t.listing.events ++ key ∷ []) t.rows (seen 2)
   now_frames = frames_now taking
 
   -- an edge that stays, said of the levels and of the key's position
@@ -46,8 +46,8 @@ module _ {B : Type 0} {bays : Bays B} (lawful : IsLawful bays) {t : Tallied} {ls
         gives.sound (others taking (seen 2) some) (others_long taking (seen 2) some) (others_young taking (seen 2) some) seen told
         (others_frames taking (seen 2) some)
 
-    rest_here : KeepsRest bays (InNamed t.listing.settings t.rows) bay bay_after
-    rest_here = subst (λ (s : Numbers). KeepsRest bays (InNamed s t.rows) bay bay_after) taking.levels_are gives.rest
+    rest_here : KeepsRest bays (InNamed t.listing.settings written t.rows) bay bay_after
+    rest_here = subst (λ (s : Numbers). KeepsRest bays (InNamed s written t.rows) bay bay_after) taking.levels_are gives.rest
 
     unflushed_here : edge t.listing.settings 0 (length t.listing.events + 1) ≡ edge t.listing.settings 0 (length t.listing.events) → bay_after ≡ bay
     unflushed_here stays = gives.unflushed (levels_stay stays)
@@ -67,7 +67,7 @@ module _ {B : Type 0} {bays : Bays B} (lawful : IsLawful bays) {t : Tallied} {ls
         sound_fault fault (λ place is. never_malformed_held (Err fault) gives seen told held place (ap Err is)) file at (let inner : take_fault fault ≡ Unsound file at = cc in inner);
     shows = λ seen told file at same.
         shows_frame (Err (take_fault fault)) fault refl t.listing.settings levels_after.rows due.reports (seen 2)
-        (λ place is. subst (λ (v : Numbers). OneBreaks v levels_after.rows (seen 2) place) (gives.settings ∙ taking.levels_are) (gives.malformed_after seen told place (ap Err is)))
+        (λ place is. subst (λ (v : Numbers). OneBreaks v written levels_after.rows (seen 2) place) (gives.settings ∙ taking.levels_are) (gives.malformed_after seen told place (ap Err is)))
         file at same;
     framed = λ seen told some. tt;
     whole = λ seen told some at same.
@@ -160,12 +160,12 @@ module _ {B : Type 0} {bays : Bays B} (lawful : IsLawful bays) {t : Tallied} {ls
               (others_long taking (seen 2) some) (others_young taking (seen 2) some) seen told (others_frames taking (seen 2) some) after_files told_after));
           whole = λ seen told some at same. (let never : ⊥ = cc in never);
           images = λ seen told held each after_files told_after.
-              let each_now : InEach (bays.leaves bay) 2 (HoldsBins ls (t.listing.events ++ key ∷ []) t.rows) =
-              λ image may. subst (λ (v : Numbers). HoldsBins v (t.listing.events ++ key ∷ []) t.rows (image 2)) (sym taking.levels_are) (frames_more t.listing.settings taking.valid t.listing.events
+              let each_now : InEach (bays.leaves bay) 2 (HoldsBins ls written (t.listing.events ++ key ∷ []) t.rows) =
+              λ image may. subst (λ (v : Numbers). HoldsBins v written (t.listing.events ++ key ∷ []) t.rows (image 2)) (sym taking.levels_are) (frames_more t.listing.settings taking.valid t.listing.events
               (key ∷ []) t.rows (image 2) taking.counted.rows (each image may)) in
               let stay = gives.images (t.listing.events ++ key ∷ []) long now_young seen told (now_frames seen held) each_now in
-              subst (λ (keys : List ℕ). InEach (bays.leaves bay_after) 2 (HoldsBins t.listing.settings keys levels_after.rows)) (sym events_are)
-              (subst (λ (v : Numbers). InEach (bays.leaves bay_after) 2 (HoldsBins v (t.listing.events ++ key ∷ []) levels_after.rows)) taking.levels_are (stay after_files told_after));
+              subst (λ (keys : List ℕ). InEach (bays.leaves bay_after) 2 (HoldsBins t.listing.settings written keys levels_after.rows)) (sym events_are)
+              (subst (λ (v : Numbers). InEach (bays.leaves bay_after) 2 (HoldsBins v written (t.listing.events ++ key ∷ []) levels_after.rows)) taking.levels_are (stay after_files told_after));
           rest = rest_here (Ok tt) gives;
           kept = keeps_as bays lawful bay bay_after _ _ (λ same. absurd (let never : ⊥ = cc in never)) gives.kept;
         }

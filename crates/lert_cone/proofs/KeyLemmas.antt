@@ -1,6 +1,7 @@
 -- Keys of a cone: one by one, and by their tails.
 use Rattle.std.proofs.Common.{ℕ, ◌≡◌, ◌≢◌, ◌+◌, ◌-◌, ◌*◌, ◌/◌, ◌%◌, ◌^◌, ◌<◌, ◌≤◌, zero, suc, cond, eqb, List, [], ◌∷◌, ◌++◌, take, drop, refl, ap, sym, ◌∙◌, arith, inl, inr, slice_range}
 use Rattle.std.proofs.{lemmas.Bool.{cases_eq, eq-eqb, ne_eqb}, lemmas.List.Sums.sum_by-cons, lemmas.Nat.{mul-add-lt, shr_high, mod_low, pow-add}}
+use Rattle.lert_spec.specs.Edges.{tail_bits}
 use Rattle.lert_spec.specs.{declared.numbers.Numbers.Numbers, Bins.tallied, Counts.count, Mix.{mix, cone_of, tail_of}, Table.count_of}
 use Rattle.lert_spec.proofs.{LookLaws.AreKeys, MixLaws.{unmixed_below, mix-unmixed, one_key, tail_below}, ReportLaws.{times, times-cons_same, times-cons_other}, TailLaws.{AreOfCone, key_with}}
 use Rattle.lert_spec.proofs.TallyLaws.{tails, count_of-tallied}
@@ -68,31 +69,31 @@ count-tail s cone key from to events below is fit own =
 
 -- the key that has a cone and a tail
 module _ (s : Numbers) (cone : ℕ) (bits : s.cone_bits ≤ 64) (named : cone < 2 ^ s.cone_bits) where
-  module _ (tail : ℕ) (below : tail < 2 ^ (64 - s.cone_bits)) where
-    joined_below : cone * 2 ^ (64 - s.cone_bits) + tail < 2 ^ 64
+  module _ (tail : ℕ) (below : tail < 2 ^ tail_bits s) where
+    joined_below : cone * 2 ^ tail_bits s + tail < 2 ^ 64
     joined_below =
-        let whole : 64 - s.cone_bits + s.cone_bits ≡ 64 = omega arith in
-        let power = sym (pow-add 2 (64 - s.cone_bits) s.cone_bits) ∙ ap (λ n. 2 ^ n) whole in
-        omega (arith, mul-add-lt cone (2 ^ (64 - s.cone_bits)) tail (2 ^ s.cone_bits) named below, power)
+        let whole : tail_bits s + s.cone_bits ≡ 64 = omega arith in
+        let power = sym (pow-add 2 (tail_bits s) s.cone_bits) ∙ ap (λ n. 2 ^ n) whole in
+        omega (arith, mul-add-lt cone (2 ^ tail_bits s) tail (2 ^ s.cone_bits) named below, power)
 
-    mix-key_with : mix (key_with s cone tail) ≡ cone * 2 ^ (64 - s.cone_bits) + tail
-    mix-key_with = mix-unmixed (cone * 2 ^ (64 - s.cone_bits) + tail) joined_below
+    mix-key_with : mix (key_with s cone tail) ≡ cone * 2 ^ tail_bits s + tail
+    mix-key_with = mix-unmixed (cone * 2 ^ tail_bits s + tail) joined_below
 
     pub key_with_below : key_with s cone tail < 2 ^ 64
-    key_with_below = unmixed_below (cone * 2 ^ (64 - s.cone_bits) + tail) joined_below
+    key_with_below = unmixed_below (cone * 2 ^ tail_bits s + tail) joined_below
 
     pub cone-key_with : cone_of s (key_with s cone tail) ≡ cone
-    cone-key_with = ap (λ m. m / 2 ^ (64 - s.cone_bits)) mix-key_with ∙ shr_high cone (64 - s.cone_bits) tail below
+    cone-key_with = ap (λ m. m / 2 ^ tail_bits s) mix-key_with ∙ shr_high cone (tail_bits s) tail below
 
     tail-key_with : tail_of s (key_with s cone tail) ≡ tail
-    tail-key_with = ap (λ m. m % 2 ^ (64 - s.cone_bits)) mix-key_with ∙ mod_low cone (64 - s.cone_bits) tail below
+    tail-key_with = ap (λ m. m % 2 ^ tail_bits s) mix-key_with ∙ mod_low cone (tail_bits s) tail below
 
     -- is the only one
     pub key_with_is : (key : ℕ) → ((k : ℕ) → k < 2 ^ 64 → cone_of s k ≡ cone → tail_of s k ≡ tail → key ≡ k) → key ≡ key_with s cone tail
     key_with_is key only = only (key_with s cone tail) key_with_below cone-key_with tail-key_with
 
   -- another tail's key is another one
-  pub other_tail : (tail other : ℕ) → tail < 2 ^ (64 - s.cone_bits) → other < 2 ^ (64 - s.cone_bits) → other ≢ tail → key_with s cone other ≢ key_with s cone tail
+  pub other_tail : (tail other : ℕ) → tail < 2 ^ tail_bits s → other < 2 ^ tail_bits s → other ≢ tail → key_with s cone other ≢ key_with s cone tail
   other_tail tail other below under differs same = differs (sym (tail-key_with other under) ∙ ap (tail_of s) same ∙ tail-key_with tail below)
 
   -- a key of the cone is the one with its tail

@@ -15,6 +15,7 @@ use Rattle.lert_cone.specs.Tally.{Tallied, IsCounted, IsHeld}
 use Rattle.lert_cone.proofs.{LogLaws.{LogsNext, log_between, log_at_flush, payload_is}, FlushLaws.last_flush_grows, JournalPlaceLaws.{edge_grows, may_name, names_pushed, oldest_names}}
 use Rattle.lert_cone.proofs.{RecordLaws.payload_is_at, Calls.{alone_rest, now_since, settled_alone}}
 use Rattle.lert_cone.proofs.StepLaws.{journal_since, log_since, frames_since, sound_of, with_or_without, with_record, header_since}
+use Rattle.lert_levels.specs.OnDisk.{written}
 
 -- a part of the keys is taken
 pub partway_less : (s : Numbers) (history : List Packet) (events more : List ℕ) → IsPartway s history events more → IsPartway s history events []
@@ -40,14 +41,14 @@ next_payload log kind n0 rows logged reports named_is =
 module _ (leaves since : Files → Type 0) (seen : Files) (history : List Packet) (t : Tallied) (log : LogPlace)
     (counted : IsCounted t) (up : IsInStep leaves seen history t.listing t.rows t.due.reports log) (read : leaves seen)
     (journal_keeps : Keeps since seen 0 0 (length (seen 0))) (log_keeps : Keeps since seen 1 0 (length (seen 1)))
-    (frames_keep : (from to : ℕ) → InNamed t.listing.settings t.rows from to → IsSettled leaves seen 2 from to → Keeps since seen 2 from to) where
+    (frames_keep : (from to : ℕ) → InNamed t.listing.settings written t.rows from to → IsSettled leaves seen 2 from to → Keeps since seen 2 from to) where
   pub journal_here : InEach since 0 (IsJournal t.listing.settings t.listing.cone history)
   journal_here = journal_since since seen t.listing.settings t.listing.cone history (up.journal seen read) journal_keeps
 
   pub log_here : InEach since 1 (λ bytes. HasLog t.listing.settings t.listing.cone bytes up.logged log.gate)
   log_here = log_since since seen t.listing.settings t.listing.cone up.logged log.gate (up.log_there seen read) log_keeps
 
-  pub frames_here : InEach since 2 (HoldsBins t.listing.settings t.listing.events t.rows)
+  pub frames_here : InEach since 2 (HoldsBins t.listing.settings written t.listing.events t.rows)
   frames_here = frames_since leaves since seen t.listing.settings t.listing.events t.rows counted.valid counted.are read up.frames frames_keep
 
   -- they stay sound
@@ -68,7 +69,7 @@ module _ (leaves since : Files → Type 0) (seen : Files) (s : Numbers) (cone : 
   pub journal_beside : InEach since 0 (IsJournal s cone history)
   journal_beside = journal_since since seen s cone history (journal seen read) (others 0 0 (length (seen 0)) (λ same. absurd (omega (arith, same))) journal_settled)
 
-  pub frames_beside : (events : List ℕ) (rows : List (List BinAt)) → IsValid s → AreRows s rows → InEach leaves 2 (HoldsBins s events rows) → InEach since 2 (HoldsBins s events rows)
+  pub frames_beside : (events : List ℕ) (rows : List (List BinAt)) → IsValid s → AreRows s rows → InEach leaves 2 (HoldsBins s written events rows) → InEach since 2 (HoldsBins s written events rows)
   frames_beside events rows valid are holds = frames_since leaves since seen s events rows valid are read holds (λ from to named. others 2 from to (λ same. absurd (omega (arith, same))))
 
   pub log_beside : InEach since 1 (IsWithOrWithout (most_record s) 8 (map log_payload_of logged) gate payload) → (image : Files) → since image →
@@ -96,8 +97,8 @@ pub record IsTaken (leaves : Files → Type 0) (seen : Files) (history : List Pa
   pub journal_settled : IsWhollySettled leaves seen 0
   pub log_there : InEach leaves 1 (λ bytes. HasLog t.listing.settings t.listing.cone bytes logged log.gate)
   pub log_settled : IsWhollySettled leaves seen 1
-  pub frames_before : InEach leaves 2 (HoldsBins t.listing.settings t.listing.events t.rows)
-  pub frames : InEach leaves 2 (HoldsBins a.listing.settings a.listing.events a.rows)
+  pub frames_before : InEach leaves 2 (HoldsBins t.listing.settings written t.listing.events t.rows)
+  pub frames : InEach leaves 2 (HoldsBins a.listing.settings written a.listing.events a.rows)
   pub reports_are : a.due.reports ≡ reports_of a.listing
   pub begins : NamesRecord t.listing.settings history (last_n0 logged) (last_place logged)
   pub placed : ArePlacesIn history log.places
@@ -209,8 +210,8 @@ module _ (leaves : Files → Type 0) (seen : Files) (history : List Packet) (t a
       payload_here = payload_is ∙ ap (λ n. payload_at log LogKind.Flush n (directory_text a.rows) a.due.reports) n_is ∙ next_payload log LogKind.Flush (suc
           (length t.listing.events)) a.rows logged a.due.reports taken.named_is
 
-      frames_new : InEach leaves 2 (HoldsBins t.listing.settings (t.listing.events ++ key ∷ []) a.rows)
-      frames_new image may = to_listing (λ s cone events closed. HoldsBins s events a.rows (image 2)) (taken.frames image may)
+      frames_new : InEach leaves 2 (HoldsBins t.listing.settings written (t.listing.events ++ key ∷ []) a.rows)
+      frames_new image may = to_listing (λ s cone events closed. HoldsBins s written events a.rows (image 2)) (taken.frames image may)
 
       -- in each image of each moment of the append
       pub sound_append : InEach since 1 (IsWithOrWithout (most_record t.listing.settings) 8 (map log_payload_of logged) log.gate payload) → IsPartway t.listing.settings history t.listing.events
@@ -257,7 +258,7 @@ module _ (leaves : Files → Type 0) (seen : Files) (history : List Packet) (t a
             log_there = λ image may. of_listing (λ s cone events closed. HasLog s cone (image 1) (logged ++ one ∷ []) log_after.gate)
                 (log_behind leaves since seen s cone history logged one log.gate payload taken.read taken.journal taken.journal_settled taken.log_there next.is.rules payload_here others earlier
                 after log_after.gate now stands image may);
-            frames = λ image may. of_listing (λ s cone events closed. HoldsBins s events a.rows (image 2))
+            frames = λ image may. of_listing (λ s cone events closed. HoldsBins s written events a.rows (image 2))
                 (frames_beside leaves since seen s cone history logged one log.gate payload taken.read taken.journal taken.journal_settled taken.log_there next.is.rules payload_here others earlier
                 (t.listing.events ++ key ∷ []) a.rows before.valid rows_are frames_new image (now image may));
             journal_settled = journal_settled;
@@ -278,7 +279,7 @@ held_of leaves seen history t log read up = record { frames = up.frames seen rea
 
 -- taking a key writes no frame that the rows name
 module _ {B : Type 0} (bays : Bays B) (lawful : IsLawful bays) (bay bay_after : B) (history : List Packet) (t : Tallied) (log : LogPlace)
-    (rest : KeepsRest bays (InNamed t.listing.settings t.rows) bay bay_after)
+    (rest : KeepsRest bays (InNamed t.listing.settings written t.rows) bay bay_after)
     (time : Lasts (bays.moment bay) (bays.moment bay_after) (bays.left_since bay) (bays.left_since bay_after))
     (counted : IsCounted t) (still : t.listing.closed ≡ false) (seen : Files) (told : bays.files bay ≡ Some seen)
     (up : IsInStep (bays.leaves bay) seen history t.listing t.rows t.due.reports log) where
@@ -288,7 +289,7 @@ module _ {B : Type 0} (bays : Bays B) (lawful : IsLawful bays) (bay bay_after : 
   log_kept : Keeps (bays.left_since bay_after (bays.moment bay)) seen 1 0 (length (seen 1))
   log_kept = rest.settled seen told 1 0 (length (seen 1)) (inl (λ same. absurd (omega (arith, same)))) up.log_settled
 
-  frames_kept : (from to : ℕ) → InNamed t.listing.settings t.rows from to → IsSettled (bays.leaves bay) seen 2 from to → Keeps (bays.left_since bay_after (bays.moment bay)) seen 2 from to
+  frames_kept : (from to : ℕ) → InNamed t.listing.settings written t.rows from to → IsSettled (bays.leaves bay) seen 2 from to → Keeps (bays.left_since bay_after (bays.moment bay)) seen 2 from to
   frames_kept from to named settled = rest.settled seen told 2 from to (inr named) settled
 
   pub sound_rest : (more : List ℕ) → IsPartway t.listing.settings history t.listing.events more → (image : Files) → bays.left_since bay_after (bays.moment bay) image →
@@ -299,7 +300,7 @@ module _ {B : Type 0} (bays : Bays B) (lawful : IsLawful bays) (bay bay_after : 
 
   pub taken_of : (a : Tallied) (key : ℕ) → a.listing ≡ record t.listing { events = t.listing.events ++ key ∷ [] } → (after : Files) → bays.files bay_after ≡ Some after →
       bays.leaves bay_after after →
-      InEach (bays.leaves bay_after) 2 (HoldsBins a.listing.settings a.listing.events a.rows) → a.due.reports ≡ reports_of a.listing →
+      InEach (bays.leaves bay_after) 2 (HoldsBins a.listing.settings written a.listing.events a.rows) → a.due.reports ≡ reports_of a.listing →
       (places : Places) → ArePlacesIn history places → places.settings ≡ t.listing.settings → places.passed ≡ suc (length t.listing.events) → places.from ≡ log.places.from →
       IsTaken (bays.leaves bay_after) after history t a (record log { places = places }) up.logged key
   taken_of a key listing_is after told_after read_after frames reports places placed same passed from_is = record {

@@ -45,6 +45,7 @@ pub mod SomeLaws
 pub mod StandLaws
 pub mod StateLaws
 pub mod StepLaws
+pub mod Stepping
 pub mod TakeLaws
 pub mod TallyLaws
 pub mod TextLaws

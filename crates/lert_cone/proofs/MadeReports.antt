@@ -4,7 +4,7 @@ use Rattle.std.proofs.{Common.{subst, length-append, append_assoc}, lemmas.Bool.
 use Rattle.std.proofs.{lemmas.List.{append-nil, length-map, length-take, take-append-le, take-append-drop, get_or-map}, lemmas.List.Elements.{All-nil, All-cons, All-append, All-map, All-weaker}}
 use Rattle.std.proofs.lemmas.List.Sums.{sum_by-cons}
 use Rattle.std.specs.{Prelude.count_by, List.AllPairs, List.Sorted.IsNonDecreasing}
-use Rattle.lert_spec.specs.{declared.numbers.Numbers.Numbers, declared.report.Report.Report, Counts.count, Edges.{capacity, lookback}, Limits.IsValid}
+use Rattle.lert_spec.specs.{declared.numbers.Numbers.Numbers, declared.report.Report.Report, Counts.{count, plain}, Edges.{capacity, lookback}, Limits.IsValid}
 use Rattle.lert_spec.specs.{Look.{insert_mixed, mixed_order, is_due, with_due, look_to, look, closing}, Mix.{mix, cone_of}, Timely.times_listed}
 use Rattle.lert_spec.proofs.{LookLaws.{AreKeys, AreKeys-mixed_order, AreKeys-filter, look_to-append}, ReportLaws.{insert_before, insert_same, insert_behind}}
 use Rattle.lert_spec.proofs.{TailLaws.{AreOfCone, AreKeys-take, AreKeys-drop}, TimeBound.{IsTimely-closing, IsTimelySoFar-look}}
@@ -101,7 +101,7 @@ module _ (s : Numbers) (cone : ℕ) where
       All-append (IsReport s cone to) reports (map (λ key. record { key = key; at = to }) due)
       (All-weaker (IsReport s cone n) (IsReport s cone to) (λ report is. record { fits = is.fits; own = is.own; from = is.from; to = omega (arith, is.to, later) }) reports are)
       (All-map (IsReport s cone to) (λ (key : ℕ). record { key = key; at = to }) due
-      (keys_each to due some (AreKeys-filter test (mixed_order events) (AreKeys-mixed_order events fit)) (own_filter test (mixed_order events) (own_mixed events own))))
+      (keys_each to due some (AreKeys-filter test (mixed_order events) (AreKeys-mixed_order plain events fit)) (own_filter test (mixed_order events) (own_mixed events own))))
 
   look_each : (events : List ℕ) (m : ℕ) → AreKeys events → AreOfCone s cone events → All (IsReport s cone m) (look_to s events m)
   look_each events zero fit own = All-nil (IsReport s cone 0)
@@ -185,7 +185,7 @@ look_first s events n positive keys within =
     let first = take n events in
     let long : length first ≡ n = length-take n events ∙ omega (arith, within) in
     ap (look_to s first) long
-    ∙ sym (look_to-append s first (drop n events) n positive (AreKeys-take n events keys) (AreKeys-drop n events keys) (omega (arith, long)))
+    ∙ sym (look_to-append plain s first (drop n events) n positive (AreKeys-take n events keys) (AreKeys-drop n events keys) (omega (arith, long)))
     ∙ ap (λ xs. look_to s xs n) (take-append-drop n events)
 
 -- what the log lists begins the reports that are made later

@@ -63,7 +63,7 @@ module _ (s : Numbers) (valid : IsValid s) where
       all_long : length all ≡ suc (length events)
       all_long = omega (arith, length-append events (key ∷ []))
 
-      from_again : edge s 0 n0 < suc (length events) → (with_event y tail (suc (length events))).from ≡ edge s 0 n0
+      from_again : edge s 0 n0 < suc (length events) → (with_event y tail 1 (suc (length events))).from ≡ edge s 0 n0
       from_again above = elim (cases_eq (length events) (edge s 0 n0)) [
         | inl same ↦ (
             let one : y.from ≡ y.to = none_from same ∙ sym (none_to same) in
@@ -80,12 +80,12 @@ module _ (s : Numbers) (valid : IsValid s) where
         | inr later ↦ (let further : edge s 0 n0 < length events = omega arith in (rising.bins further).is)
       ]
 
-      bins_again : edge s 0 n0 < suc (length events) → (with_event y tail (suc (length events))).bins ≡ young_bins s all (edge s 0 n0)
+      bins_again : edge s 0 n0 < suc (length events) → (with_event y tail 1 (suc (length events))).bins ≡ young_bins s all (edge s 0 n0)
       bins_again above =
-          (λ i. added (settings i) (bins_before above i) (tail_is i) (suc (length events)))
+          (λ i. added (settings i) (bins_before above i) (tail_is i) 1 (suc (length events)))
           ∙ sym (young-added s events key (edge s 0 n0) (wide s valid) (aligned s valid n0) (omega arith))
 
-      counted_again : edge s 0 n0 < suc (length events) → IsRising s n0 all (with_event y tail (suc (length events)))
+      counted_again : edge s 0 n0 < suc (length events) → IsRising s n0 all (with_event y tail 1 (suc (length events)))
       counted_again above = record {
         made = λ none. absurd (omega (arith, all_long));
         from = λ _. from_again above;
@@ -101,14 +101,14 @@ module _ (s : Numbers) (valid : IsValid s) where
         bins = λ above. absurd (omega (arith, all_long));
       }
 
-      pub rising_more : (next : Young) → next ≡ cond (ltb (edge s 0 n0) (suc (length events))) (with_event y tail (suc (length events))) y → IsRising s n0 all next
+      pub rising_more : (next : Young) → next ≡ cond (ltb (edge s 0 n0) (suc (length events))) (with_event y tail 1 (suc (length events))) y → IsRising s n0 all next
       rising_more next next_is =
           let m = suc (length events) in
           elim (cases_lt (edge s 0 n0) m) [
             | inl above ↦ subst (λ (v : Young). IsRising s n0 all v)
-                (sym (next_is ∙ ap (λ t. cond t (with_event y tail m) y) (lt-ltb (edge s 0 n0) m above))) (counted_again above)
+                (sym (next_is ∙ ap (λ t. cond t (with_event y tail 1 m) y) (lt-ltb (edge s 0 n0) m above))) (counted_again above)
             | inr below ↦ subst (λ (v : Young). IsRising s n0 all v)
-                (sym (next_is ∙ ap (λ t. cond t (with_event y tail m) y) (le-ltb (edge s 0 n0) m below))) (numbered_again below)
+                (sym (next_is ∙ ap (λ t. cond t (with_event y tail 1 m) y) (le-ltb (edge s 0 n0) m below))) (numbered_again below)
           ]
 
 -- level 0 at n0 itself is that of its events
@@ -200,7 +200,7 @@ module _ (t : Tallied) (n0 : ℕ) (recounted : IsRecounted t n0) (settings : t.y
       (omega (arith, ap (λ (v : Numbers). edge v 0 n0) settings)))
 
   module _ (below : key < 2 ^ 64) (is_own : cone_of t.listing.settings key ≡ t.listing.cone) (next : Young)
-      (next_is : next ≡ cond (ltb (edge t.young.settings 0 n0) m) (with_event t.young tail m) t.young) where
+      (next_is : next ≡ cond (ltb (edge t.young.settings 0 n0) m) (with_event t.young tail 1 m) t.young) where
     abbrev more : List ℕ
     more = t.listing.events ++ key ∷ []
 
@@ -209,7 +209,7 @@ module _ (t : Tallied) (n0 : ℕ) (recounted : IsRecounted t n0) (settings : t.y
 
     risen : IsRising t.listing.settings n0 more next
     risen = rising_more t.listing.settings recounted.valid n0 t.listing.events t.young (recounted.young before) settings before recounted.n0_fits key tail tail_is next
-        (next_is ∙ (λ i. cond (ltb (edge (settings i) 0 n0) (m_is i)) (with_event t.young tail (m_is i)) t.young))
+        (next_is ∙ (λ i. cond (ltb (edge (settings i) 0 n0) (m_is i)) (with_event t.young tail 1 (m_is i)) t.young))
 
     pub recounted_more : (after : Tallied) → after ≡ record t { listing = record t.listing { events = more }; young = next } → IsRecounted after n0
     recounted_more after after_is =
@@ -268,6 +268,6 @@ pub counted_from_none : (t : Tallied) → IsRecounted t 0 → IsCounted t
 counted_from_none t recounted = recounted.behind (omega arith)
 
 -- level 0 keeps its settings, whether a key is counted again or not
-pub again_settings : (counts : Bool) (y next : Young) (tail m : ℕ) → next ≡ cond counts (with_event y tail m) y → next.settings ≡ y.settings
+pub again_settings : (counts : Bool) (y next : Young) (tail m : ℕ) → next ≡ cond counts (with_event y tail 1 m) y → next.settings ≡ y.settings
 again_settings true y next tail m is = ap (λ (v : Young). v.settings) is
 again_settings false y next tail m is = ap (λ (v : Young). v.settings) is

@@ -8,6 +8,7 @@ use Rattle.lert_spec.proofs.{EdgeLaws.edge_descends_to, LookLaws.slice_range-app
 use Rattle.lert_levels.specs.{declared.rows.bin_at.BinAt.BinAt, rows.Ranges.young_bins, rows.Rows.{row_of, IsAt, HoldsBins, tallied_in}}
 use Rattle.lert_levels.proofs.{rows.RangeLaws.{IsCut, cuts_are, edge_within}, rows.RowLaws.All-ranges}
 use Rattle.lert_cone.specs.{Framed.HoldsSome, Tally.Tallied}
+use Rattle.lert_levels.specs.OnDisk.{written}
 
 module _ (s : Numbers) (valid : IsValid s) where
   -- the bins of the older levels end where level 0 begins
@@ -22,15 +23,15 @@ module _ (s : Numbers) (valid : IsValid s) where
       λ k d inside. (let cut = All-ranges (IsCut wide high) (row_of rows level) cuts k d inside in omega (arith, cut.end, below))
 
   -- so further events behind those of the older levels change nothing, and neither does it to leave them out
-  some_more : (n : ℕ) (rows : List (List BinAt)) (events others file : List ℕ) → IsAt s n rows → length events ≡ edge s 0 n → HoldsBins s events rows file →
-      HoldsBins s (events ++ others) rows file
+  some_more : (n : ℕ) (rows : List (List BinAt)) (events others file : List ℕ) → IsAt s n rows → length events ≡ edge s 0 n → HoldsBins s written events rows file →
+      HoldsBins s written (events ++ others) rows file
   some_more n rows events others file at len holds level from within k d below =
       let end = bins_under n rows at level from within k d below in
       let bin = get_or (row_of rows level) k d in
       let same : tallied_in s events bin ≡ tallied_in s (events ++ others) bin = ap (tallied s) (sym (slice_range-append events others bin.from bin.to (omega (arith, end, len)))) in
-      subst (HoldsFrame s level bin.frame file) same (holds level from within k d below)
+      subst (HoldsFrame s written level bin.frame file) same (holds level from within k d below)
 
-  some_fewer : (n : ℕ) (rows : List (List BinAt)) (events file : List ℕ) → IsAt s n rows → edge s 0 n ≤ length events → HoldsBins s events rows file → HoldsSome s n rows file
+  some_fewer : (n : ℕ) (rows : List (List BinAt)) (events file : List ℕ) → IsAt s n rows → edge s 0 n ≤ length events → HoldsBins s written events rows file → HoldsSome s n rows file
   some_fewer n rows events file at long holds =
       let e = edge s 0 n in
       let front = take e events in
@@ -44,7 +45,7 @@ module _ (s : Numbers) (valid : IsValid s) where
             let same : tallied_in s events bin ≡ tallied_in s front bin =
             ap (λ all. tallied s (slice_range all bin.from bin.to)) (sym (take-append-drop e events))
             ∙ ap (tallied s) (slice_range-append front (drop e events) bin.from bin.to (omega (arith, end, len))) in
-            subst (HoldsFrame s level bin.frame file) same (holds level from within k d below));
+            subst (HoldsFrame s written level bin.frame file) same (holds level from within k d below));
       }
 
   -- the events that the frames hold, and behind them the newest of others
@@ -79,10 +80,10 @@ module _ (s : Numbers) (valid : IsValid s) where
     pub with_key_young : young_bins s with_key (edge s 0 (length events)) ≡ young_bins s (events ++ key ∷ []) (edge s 0 (length events))
     with_key_young = shadow_young (events ++ key ∷ []) some.events (edge s 0 (length events)) some.len (omega (arith, length-append events (key ∷ []), edge_within s 0 (length events)))
 
-    pub with_key_holds : HoldsBins s with_key rows file
+    pub with_key_holds : HoldsBins s written with_key rows file
     with_key_holds = some_more (length events) rows some.events (drop (edge s 0 (length events)) (events ++ key ∷ [])) file at some.len some.holds
 
-    pub with_key_some : (new_rows : List (List BinAt)) (new : List ℕ) → IsAt s (suc (length events)) new_rows → HoldsBins s with_key new_rows new →
+    pub with_key_some : (new_rows : List (List BinAt)) (new : List ℕ) → IsAt s (suc (length events)) new_rows → HoldsBins s written with_key new_rows new →
         HoldsSome s (suc (length events)) new_rows new
     with_key_some new_rows new at_new holds = some_fewer (suc (length events)) new_rows with_key new at_new (omega (arith, with_key_len, edge_within s 0 (suc (length events)))) holds
 

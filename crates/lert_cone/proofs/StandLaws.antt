@@ -56,7 +56,7 @@ module _ {B : Type 0} (files : B → Option Files) (leaves : B → Files → Typ
         named_is = refl;
         journal = new.journal;
         log_there = new.log_there;
-        frames = λ image may. HoldsBins-none s [] (image 2);
+        frames = λ image may. HoldsBins-none s 1 [] (image 2);
         journal_settled = new.journal_settled;
         log_settled = new.log_settled;
         reports_are = refl;

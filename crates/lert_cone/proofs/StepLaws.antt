@@ -15,10 +15,12 @@ use Rattle.lert_levels.specs.{declared.rows.bin_at.BinAt.BinAt, Flushed.InNamed,
 use Rattle.lert_levels.proofs.rows.RangeLaws.{bins-ranges}
 use Rattle.lert_reports.specs.{Log.{HasLog, AreRecords, listed_in, last_n0, last_directory, is_closed, log_header, most_record}, LogText.{LogRecord, log_payload_of}}
 use Rattle.lert_spec.specs.{declared.numbers.Numbers.Numbers, Bins.{Bin, bins, tallied}, Edges.span, Limits.IsValid, Look.{look, closing}}
+use Rattle.lert_spec.proofs.CostLaws.{costs-first}
 use Rattle.lert_spec.proofs.TallyLaws.{IsTable-tallied, total-tallied}
 use Rattle.lert_cone.specs.{Framed.{last_flush, flushed}, History.{most_payload, end_of}, InStep.IsPartway, Logged.IsLogOf, JournalPlaces.{NamesRecord, last_place}}
 use Rattle.lert_cone.specs.Sound.{IsJournal, IsSound, IsSoundAs, HoldFrames, HoldsDirectory, but_last}
 use Rattle.lert_cone.proofs.{FramedLaws.flushed_bins, FlushLaws.last_flush_within, WroteLaws.torn_behind}
+use Rattle.lert_levels.specs.OnDisk.{written}
 
 -- ---- what stays
 
@@ -53,18 +55,18 @@ log_since since seen s cone logged gate log keeps image may = record {
 
 -- the text of a bin's counts fits its place
 text_fits : (s : Numbers) (events : List ℕ) (level : ℕ) (bin : BinAt) → IsValid s → level ≤ s.levels → bin.to - bin.from ≤ span s level →
-    length (frame_text s level (tallied_in s events bin)) ≤ frame_len s level
+    length (frame_text s level (tallied_in s events bin)) ≤ frame_len s written level
 text_fits s events level bin valid last narrow =
     let keys = slice_range events bin.from bin.to in
-    text_within s level (tallied s keys) valid last (IsTable-tallied s keys) (omega (arith, total-tallied s keys, length-take (bin.to - bin.from) (drop bin.from events), narrow))
+    text_within s written level (tallied s keys) valid last (IsTable-tallied s keys) (omega (arith, costs-first (tallied s keys), total-tallied s keys, length-take (bin.to - bin.from) (drop bin.from events), narrow))
 
 -- the frames that rows name hold their bins in each image since, where what is settled in them stays so
 pub frames_since : (leaves since : Files → Type 0) (seen : Files) (s : Numbers) (events : List ℕ) (rows : List (List BinAt)) → IsValid s → AreRows s rows → leaves seen →
-    InEach leaves 2 (HoldsBins s events rows) →
-    ((from to : ℕ) → InNamed s rows from to → IsSettled leaves seen 2 from to → Keeps since seen 2 from to) → InEach since 2 (HoldsBins s events rows)
+    InEach leaves 2 (HoldsBins s written events rows) →
+    ((from to : ℕ) → InNamed s written rows from to → IsSettled leaves seen 2 from to → Keeps since seen 2 from to) → InEach since 2 (HoldsBins s written events rows)
 frames_since leaves since seen s events rows valid are read holds keeps image may level first last k d below =
     let bin = get_or (row_of rows level) k d in
-    let place = frame_place s level bin.frame in
+    let place = frame_place s written level bin.frame in
     let text = frame_text s level (tallied_in s events bin) in
     let end = place + length text in
     let fits = text_fits s events level bin valid last ((are.each level first last).widths k d below) in
@@ -84,7 +86,7 @@ frames_since leaves since seen s events rows valid are read holds keeps image ma
 -- ---- when they are sound
 
 -- a level's frames, from what its row's bins say
-to_frames : (s : Numbers) (events file : List ℕ) (level : ℕ) (row : List BinAt) → All (λ bin. HoldsFrame s level bin.frame file (tallied_in s events bin)) row →
+to_frames : (s : Numbers) (events file : List ℕ) (level : ℕ) (row : List BinAt) → All (λ bin. HoldsFrame s written level bin.frame file (tallied_in s events bin)) row →
     HoldFrames s level file (map (λ bin. bin.frame) row) (map (filled s events) (map range_of row))
 to_frames s events file level [] holds = tt
 to_frames s events file level (bin ∷ row) holds =
@@ -130,7 +132,7 @@ module _ (s : Numbers) (cone : ℕ) (history : List Packet) (events : List ℕ) 
       sym (get_or-map (λ (row : List BinAt). map (λ (bin : BinAt). bin.frame) row) rows (level - 1) [] [] (omega (arith, at.levels, first, last)))
       ∙ ap (λ (directory : List (List ℕ)). get_or directory (level - 1) []) (sym log_of.directory_is)
 
-  directory : (file : List ℕ) → HoldsBins s events rows file → HoldsDirectory s (take (last_n0 logged) (events_of history)) (last_directory s logged) file
+  directory : (file : List ℕ) → HoldsBins s written events rows file → HoldsDirectory s (take (last_n0 logged) (events_of history)) (last_directory s logged) file
   directory file holds = record {
     each = λ level first last.
         subst (λ (frames : List ℕ). HoldFrames s level file frames (bins s (take (last_n0 logged) (events_of history)) level)) (row_frames level first last)
@@ -158,7 +160,7 @@ module _ (s : Numbers) (cone : ℕ) (history : List Packet) (events : List ℕ) 
     | inr running ↦ omega (arith, n0_running running, partway.late)
   ]
 
-  pub sound_of : (files : Files) → IsJournal s cone history (files 0) → HasLog s cone (files 1) logged gate → HoldsBins s events rows (files 2) → IsSound s cone history files
+  pub sound_of : (files : Files) → IsJournal s cone history (files 0) → HasLog s cone (files 1) logged gate → HoldsBins s written events rows (files 2) → IsSound s cone history files
   sound_of files journal log holds = record {
     journal = journal;
     logged = logged;
@@ -172,7 +174,7 @@ module _ (s : Numbers) (cone : ℕ) (history : List Packet) (events : List ℕ) 
     begins = begins;
   }
 
-  pub sound_as : events ≡ events_of history → (files : Files) → IsJournal s cone history (files 0) → HasLog s cone (files 1) logged gate → HoldsBins s events rows (files 2) →
+  pub sound_as : events ≡ events_of history → (files : Files) → IsJournal s cone history (files 0) → HasLog s cone (files 1) logged gate → HoldsBins s written events rows (files 2) →
       IsSoundAs s cone closed history files
   unfolding sound_of
   sound_as all files journal log holds = record {

@@ -3,7 +3,8 @@ use Rattle.std.proofs.Common.{ℕ, ◌≡◌, ◌≢◌, ◌+◌, ◌-◌, ◌^�
 use Rattle.std.proofs.{Common.length-append, lemmas.List.{length-take, get_or-take}}
 use Rattle.std.specs.{Prelude.{MatchResult, IsErrOf}, Result.IsErrAnd}
 use Rattle.lert_bay.specs.Files.{Files}
-use Rattle.lert_spec.specs.{declared.numbers.Numbers.Numbers, declared.piece.Piece.Piece, declared.report.Report.Report, Bins.tallied, Edges.{edge, capacity}, Limits.IsValid, Look.{look, closing}}
+use Rattle.lert_spec.specs.{declared.numbers.Numbers.Numbers, declared.piece.Piece.Piece, declared.report.Report.Report, Bins.tallied, Edges.{edge, capacity, tail_bits}, Limits.IsValid}
+use Rattle.lert_spec.specs.Look.{look, closing}
 use Rattle.lert_spec.specs.{Mix.{cone_of, tail_of}, Table.IsTable}
 use Rattle.lert_spec.proofs.TallyLaws.{IsTable-tallied}
 use Rattle.lert_levels.specs.{declared.rows.bin_at.BinAt.BinAt, declared.rows.fault.FlushFault.FlushFault, declared.rows.fault.FlushFault.TheVariants.{Failed as FlushFailed, Malformed}}
@@ -12,17 +13,18 @@ use Rattle.lert_cone.specs.{declared.tally.TakeFault.TakeFault, declared.tally.T
 use Rattle.lert_cone.specs.Tally.{Tallied, IsCounted, IsHeld, AreYoung, Shows, totals_at, take_fault}
 use Rattle.lert_cone.proofs.{KeyLemmas.{AreKeys-push, AreOfCone-push}, RoomLaws.{look_fits, closing_fits}, SomeLaws.{with_key, with_key_len, with_key_young, with_key_holds, with_key_some}}
 use Rattle.lert_cone.proofs.{TallyLaws.{next_from, next_bins, frames_more}, TotalLaws.{closing_is, totals_table, look_is}}
+use Rattle.lert_levels.specs.OnDisk.{written}
 
 -- what a taker's state says of the definition: the totals of a start bring the definition's reports, or too many
 module _ (s : Numbers) (cone at : ℕ) (before all : List Report) (pieces : List Piece) (start due : Dues)
     (settings : start.settings ≡ s) (same_cone : start.cone ≡ cone) (same_before : start.before ≡ before) (same_at : start.at ≡ at)
-    (table : IsTable (2 ^ (64 - s.cone_bits)) pieces) (from : TookFrom start due pieces) (all_are : all ≡ before ++ due_reports s cone before at pieces) where
+    (table : IsTable (2 ^ tail_bits s) pieces) (from : TookFrom start due pieces) (all_are : all ≡ before ++ due_reports s cone before at pieces) where
   shown : due.before ++ due_reports due.settings due.cone due.before due.at pieces ≡ all
   shown = (λ i. (from.before_is ∙ same_before) i ++ due_reports ((from.settings_are ∙ settings) i) ((from.cone_is ∙ same_cone) i) ((from.before_is ∙ same_before) i) ((from.at_is
       ∙ same_at) i) pieces) ∙ sym all_are
 
-  table_there : IsTable (2 ^ (64 - due.settings.cone_bits)) pieces
-  table_there = subst (λ (t : Numbers). IsTable (2 ^ (64 - t.cone_bits)) pieces) (sym (from.settings_are ∙ settings)) table
+  table_there : IsTable (2 ^ tail_bits due.settings) pieces
+  table_there = subst (λ (t : Numbers). IsTable (2 ^ tail_bits t) pieces) (sym (from.settings_are ∙ settings)) table
 
   pub reports_are : due.is_full ≡ false → due.reports ≡ all
   reports_are room = from.took.reported table_there room ∙ shown
@@ -42,12 +44,12 @@ pub record IsTaking (t : Tallied) (ls : Numbers) (key tail m : ℕ) (young : You
   pub fits : length t.listing.events < capacity t.listing.settings
   pub tail_is : tail ≡ tail_of t.listing.settings key
   pub m_is : m ≡ suc (length t.listing.events)
-  pub added : young ≡ with_event t.young tail m
+  pub added : young ≡ with_event t.young tail 1 m
 
 -- where the cone was asked for as it is seen
 pub to_take : {t seen : Tallied} {ls : Numbers} {key tail len : ℕ} {young : Young} → t ≡ seen → IsCounted seen → length seen.listing.events < capacity seen.listing.settings →
     ls ≡ t.listing.settings → IsValid t.listing.settings → t.listing.cone < 2 ^ t.listing.settings.cone_bits → t.young.settings ≡ t.listing.settings →
-    tail ≡ tail_of t.listing.settings key → len ≡ length t.listing.events → young ≡ with_event t.young tail (len + 1) → IsTaking t ls key tail (len + 1) young
+    tail ≡ tail_of t.listing.settings key → len ≡ length t.listing.events → young ≡ with_event t.young tail 1 (len + 1) → IsTaking t ls key tail (len + 1) young
 to_take same counted fits levels_are valid named young_settings tail_is len_is added = record {
   levels_are = levels_are;
   valid = valid;
@@ -73,8 +75,8 @@ module _ {t : Tallied} {ls : Numbers} {key tail m : ℕ} {young : Young} (taking
       let before : m - 1 ≡ length t.listing.events = omega (arith, taking.m_is) in
       subst (λ (v : Numbers). IsAt v (m - 1) t.rows) (sym taking.levels_are) (subst (λ n. IsAt t.listing.settings n t.rows) (sym before) taking.counted.rows)
 
-  added_here : young ≡ with_event t.young tail (suc (length t.listing.events))
-  added_here = taking.added ∙ ap (with_event t.young tail) taking.m_is
+  added_here : young ≡ with_event t.young tail 1 (suc (length t.listing.events))
+  added_here = taking.added ∙ ap (with_event t.young tail 1) taking.m_is
 
   from_now : young.from ≡ edge t.listing.settings 0 (length t.listing.events)
   from_now = ap (λ (y : Young). y.from) added_here
@@ -88,9 +90,9 @@ module _ {t : Tallied} {ls : Numbers} {key tail m : ℕ} {young : Young} (taking
             ∙ ap₂ (λ (v : Numbers) (p : ℕ). young_bins v all p) (sym taking.levels_are) (sym from_now);
       }
 
-  pub frames_now : (seen : Files) → IsHeld t seen → HoldsBins ls all t.rows (seen 2)
+  pub frames_now : (seen : Files) → IsHeld t seen → HoldsBins ls written all t.rows (seen 2)
   frames_now seen held =
-      subst (λ (v : Numbers). HoldsBins v all t.rows (seen 2)) (sym taking.levels_are)
+      subst (λ (v : Numbers). HoldsBins v written all t.rows (seen 2)) (sym taking.levels_are)
       (frames_more t.listing.settings taking.valid t.listing.events (key ∷ []) t.rows (seen 2) taking.counted.rows held.frames)
 
   -- where the frames hold the bins of some events, whatever these are, level 0 has those of the same ones with the cone's newest
@@ -110,16 +112,16 @@ module _ {t : Tallied} {ls : Numbers} {key tail m : ℕ} {young : Young} (taking
           ∙ ap₂ (λ (v : Numbers) (p : ℕ). young_bins v others p) (sym taking.levels_are) (sym from_now);
     }
 
-    pub others_frames : HoldsBins ls others t.rows file
-    others_frames = subst (λ (v : Numbers). HoldsBins v others t.rows file) (sym taking.levels_are)
+    pub others_frames : HoldsBins ls written others t.rows file
+    others_frames = subst (λ (v : Numbers). HoldsBins v written others t.rows file) (sym taking.levels_are)
         (with_key_holds t.listing.settings taking.valid t.listing.events key t.rows file taking.counted.rows some)
 
-    pub others_next : (rows : List (List BinAt)) (after : List ℕ) → IsAt ls m rows → HoldsBins ls others rows after → HoldsSome t.listing.settings (length all) rows after
+    pub others_next : (rows : List (List BinAt)) (after : List ℕ) → IsAt ls m rows → HoldsBins ls written others rows after → HoldsSome t.listing.settings (length all) rows after
     others_next rows after at holds =
         subst (λ n. HoldsSome t.listing.settings n rows after) (sym taking.m_is ∙ sym all_long)
         (with_key_some t.listing.settings taking.valid t.listing.events key t.rows file taking.counted.rows some rows after
         (subst (λ n. IsAt t.listing.settings n rows) taking.m_is (subst (λ (v : Numbers). IsAt v m rows) taking.levels_are at))
-        (subst (λ (v : Numbers). HoldsBins v others rows after) taking.levels_are holds))
+        (subst (λ (v : Numbers). HoldsBins v written others rows after) taking.levels_are holds))
 
   module _ (below : key < 2 ^ 64) (own : cone_of t.listing.settings key ≡ t.listing.cone) (start due : Dues) (start_is : start ≡ started t.due m) where
     start_settings : start.settings ≡ t.listing.settings
@@ -158,7 +160,7 @@ module _ {t : Tallied} {ls : Numbers} {key tail m : ℕ} {young : Young} (taking
       took_here = subst (λ (pieces : List Piece). TookFrom start due pieces)
           ((λ i. totals_at (taking.levels_are i) all (taking.m_is i) (taking.tail_is i))) took
 
-      table : IsTable (2 ^ (64 - t.listing.settings.cone_bits)) (totals_at t.listing.settings all (suc (length t.listing.events)) (tail_of t.listing.settings key))
+      table : IsTable (2 ^ tail_bits t.listing.settings) (totals_at t.listing.settings all (suc (length t.listing.events)) (tail_of t.listing.settings key))
       table = totals_table t.listing.settings t.listing.cone t.listing.events taking.valid taking.named taking.counted.keys taking.counted.own key below own
 
       all_looked : look t.listing.settings all ≡ look t.listing.settings t.listing.events ++ due_reports t.listing.settings t.listing.cone (look t.listing.settings t.listing.events) (suc
@@ -174,10 +176,10 @@ module _ {t : Tallied} {ls : Numbers} {key tail m : ℕ} {young : Young} (taking
 
       pub held_next : (next : Young) (rows : List (List BinAt)) (now : Tallied) (after : Files) →
           now ≡ record { listing = record t.listing { events = all }; young = next; rows = rows; due = due } →
-          due.is_full ≡ false → HoldsBins ls all rows (after 2) → IsHeld now after
+          due.is_full ≡ false → HoldsBins ls written all rows (after 2) → IsHeld now after
       held_next next rows now after now_is room frames =
           subst (λ (v : Tallied). IsHeld v after) (sym now_is) (record {
-            frames = subst (λ (v : Numbers). HoldsBins v all rows (after 2)) taking.levels_are frames;
+            frames = subst (λ (v : Numbers). HoldsBins v written all rows (after 2)) taking.levels_are frames;
             reports = reports_are t.listing.settings t.listing.cone (suc (length t.listing.events)) (look t.listing.settings t.listing.events) (look t.listing.settings all)
                 (totals_at t.listing.settings all (suc (length t.listing.events)) (tail_of t.listing.settings key)) start due
                 start_settings start_cone (ap (λ (d : Dues). d.before) start_is ∙ looked) (ap (λ (d : Dues). d.at) start_is ∙ taking.m_is) table took_here all_looked room
@@ -199,8 +201,8 @@ module _ (t : Tallied) (ls : Numbers) (levels_are : ls ≡ t.listing.settings) (
   pub young_end : AreYoung ls t.listing.events t.young.from t.young.bins
   young_end = record { is = counted.bins.is ∙ (λ i. young_bins (sym levels_are i) t.listing.events (sym counted.from i)) }
 
-  pub frames_end : (seen : Files) → IsHeld t seen → HoldsBins ls t.listing.events t.rows (seen 2)
-  frames_end seen held = subst (λ (v : Numbers). HoldsBins v t.listing.events t.rows (seen 2)) (sym levels_are) held.frames
+  pub frames_end : (seen : Files) → IsHeld t seen → HoldsBins ls written t.listing.events t.rows (seen 2)
+  frames_end seen held = subst (λ (v : Numbers). HoldsBins v written t.listing.events t.rows (seen 2)) (sym levels_are) held.frames
 
   module _ (at : ℕ) (at_is : at ≡ length t.listing.events) (start due : Dues) (start_is : start ≡ started t.due at) where
     settings_end : start.settings ≡ t.listing.settings
@@ -260,7 +262,7 @@ err_is (Err taken) fault is fine file at same = sound_fault fault fine file at (
 
 -- what a call that hands on a fault shows, where the fault is of a frame
 pub shows_frame : (result : Result (Unit {0}) TakeFault) (fault : FlushFault) → IsErrAnd result (λ taken. taken ≡ take_fault fault) →
-    (s : Numbers) (rows : List (List BinAt)) (reports : List Report) (frames : List ℕ) → ((at : ℕ) → fault ≡ Malformed at → OneBreaks s rows frames at) →
+    (s : Numbers) (rows : List (List BinAt)) (reports : List Report) (frames : List ℕ) → ((at : ℕ) → fault ≡ Malformed at → OneBreaks s written rows frames at) →
     (file at : ℕ) → IsErrOf result (Unsound file at) → Shows s rows reports frames file at
 shows_frame (Ok done) fault is s rows reports frames breaks file at same = absurd is
 shows_frame (Err taken) FlushFailed is s rows reports frames breaks file at same = cc
@@ -268,7 +270,7 @@ shows_frame (Err taken) (Malformed place) is s rows reports frames breaks file a
     let frame : Unsound 2 place ≡ Unsound file at = cc in
     let number : file ≡ 2 = cc in
     let place_is : place ≡ at = cc in
-    inl (number, subst (OneBreaks s rows frames) place_is (breaks place refl))
+    inl (number, subst (OneBreaks s written rows frames) place_is (breaks place refl))
 
 -- and what a report shows that finds no room
 pub shows_full : (s : Numbers) (rows : List (List BinAt)) (reports : List Report) (frames : List ℕ) → length reports ≡ s.room →
@@ -279,13 +281,13 @@ shows_full s rows reports frames filled file at same =
     inr (number, place, filled)
 
 -- a frame of the first rows is one of all
-pub one_of_first : (s : Numbers) (depth : ℕ) (rows : List (List BinAt)) (file : List ℕ) (at : ℕ) → OneBreaks s (take depth rows) file at → OneBreaks s rows file at
+pub one_of_first : (s : Numbers) (depth : ℕ) (rows : List (List BinAt)) (file : List ℕ) (at : ℕ) → OneBreaks s written (take depth rows) file at → OneBreaks s written rows file at
 one_of_first s depth rows file at one =
     let long = length-take depth rows in
     record {
       number = one.number;
       within = omega (arith, one.within);
-      breaks = subst (λ row. RowBreaks s (one.number + 1) row file at) (get_or-take depth rows one.number [] (omega (arith, one.within))) one.breaks;
+      breaks = subst (λ row. RowBreaks s written (one.number + 1) row file at) (get_or-take depth rows one.number [] (omega (arith, one.within))) one.breaks;
     }
 
 -- a call that hands on a fault as it is

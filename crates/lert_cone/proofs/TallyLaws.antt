@@ -10,6 +10,7 @@ use Rattle.lert_levels.specs.{declared.rows.bin_at.BinAt.BinAt, rows.Ranges.{Ran
 use Rattle.lert_levels.proofs.{rows.RangeLaws.{IsCut, cuts_are, depth_moves, depth_stays, ranges_still}, rows.Windows.young_cover, rows.YoungBins.{young-added, young-dropped}}
 use Rattle.lert_cone.specs.Tally.{AreYoung, totals_at}
 use Rattle.lert_cone.proofs.TotalLaws.{edge_within}
+use Rattle.lert_levels.specs.OnDisk.{written}
 
 module _ (s : Numbers) (valid : IsValid s) where
   base : 1 ≤ s.base
@@ -50,7 +51,7 @@ module _ (s : Numbers) (valid : IsValid s) where
       free = λ _. subst (λ (t : Numbers). suc (length events) ≤ y.from + t.bins * span t 0) (sym settings) (omega (arith, next_free (length events)));
     }
 
-    pub next_from : (tail : ℕ) → (with_event y tail (suc (length events))).from ≡ edge s 0 (length events)
+    pub next_from : (tail : ℕ) → (with_event y tail 1 (suc (length events))).from ≡ edge s 0 (length events)
     next_from tail =
         elim (cases_eq y.from y.to) [
           | inl same ↦ ap (λ t. cond {A = ℕ} t (suc (length events) - 1) y.from) (eq-eqb y.from y.to same)
@@ -58,9 +59,9 @@ module _ (s : Numbers) (valid : IsValid s) where
           | inr differs ↦ ap (λ t. cond {A = ℕ} t (suc (length events) - 1) y.from) (ne_eqb y.from y.to differs) ∙ from
         ]
 
-    pub next_bins : (tail : ℕ) → tail ≡ tail_of s key → (with_event y tail (suc (length events))).bins ≡ young_bins s (events ++ key ∷ []) (edge s 0 (length events))
+    pub next_bins : (tail : ℕ) → tail ≡ tail_of s key → (with_event y tail 1 (suc (length events))).bins ≡ young_bins s (events ++ key ∷ []) (edge s 0 (length events))
     next_bins tail tail_is =
-        (λ i. (with_event (record { settings = settings i; from = y.from; to = y.to; bins = bins i }) (tail_is i) (suc (length events))).bins)
+        (λ i. (with_event (record { settings = settings i; from = y.from; to = y.to; bins = bins i }) (tail_is i) 1 (suc (length events))).bins)
         ∙ sym (young-added s events key (edge s 0 (length events)) wide (aligned (length events)) (edge_within s 0 (length events)))
 
   -- a flush drops the oldest bin of level 0
@@ -137,9 +138,9 @@ module _ (s : Numbers) (valid : IsValid s) where
     slice_same level first last k d within =
         slice_range-append events others (get_or (row_of rows level) k d).from (get_or (row_of rows level) k d).to (ends (length events) rows at level first last k d within)
 
-    pub frames_more : HoldsBins s events rows file → HoldsBins s (events ++ others) rows file
+    pub frames_more : HoldsBins s written events rows file → HoldsBins s written (events ++ others) rows file
     frames_more holds level first last k d within =
-        subst (λ keys. HoldsFrame s level (get_or (row_of rows level) k d).frame file (tallied s keys)) (sym (slice_same level first last k d within))
+        subst (λ keys. HoldsFrame s written level (get_or (row_of rows level) k d).frame file (tallied s keys)) (sym (slice_same level first last k d within))
         (holds level first last k d within)
 
   -- before the first event no level has a bin

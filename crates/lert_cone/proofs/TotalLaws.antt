@@ -1,7 +1,8 @@
 -- The reports that the next key brings, and those of the end, by the totals that a taker gets.
 use Rattle.std.proofs.Common.{ℕ, ◌≡◌, ◌+◌, ◌-◌, ◌^◌, ◌<◌, ◌≤◌, suc, Bool, true, false, cond, leb, not, ◌&&◌, List, [], ◌∷◌, ◌++◌, length, map, ap, sym, ◌∙◌, arith, inl, inr, subst, slice_range}
 use Rattle.std.proofs.{Common.length-append, Math.Nat.mul-div-le, Math.Seq.take-length, lemmas.Bool.{cases_eq, eq-eqb, ne_eqb}, lemmas.Slice.between_from_start}
-use Rattle.lert_spec.specs.{declared.numbers.Numbers.Numbers, declared.piece.Piece.Piece, declared.report.Report.Report, Bins.tallied, Counts.count, Edges.{span, offset, edge, depth, lookback}}
+use Rattle.lert_spec.specs.{declared.numbers.Numbers.Numbers, declared.piece.Piece.Piece, declared.report.Report.Report, Bins.tallied, Counts.{count, plain}}
+use Rattle.lert_spec.specs.Edges.{span, offset, edge, depth, lookback, tail_bits}
 use Rattle.lert_spec.specs.{Limits.IsValid, Look.{is_listed, look, closing}, Mix.{cone_of, tail_of}, Table.{count_of, IsTable}}
 use Rattle.lert_spec.proofs.{CountLaws.{count-append, count-push}, EdgeLaws.deepest_reaches, LookLaws.{AreKeys, look-push, look-push_between}, MixLaws.tail_below}
 use Rattle.lert_spec.proofs.{TailLaws.{AreOfCone, key_with, due_by_tails}, TallyLaws.IsTable-tallied, WindowLaws.{count_parts, count_never_falls}}
@@ -67,18 +68,18 @@ module _ (s : Numbers) (cone : ℕ) (events : List ℕ) (valid : IsValid s) (nam
         let from = edge s 0 (length events) in
         let early = edge_within s 0 (length events) in
         let longer : length all ≡ suc (length events) = omega (arith, length-append events (key ∷ [])) in
-        let whole = ap (count key all 0) (sym longer) ∙ count-push key events key ∙ ap (λ t. count key events 0 (length events) + cond {A = ℕ} t 1 0) (eq-eqb key key (λ _. key)) in
-        let first = count-append key events (key ∷ []) from early in
-        omega (arith, counted, whole, first, count_never_falls key events from (length events) early, count_parts key all from (suc (length events)) (omega (arith, early)))
+        let whole = ap (count key all 0) (sym longer) ∙ count-push plain key events key ∙ ap (λ t. count key events 0 (length events) + cond {A = ℕ} t 1 0) (eq-eqb key key (λ _. key)) in
+        let first = count-append plain key events (key ∷ []) from early in
+        omega (arith, counted, whole, first, count_never_falls plain key events from (length events) early, count_parts plain key all from (suc (length events)) (omega (arith, early)))
 
-    pub totals_table : IsTable (2 ^ (64 - s.cone_bits)) (totals_at s all (suc (length events)) tail)
+    pub totals_table : IsTable (2 ^ tail_bits s) (totals_at s all (suc (length events)) tail)
     totals_table =
         elim (cases_eq (depth s (suc (length events))) 0) [
-          | inl shallow ↦ subst (λ t. IsTable (2 ^ (64 - s.cone_bits)) (cond t (record { tail = tail; count = window } ∷ [])
+          | inl shallow ↦ subst (λ t. IsTable (2 ^ tail_bits s) (cond t (record { tail = tail; count = window } ∷ [])
               (tallied s (slice_range all (lookback s (suc (length events))) (suc
               (length events))))))
               (sym (eq-eqb (depth s (suc (length events))) 0 shallow)) (omega arith, tail_below s key, some, tt)
-          | inr deep ↦ subst (λ t. IsTable (2 ^ (64 - s.cone_bits)) (cond t (record { tail = tail; count = window } ∷ []) (tallied s (slice_range all (lookback s (suc (length events))) (suc
+          | inr deep ↦ subst (λ t. IsTable (2 ^ tail_bits s) (cond t (record { tail = tail; count = window } ∷ []) (tallied s (slice_range all (lookback s (suc (length events))) (suc
               (length events))))))
               (sym (ne_eqb (depth s (suc (length events))) 0 deep)) (IsTable-tallied s (slice_range all (lookback s (suc (length events))) (suc (length events))))
         ]
@@ -106,13 +107,13 @@ module _ (s : Numbers) (cone : ℕ) (events : List ℕ) (valid : IsValid s) (nam
         let reports = look s events in
         elim (cases_eq (depth s m) 0) [
           | inl shallow ↦
-              look-push_between s events key valid keys below (young_stays s (length events) valid shallow)
+              look-push_between plain s events key valid keys below (young_stays s (length events) valid shallow)
               ∙ ap (λ c. reports ++ cond {A = List Report} (leb s.threshold c && not (is_listed key reports)) (record { key = key; at = m } ∷ []) []) (sym counted)
               ∙ ap (λ rs. reports ++ rs) (sym (one_report window m reports))
               ∙ ap (λ t. reports ++ due_reports s cone reports m (cond t (record { tail = tail; count = window } ∷ []) (tallied s (slice_range all (lookback s m) m)))) (sym (eq-eqb
               (depth s m) 0 shallow))
           | inr deep ↦
-              look-push s events key valid.limits.threshold_from keys below
+              look-push plain s events key valid.limits.threshold_from keys below
               ∙ ap (λ ks. reports ++ map (λ k. record { key = k; at = m }) ks)
               (due_by_tails s cone s.threshold all (lookback s m) m reports bits named valid.limits.threshold_from all_keys all_own)
               ∙ ap (λ t. reports ++ due_reports s cone reports m (cond t (record { tail = tail; count = window } ∷ []) (tallied s (slice_range all (lookback s m) m)))) (sym (ne_eqb

@@ -3,7 +3,7 @@ use Rattle.std.specs.Prelude.{◌≡◌, ◌≢◌, ℕ, ◌+◌, ◌-◌, ◌�
 use Rattle.lert_bay.specs.{Kept.{Bays, KeepsBay, OnlyReads}, Files.{Files, IfTold}, declared.bay.TheConstants.FRAMES}
 use Rattle.lert_gatelog.specs.Kept.{InEach}
 use Rattle.lert_levels.specs.{declared.rows.fault.FlushFault.FlushFault, declared.rows.fault.FlushFault.TheVariants.{Failed as FlushFailed, Malformed}, Flushed.InNamed, rows.Checked.rows_left}
-use Rattle.lert_levels.specs.{rows.Landing.KeepsRest, rows.Rows.{IsAt, AreRows, HoldsBins, moved}, rows.Loading.OneBreaks, OnDisk.OnDisk, rows.Young.Young}
+use Rattle.lert_levels.specs.{rows.Landing.KeepsRest, rows.Rows.{IsAt, AreRows, HoldsBins, moved}, rows.Loading.OneBreaks, OnDisk.{OnDisk, written}, rows.Young.Young}
 use Rattle.lert_spec.specs.{declared.piece.Piece.Piece, Bins.tallied, Edges.{edge, lookback, capacity}}
 use Rattle.lert_cone.specs.{declared.tally.TakeFault.TakeFault, declared.tally.TakeFault.TheVariants.{Failed, Unsound}, Due.{Dues, TookFrom}, Framed.HoldsSome}
 use Rattle.lert_cone.specs.Tally.{Tallied, AreYoung, IsCounted, IsHeld, Shows, totals_at}
@@ -14,18 +14,18 @@ pub record Flushes {B : Type 0} (bays : Bays B) (start : Dues) (m : ℕ) (bay ba
   pub flushed : OnOk result (levels_after ≡ record levels { rows = moved levels.settings m levels.rows })
   pub refused : OnErr result (levels_after ≡ levels)
   pub holds : (events : List ℕ) → length events ≡ m → AreYoung levels.settings events zero.from zero.bins →
-      IfTold (bays.files bay) (λ seen. HoldsBins levels.settings events levels.rows (seen FRAMES) →
-      OnOk result (IfTold (bays.files bay_after) (λ after. HoldsBins levels_after.settings events levels_after.rows (after FRAMES))))
+      IfTold (bays.files bay) (λ seen. HoldsBins levels.settings written events levels.rows (seen FRAMES) →
+      OnOk result (IfTold (bays.files bay_after) (λ after. HoldsBins levels_after.settings written events levels_after.rows (after FRAMES))))
   pub totals : (events : List ℕ) → length events ≡ m → AreYoung levels.settings events zero.from zero.bins →
-      IfTold (bays.files bay) (λ seen. HoldsBins levels.settings events levels.rows (seen FRAMES) →
+      IfTold (bays.files bay) (λ seen. HoldsBins levels.settings written events levels.rows (seen FRAMES) →
       OnOk result (TookFrom start due (tallied levels.settings (slice_range events (lookback levels.settings m) m))))
   pub took : OnOk result ((list : List Piece) × TookFrom start due list)
   pub sound : (events : List ℕ) → length events ≡ m → AreYoung levels.settings events zero.from zero.bins →
-      IfTold (bays.files bay) (λ seen. HoldsBins levels.settings events levels.rows (seen FRAMES) → (at : ℕ) → result ≢ Err (Malformed at))
-  pub malformed : IfTold (bays.files bay) (λ seen. (at : ℕ) → IsErrOf result (Malformed at) → OneBreaks levels.settings levels.rows (seen FRAMES) at)
-  pub malformed_after : IfTold (bays.files bay_after) (λ after. (at : ℕ) → IsErrOf result (Malformed at) → OneBreaks levels.settings levels.rows (after FRAMES) at)
+      IfTold (bays.files bay) (λ seen. HoldsBins levels.settings written events levels.rows (seen FRAMES) → (at : ℕ) → result ≢ Err (Malformed at))
+  pub malformed : IfTold (bays.files bay) (λ seen. (at : ℕ) → IsErrOf result (Malformed at) → OneBreaks levels.settings written levels.rows (seen FRAMES) at)
+  pub malformed_after : IfTold (bays.files bay_after) (λ after. (at : ℕ) → IsErrOf result (Malformed at) → OneBreaks levels.settings written levels.rows (after FRAMES) at)
   pub durable : OnOk result (IfTold (bays.files bay_after) (λ seen. (image : Files) → bays.leaves bay_after image → image FRAMES ≡ seen FRAMES))
-  pub rest : KeepsRest bays (InNamed levels.settings levels.rows) bay bay_after
+  pub rest : KeepsRest bays (InNamed levels.settings written levels.rows) bay bay_after
   pub kept : KeepsBay bays bay bay_after (IsErrOf result FlushFailed)
 
 -- The totals come to the reports that the event at position m brings, which level 0 has, its tail being this one: the levels
@@ -40,22 +40,22 @@ pub record GivesTotals {B : Type 0} (bays : Bays B) (start : Dues) (m tail : ℕ
       OnOk result (AreYoung levels.settings events (edge levels.settings 0 m) zero_after.bins)
   pub rows : OnOk result (IsAt levels.settings m levels_after.rows)
   pub holds : (events : List ℕ) → length events ≡ m → AreYoung levels.settings events zero.from zero.bins →
-      IfTold (bays.files bay) (λ seen. HoldsBins levels.settings events levels.rows (seen FRAMES) →
-      OnOk result (IfTold (bays.files bay_after) (λ after. HoldsBins levels.settings events levels_after.rows (after FRAMES))))
+      IfTold (bays.files bay) (λ seen. HoldsBins levels.settings written events levels.rows (seen FRAMES) →
+      OnOk result (IfTold (bays.files bay_after) (λ after. HoldsBins levels.settings written events levels_after.rows (after FRAMES))))
   pub totals : (events : List ℕ) → length events ≡ m → AreYoung levels.settings events zero.from zero.bins →
-      IfTold (bays.files bay) (λ seen. HoldsBins levels.settings events levels.rows (seen FRAMES) → OnOk result (TookFrom start due (totals_at levels.settings events m tail)))
+      IfTold (bays.files bay) (λ seen. HoldsBins levels.settings written events levels.rows (seen FRAMES) → OnOk result (TookFrom start due (totals_at levels.settings events m tail)))
   pub took : OnOk result ((list : List Piece) × TookFrom start due list)
   pub sound : (events : List ℕ) → length events ≡ m → AreYoung levels.settings events zero.from zero.bins →
-      IfTold (bays.files bay) (λ seen. HoldsBins levels.settings events levels.rows (seen FRAMES) → (at : ℕ) → result ≢ Err (Malformed at))
-  pub malformed : IfTold (bays.files bay) (λ seen. (at : ℕ) → IsErrOf result (Malformed at) → OneBreaks levels_after.settings levels_after.rows (seen FRAMES) at)
-  pub malformed_after : IfTold (bays.files bay_after) (λ after. (at : ℕ) → IsErrOf result (Malformed at) → OneBreaks levels_after.settings levels_after.rows (after FRAMES) at)
+      IfTold (bays.files bay) (λ seen. HoldsBins levels.settings written events levels.rows (seen FRAMES) → (at : ℕ) → result ≢ Err (Malformed at))
+  pub malformed : IfTold (bays.files bay) (λ seen. (at : ℕ) → IsErrOf result (Malformed at) → OneBreaks levels_after.settings written levels_after.rows (seen FRAMES) at)
+  pub malformed_after : IfTold (bays.files bay_after) (λ after. (at : ℕ) → IsErrOf result (Malformed at) → OneBreaks levels_after.settings written levels_after.rows (after FRAMES) at)
   pub images : (events : List ℕ) → length events ≡ m → AreYoung levels.settings events zero.from zero.bins →
-      IfTold (bays.files bay) (λ seen. HoldsBins levels.settings events levels.rows (seen FRAMES) → InEach (bays.leaves bay) FRAMES (HoldsBins levels.settings events levels.rows) →
-      OnOk result (IfTold (bays.files bay_after) (λ _. InEach (bays.leaves bay_after) FRAMES (HoldsBins levels.settings events levels_after.rows))))
+      IfTold (bays.files bay) (λ seen. HoldsBins levels.settings written events levels.rows (seen FRAMES) → InEach (bays.leaves bay) FRAMES (HoldsBins levels.settings written events levels.rows) →
+      OnOk result (IfTold (bays.files bay_after) (λ _. InEach (bays.leaves bay_after) FRAMES (HoldsBins levels.settings written events levels_after.rows))))
   pub are : OnOk result (AreRows levels.settings levels.rows → AreRows levels.settings levels_after.rows)
   pub still : edge levels.settings 0 m ≡ edge levels.settings 0 (m - 1) → OnOk result (levels_after.rows ≡ levels.rows)
   pub unflushed : edge levels.settings 0 m ≡ edge levels.settings 0 (m - 1) → bay_after ≡ bay
-  pub rest : KeepsRest bays (InNamed levels.settings levels.rows) bay bay_after
+  pub rest : KeepsRest bays (InNamed levels.settings written levels.rows) bay bay_after
   pub kept : KeepsBay bays bay bay_after (IsErrOf result FlushFailed)
 
 -- all levels are scanned, with the reports as the taker of the totals
@@ -63,13 +63,13 @@ pub record Scans {B : Type 0} (bays : Bays B) (start : Dues) (bay bay_after : B)
   pub stays : levels_after ≡ levels
   pub totals : (events : List ℕ) → length events ≤ capacity levels.settings → IsAt levels.settings (length events) levels.rows →
       zero.from ≡ edge levels.settings 0 (length events) → zero.to ≡ length events → AreYoung levels.settings events zero.from zero.bins →
-      IfTold (bays.files bay) (λ seen. HoldsBins levels.settings events levels.rows (seen FRAMES) → OnOk result (TookFrom start due (tallied levels.settings events)))
+      IfTold (bays.files bay) (λ seen. HoldsBins levels.settings written events levels.rows (seen FRAMES) → OnOk result (TookFrom start due (tallied levels.settings events)))
   pub took : OnOk result ((list : List Piece) × TookFrom start due list)
   pub sound : (events : List ℕ) → length events ≤ capacity levels.settings → IsAt levels.settings (length events) levels.rows →
       zero.from ≡ edge levels.settings 0 (length events) → AreYoung levels.settings events zero.from zero.bins →
-      IfTold (bays.files bay) (λ seen. HoldsBins levels.settings events levels.rows (seen FRAMES) → (at : ℕ) → result ≢ Err (Malformed at))
-  pub malformed : IfTold (bays.files bay) (λ seen. (at : ℕ) → IsErrOf result (Malformed at) → OneBreaks levels.settings levels.rows (seen FRAMES) at)
-  pub whole : IfTold (bays.files bay) (λ seen. OnOk result (rows_left levels.settings (seen FRAMES) levels.rows ≡ None))
+      IfTold (bays.files bay) (λ seen. HoldsBins levels.settings written events levels.rows (seen FRAMES) → (at : ℕ) → result ≢ Err (Malformed at))
+  pub malformed : IfTold (bays.files bay) (λ seen. (at : ℕ) → IsErrOf result (Malformed at) → OneBreaks levels.settings written levels.rows (seen FRAMES) at)
+  pub whole : IfTold (bays.files bay) (λ seen. OnOk result (rows_left levels.settings written (seen FRAMES) levels.rows ≡ None))
   pub reads : OnlyReads bays bay bay_after (IsErrOf result FlushFailed)
 
 -- A key is counted. Where the edge of level 0 stays the rows stay, and no call of the bay is made; the frames that the rows named stay in any case. Where
@@ -88,9 +88,9 @@ pub record CountsKey {B : Type 0} (bays : Bays B) (key : ℕ) (bay bay_after : B
   pub framed : IfTold (bays.files bay) (λ seen. HoldsSome old.listing.settings (length old.listing.events) old.rows (seen FRAMES) →
       OnOk result (IfTold (bays.files bay_after) (λ after. HoldsSome new.listing.settings (length new.listing.events) new.rows (after FRAMES))))
   pub whole : IfTold (bays.files bay) (λ seen. HoldsSome old.listing.settings (length old.listing.events) old.rows (seen FRAMES) → (at : ℕ) → result ≢ Err (Unsound FRAMES at))
-  pub images : IfTold (bays.files bay) (λ seen. IsHeld old seen → InEach (bays.leaves bay) FRAMES (HoldsBins old.listing.settings old.listing.events old.rows) →
-      OnOk result (IfTold (bays.files bay_after) (λ _. InEach (bays.leaves bay_after) FRAMES (HoldsBins new.listing.settings new.listing.events new.rows))))
-  pub rest : KeepsRest bays (InNamed old.listing.settings old.rows) bay bay_after
+  pub images : IfTold (bays.files bay) (λ seen. IsHeld old seen → InEach (bays.leaves bay) FRAMES (HoldsBins old.listing.settings written old.listing.events old.rows) →
+      OnOk result (IfTold (bays.files bay_after) (λ _. InEach (bays.leaves bay_after) FRAMES (HoldsBins new.listing.settings written new.listing.events new.rows))))
+  pub rest : KeepsRest bays (InNamed old.listing.settings written old.rows) bay bay_after
   pub kept : KeepsBay bays bay bay_after (IsErrOf result Failed)
 
 -- All levels are scanned, and the reports listed that are left. It writes nothing.
@@ -102,7 +102,7 @@ pub record CountsEnd {B : Type 0} (bays : Bays B) (bay bay_after : B) (old new :
   pub grows : OnOk result (length old.due.reports ≤ length new.due.reports)
   pub counted : OnOk result (IsCounted new)
   pub held : IfTold (bays.files bay) (λ seen. IsHeld old seen → OnOk result (IsHeld new seen))
-  pub whole : IfTold (bays.files bay) (λ seen. OnOk result (rows_left old.listing.settings (seen FRAMES) old.rows ≡ None))
+  pub whole : IfTold (bays.files bay) (λ seen. OnOk result (rows_left old.listing.settings written (seen FRAMES) old.rows ≡ None))
   pub sound : IfTold (bays.files bay) (λ seen. IsHeld old seen → (file at : ℕ) → result ≢ Err (Unsound file at))
   pub shows : IfTold (bays.files bay_after) (λ seen. (file at : ℕ) → IsErrOf result (Unsound file at) → Shows new.listing.settings new.rows new.due.reports (seen FRAMES) file at)
   pub reads : OnlyReads bays bay bay_after (IsErrOf result Failed)

@@ -1,5 +1,6 @@
 -- Which pieces of a table bring a report, and what a taker of totals is seen as.
 use Rattle.std.specs.Prelude.{ℕ, ◌≡◌, ◌-◌, ◌<◌, ◌≤◌, ◌^◌, ◌==◌, Bool, true, false, List, [], ◌∷◌, ◌++◌, length, map, filter, All, Option, Some, None, if◌then◌else◌}
+use Rattle.lert_spec.specs.Edges.{tail_bits}
 use Rattle.lert_spec.specs.{declared.numbers.Numbers.Numbers, declared.piece.Piece.Piece, declared.report.Report.Report, Limits.IsValid, Mix.cone_of, Table.IsTable}
 use Rattle.lert_spec.proofs.TailLaws.{key_with, keys_of, is_due_piece}
 use Rattle.lert_reports.specs.Stored.{Stored}
@@ -20,9 +21,9 @@ pub record Dues : Type 0 where
 
 -- it took these totals: behind the reports from before stand those of the pieces that are due, or they are too many
 pub record TookTotals (dues : Dues) (pieces : List Piece) : Type 0 where
-  pub reported : IsTable (2 ^ (64 - dues.settings.cone_bits)) pieces → dues.is_full ≡ false →
+  pub reported : IsTable (2 ^ tail_bits dues.settings) pieces → dues.is_full ≡ false →
       dues.reports ≡ dues.before ++ due_reports dues.settings dues.cone dues.before dues.at pieces
-  pub too_many : IsTable (2 ^ (64 - dues.settings.cone_bits)) pieces → dues.is_full ≡ true →
+  pub too_many : IsTable (2 ^ tail_bits dues.settings) pieces → dues.is_full ≡ true →
       dues.settings.room < length (dues.before ++ due_reports dues.settings dues.cone dues.before dues.at pieces)
 
 -- the key of a piece that reaches the threshold and isn't reported

@@ -2,6 +2,7 @@
 use Rattle.std.specs.Prelude.{◌≡◌, ℕ, zero, suc, ◌==◌, List, length, take, if◌then◌else◌}
 use Rattle.lert_levels.specs.{declared.rows.bin_at.BinAt.BinAt, rows.Rows.HoldsBins}
 use Rattle.lert_spec.specs.{declared.numbers.Numbers.Numbers, Edges.edge}
+use Rattle.lert_levels.specs.OnDisk.{written}
 
 -- the last flush position that is at most n, or 0 where there is none
 abbrev pub last_flush : Numbers → ℕ → ℕ
@@ -17,4 +18,4 @@ flushed s events = take (last_flush s (length events)) events
 pub record HoldsSome (s : Numbers) (n : ℕ) (rows : List (List BinAt)) (file : List ℕ) : Type 0 where
   pub events : List ℕ
   pub len : length events ≡ edge s 0 n
-  pub holds : HoldsBins s events rows file
+  pub holds : HoldsBins s written events rows file

@@ -8,6 +8,7 @@ use Rattle.lert_reports.specs.{Log.{HasLog, last_n0, listed_in, most_record}, Lo
 use Rattle.lert_spec.specs.{declared.numbers.Numbers.Numbers, declared.report.Report.Report, Edges.edge}
 use Rattle.lert_cone.specs.{Framed.last_flush, Listing.{Listing, reports_of}, Logged.IsLogOf, JournalPlaces.{ArePlacesIn, NamesRecord, last_place}, Record.LogPlace, Sound.{IsJournal, but_last}}
 use Rattle.lert_cone.specs.Tally.{Tallied}
+use Rattle.lert_levels.specs.OnDisk.{written}
 
 -- In every image the journal has these packets, the log has the records of the keys so far, and the frames that the rows
 -- name hold their bins. The journal and the log are settled from their first byte to their last. The records name as
@@ -20,7 +21,7 @@ pub record IsInStep (leaves : Files → Type 0) (seen : Files) (history : List P
   pub named_is : log.named ≡ length (listed_in logged)
   pub journal : InEach leaves JOURNAL (IsJournal listing.settings listing.cone history)
   pub log_there : InEach leaves LOG (λ bytes. HasLog listing.settings listing.cone bytes logged log.gate)
-  pub frames : InEach leaves FRAMES (HoldsBins listing.settings listing.events rows)
+  pub frames : InEach leaves FRAMES (HoldsBins listing.settings written listing.events rows)
   pub journal_settled : IsWhollySettled leaves seen JOURNAL
   pub log_settled : IsWhollySettled leaves seen LOG
   pub reports_are : reports ≡ reports_of listing

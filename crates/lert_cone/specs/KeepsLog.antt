@@ -7,6 +7,7 @@ use Rattle.lert_levels.specs.{declared.rows.bin_at.BinAt.BinAt, rows.Rows.IsAt}
 use Rattle.lert_reports.specs.{declared.log.LogKind.LogKind, Log.{HasRecords, last_n0, last_directory}, LogRules.AreFrames, LogText.LogRecord}
 use Rattle.lert_spec.specs.{declared.numbers.Numbers.Numbers, Edges.{edge, capacity}}
 use Rattle.lert_cone.specs.{Framed.HoldsSome, Logged.frames_of, Replaying.Replaying}
+use Rattle.lert_levels.specs.OnDisk.{written}
 
 -- ---- the frames that a log names
 
@@ -17,8 +18,8 @@ pub record InDirectory (s : Numbers) (directory : List (List ℕ)) (from to : �
   pub last : level ≤ s.levels
   pub frame : ℕ
   pub named : Contains (slice_index_or directory (level - 1) []) frame
-  pub above : frame_place s level frame ≤ from
-  pub below : to ≤ frame_place s level frame + frame_len s level
+  pub above : frame_place s written level frame ≤ from
+  pub below : to ≤ frame_place s written level frame + frame_len s written level
 
 -- the last of some records names the frames of these rows, which have the bins of the levels after the events that it speaks of
 pub record NamesRows (s : Numbers) (records : List LogRecord) (rows : List (List BinAt)) : Type 0 where

@@ -18,6 +18,7 @@ pub mod Room
 pub mod Short
 pub mod Sound
 pub mod Stands
+pub mod Steps
 pub mod Takes
 pub mod Tally
 pub mod Unread

@@ -9,6 +9,7 @@ use Rattle.lert_journal.specs.{Header.header, Journal.HasPackets, Payload.IsJour
 use Rattle.lert_reports.specs.{Log.{HasLog, listed_in, last_n0, last_directory, is_closed}, LogText.LogRecord}
 use Rattle.lert_spec.specs.{declared.numbers.Numbers.Numbers, Bins.{Bin, bins}, Edges.capacity, Look.{look, closing}}
 use Rattle.lert_cone.specs.{Framed.last_flush, History.{most_payload, end_of}, JournalPlaces.{NamesRecord, last_place}}
+use Rattle.lert_levels.specs.OnDisk.{written}
 
 -- ---- the journal
 
@@ -37,7 +38,7 @@ HoldFrames s level file [] [] = Unit {0}
 HoldFrames s level file [] (bin ∷ bins) = ⊥
 HoldFrames s level file (frame ∷ frames) [] = ⊥
 HoldFrames s level file (frame ∷ frames) (bin ∷ bins) =
-    HoldsFrame s level frame file bin.pieces × HoldFrames s level file frames bins
+    HoldsFrame s written level frame file bin.pieces × HoldFrames s level file frames bins
 
 -- those that a directory names hold the bins of each level from 1 on after these events
 pub record HoldsDirectory (s : Numbers) (events : List ℕ) (directory : List (List ℕ)) (file : List ℕ) : Type 0 where

@@ -9,6 +9,7 @@ use Rattle.lert_spec.specs.{Edges.capacity, Mix.cone_of}
 use Rattle.lert_cone.specs.{declared.journal_places.JournalPlace.JournalPlace, declared.tally.TakeFault.TakeFault, declared.tally.TakeFault.TheVariants.{Failed, Unsound}}
 use Rattle.lert_cone.specs.{Framed.{HoldsSome, last_flush}, History.most_payload, InStep.{IsInStep, IsLogging, IsPartway}, KeepsLog.{LogHead, KeepsLogOf}, JournalPlaces.AreOfRecord, Record.LogPlace}
 use Rattle.lert_cone.specs.{Replay.IsOnWay, Sound.{IsSound, IsSoundOver}, Stands.IsWhole, Tally.{Tallied, IsCounted, IsRecounted, Shows}, Wrote.{Anything, LeavesAlone, IsShutIfTold}}
+use Rattle.lert_levels.specs.OnDisk.{written}
 
 -- what keys are taken over: the bay, the counts, the log, and the length of the buffer
 pub record Workplace (B : Type 0) : Type 0 where
@@ -167,6 +168,6 @@ pub record TakesEnd {B : Type 0} (bays : Bays B) (old new : Workplace B) (result
   pub each_moment : IfTold (bays.files old.bay) (λ seen. (history : List Packet) → old.counts.listing.events ≡ events_of history → AreInStep bays old seen history →
       (image : Files) → bays.left_since new.bay (bays.moment old.bay) image → IsSound old.counts.listing.settings old.counts.listing.cone history image)
   pub sound : IfTold (bays.files old.bay) (λ seen. (history : List Packet) → AreInStep bays old seen history → (file at : ℕ) → result ≢ Err (Unsound file at))
-  pub whole : IfTold (bays.files old.bay) (λ seen. OnOk result (rows_left old.counts.listing.settings (seen FRAMES) old.counts.rows ≡ None))
+  pub whole : IfTold (bays.files old.bay) (λ seen. OnOk result (rows_left old.counts.listing.settings written (seen FRAMES) old.counts.rows ≡ None))
   pub room : new.room ≡ old.room
   pub keeps : KeepsJournal bays old new result

@@ -7,6 +7,7 @@ use Rattle.lert_spec.proofs.{LookLaws.AreKeys, TailLaws.AreOfCone}
 use Rattle.lert_levels.specs.{declared.rows.bin_at.BinAt.BinAt, rows.Loading.OneBreaks, rows.Ranges.young_bins, rows.Rows.{IsAt, AreRows, HoldsBins}, rows.Young.Young}
 use Rattle.lert_levels.specs.{declared.rows.fault.FlushFault.FlushFault, declared.rows.fault.FlushFault.TheVariants.{Failed as FlushFailed, Malformed}}
 use Rattle.lert_cone.specs.{declared.tally.TakeFault.TakeFault, declared.tally.TakeFault.TheVariants.{Failed, Unsound}, Due.{Dues, unbegun}, Listing.{Listing, reports_of}}
+use Rattle.lert_levels.specs.OnDisk.{written}
 
 -- a cone's keys, level 0, the rows of the older levels, and its reports
 pub record Tallied : Type 0 where
@@ -74,7 +75,7 @@ pub record IsRecounted (tally : Tallied) (n0 : ℕ) : Type 0 where
 
 -- with these files, where they are told: the named frames hold the older levels, and the reports are those of the definition
 pub record IsHeld (tally : Tallied) (seen : Files) : Type 0 where
-  pub frames : HoldsBins tally.listing.settings tally.listing.events tally.rows (seen FRAMES)
+  pub frames : HoldsBins tally.listing.settings written tally.listing.events tally.rows (seen FRAMES)
   pub reports : tally.due.reports ≡ reports_of tally.listing
 
 -- the totals that the last of m events brings, its tail being this one: where no edge moves that of its tail in level 0, and
@@ -93,4 +94,4 @@ take_fault (Malformed at) = Unsound FRAMES at
 -- frames, or the reports fill their room and one more is due, which the log would have to name
 abbrev pub Shows : Numbers → List (List BinAt) → List Report → List ℕ → ℕ → ℕ → Type 0
 Shows s rows reports frames file at =
-    ((file ≡ FRAMES) × OneBreaks s rows frames at) ⊎ ((file ≡ LOG) × (at ≡ 0) × (length reports ≡ s.room))
+    ((file ≡ FRAMES) × OneBreaks s written rows frames at) ⊎ ((file ≡ LOG) × (at ≡ 0) × (length reports ≡ s.room))

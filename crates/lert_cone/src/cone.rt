@@ -1,26 +1,25 @@
 //! A cone over its files.
 
-ghost use Rattle.std.specs.Prelude.{◌≡◌, ◌≢◌, ℕ, ◌+◌, ◌<◌, ◌≤◌, ◌^◌, ◌↔◌, ◌++◌, [], ◌∷◌, true, false, All, List, length, replicate, Some, None, Err, IfOk, IfErr, MatchResult, OnOk, OnErr, IsErrOf};
+ghost use Rattle.std.specs.Prelude.{◌≡◌, ℕ, ◌+◌, ◌<◌, ◌≤◌, ◌^◌, ◌↔◌, ◌++◌, [], ◌∷◌, true, false, List, length, replicate, Some, None, Err, IfOk, IfErr, MatchResult, OnOk, OnErr, IsErrOf};
 ghost use Rattle.lert_base.specs.Entries.{packet_of};
 ghost use Rattle.lert_base.specs.Packet.{Packet, events_of};
 ghost use Rattle.lert_bay.specs.Files.{Files, IfTold, Turns};
 ghost use Rattle.lert_bay.specs.Images.{KeepsImages};
 ghost use Rattle.lert_bay.specs.Kept.{KeepsBay};
-ghost use Rattle.lert_bay.specs.declared.bay.TheConstants.{JOURNAL, FRAMES};
+ghost use Rattle.lert_bay.specs.declared.bay.TheConstants.{JOURNAL};
 ghost use Rattle.lert_gatelog.specs.Gated.{next_gate};
 ghost use Rattle.lert_reports.specs.Log.{most_record};
 ghost use Rattle.lert_io.specs.Fault.{HasRisen};
 ghost use Rattle.lert_journal.specs.Payload.{IsJournaled, payload_of};
 ghost use Rattle.lert_spec.specs.Edges.{capacity};
-ghost use Rattle.lert_spec.specs.Look.{look, closing};
-ghost use Rattle.lert_spec.specs.Timely.{IsTimely, IsTimelySoFar};
+ghost use Rattle.lert_spec.specs.Timely.{IsTimelySoFar};
 ghost use Rattle.lert_cone.specs.History.{most_payload};
 ghost use Rattle.lert_cone.specs.InStep.{AreNew};
 ghost use Rattle.lert_cone.specs.JournalPlaces.{places_at_start};
 ghost use Rattle.lert_cone.specs.Room.{IsRoom};
-ghost use Rattle.lert_cone.specs.Sound.{AreEmpty, FramesStay, IsSound, IsSoundClosed, IsSoundOver, IsKept};
-ghost use Rattle.lert_cone.specs.Stands.{StandsFor, WasSound, Answers, IsSameCone, is_broken, is_finished, is_refusal, broken_by};
-ghost use Rattle.lert_cone.specs.Tally.{Shows};
+ghost use Rattle.lert_cone.specs.Sound.{AreEmpty, FramesStay, IsSoundOver};
+ghost use Rattle.lert_cone.specs.Stands.{StandsFor, WasSound, Answers, is_broken, is_finished, is_refusal, broken_by};
+ghost use Rattle.lert_cone.specs.Steps.{StepsCone};
 ghost use Rattle.lert_cone.specs.Wrote.{Anything};
 
 use crate::acked::Acked;
@@ -161,7 +160,8 @@ impl<B: Bay, T: CountTable> Cone<B, T> {
 
     /// Takes the packet of an entry: appends it to the journal, and then takes its keys, one after another. At a flush position
     /// the log gets a record. Ok comes when the packet is on the disk and its keys are counted. No clause tells in which order
-    /// journal and memory take a packet without a flush, since memory is lost with the machine.
+    /// journal and memory take a packet without a flush, since memory is lost with the machine. What it says of its refusals, of
+    /// a fault in the middle and of the bay is what each call says that steps a cone on: `StepsCone`.
     pub fn admit(&mut self, entry: &Entry) -> Result<Acked, ConeFault>
         requires fits { IsJournaled self.old.listing.settings self.old.listing.cone (packet_of entry.now) }
 
@@ -190,10 +190,8 @@ impl<B: Bay, T: CountTable> Cone<B, T> {
             IfTold (B.files self.old.bay) (λ _. IsTimelySoFar self.old.listing.settings.threshold self.old.listing.settings.bins
             (events_of (h ++ packet_of entry.now ∷ [])) self.new.reports)) }
 
-        // A refusal leaves the lists, and the first three leave all.
-        ensures stays { OnErr result ((h : List Packet) → StandsFor B.files B.leaves B.faults self.old h →
-            StandsFor B.files B.leaves B.faults self.new h) }
-        ensures unchanged { IfErr result (λ fault. is_refusal fault ≡ true → self.new ≡ self.old) }
+        // A refusal before the first step leaves all, and any other error the lists.
+        ensures step { StepsCone B.Bay self.old self.new result }
         ensures broke { IfErr result (λ fault. is_refusal fault ≡ false → self.new ≡ record self.old {
           bay = self.new.bay;
           listing = record self.old.listing { events = self.new.listing.events };
@@ -205,28 +203,16 @@ impl<B: Bay, T: CountTable> Cone<B, T> {
           log = self.new.log;
         }) }
 
-        ensures same_cone { IsSameCone self.old self.new }
-
-        // Why it refuses.
-        ensures closed { (result ≡ Err ConeFault.Closed) ↔ (self.old.state ≡ ConeState.Finished) }
-        ensures broken { (result ≡ Err ConeFault.Broken) ↔ (is_broken self.old.state ≡ true) }
+        // CapacityFull comes exactly where a running cone has no place for so many keys.
         ensures full { (n len : ℕ) → (result ≡ Err (ConeFault.CapacityFull n len)) ↔
             ((self.old.state ≡ ConeState.Running) × (n ≡ self.old.events) × (len ≡ length entry.now.keys.keys)
             × (capacity self.old.listing.settings < n + len)) }
-        ensures bay_failed { IsErrOf result ConeFault.BayFailed →
-            (self.new.state ≡ ConeState.BrokenByBay) × HasRisen (B.faults self.old.bay) (B.faults self.new.bay) }
-        ensures unsound { (file at : ℕ) → IsErrOf result (ConeFault.Unsound file at) → (self.new.state ≡ ConeState.BrokenByRead file at)
-            × ((h : List Packet) → StandsFor B.files B.leaves B.faults self.old h → WasSound B.files self.old → B.files self.old.bay ≡ None) }
-        ensures shows { (file at : ℕ) → IsErrOf result (ConeFault.Unsound file at) →
-            IfTold (B.files self.new.bay) (λ seen. Shows self.new.listing.settings self.new.rows self.new.reports (seen FRAMES) file at) }
 
         // In each image of each moment of the call the files are sound for the list, or for the list and the packet.
         ensures each_moment { is_broken self.old.state ≡ false → WasSound B.files self.old → IfTold (B.files self.old.bay) (λ _. (h : List Packet) →
             StandsFor B.files B.leaves B.faults self.old h → (image : Files) →
             B.left_since self.new.bay (B.moment self.old.bay) image →
             IsSoundOver self.old.listing.settings self.old.listing.cone h (Some (packet_of entry.now)) image) }
-        ensures seen { Turns Anything (B.files self.old.bay) (B.files self.new.bay) }
-        ensures kept { KeepsBay B.Bay self.old.bay self.new.bay (IsErrOf result ConeFault.BayFailed) }
     {
         let len = entry.keys.len() as u64;
         // The tests first: a packet that is refused leaves cone and files as they were.

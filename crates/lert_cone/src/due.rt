@@ -1,6 +1,7 @@
 //! The reports of a cone, as a merge gives its totals.
 
 ghost use Rattle.std.specs.Prelude.{◌≡◌, ◌↔◌, ℕ, ◌-◌, ◌^◌, ◌<◌, List, [], ◌∷◌, ◌++◌, All, length, false, IsTrue, MatchOption};
+ghost use Rattle.lert_spec.specs.Edges.{tail_bits};
 ghost use Rattle.lert_spec.specs.Limits.{IsValid};
 ghost use Rattle.lert_spec.specs.Look.{is_listed};
 ghost use Rattle.lert_spec.specs.Mix.{cone_of};
@@ -103,7 +104,7 @@ impl<T: CountTable> Due<T> {
 
     /// Whether a tail's key is reported already, by one look-up.
     pub fn is_listed(&self, tail: u64) -> bool
-        ensures value { tail < 2 ^ (64 - self.now.settings.cone_bits)
+        ensures value { tail < 2 ^ tail_bits self.now.settings
             → result ≡ is_listed (key_with self.now.settings self.now.cone tail) self.now.reports }
         ensures passes { IsTrue result → (count : ℕ) → PassesOver self.now (record { tail = tail; count = count }) }
     {
@@ -131,7 +132,7 @@ impl<T: CountTable> Due<T> {
 
     // Takes the total of a tail, a report where it is due and the report room takes it.
     fn take_total(&mut self, piece: &Piece)
-        requires { piece.now.tail < 2 ^ (64 - self.old.settings.cone_bits) }
+        requires { piece.now.tail < 2 ^ tail_bits self.old.settings }
         ensures { self.new ≡ with_total self.old piece.now }
     {
         if self.is_full {
@@ -149,7 +150,7 @@ impl<T: CountTable> Due<T> {
 
     // The key of a piece, where the piece reaches the threshold and the key isn't reported.
     fn due_key(&self, piece: &Piece) -> Option<u64>
-        requires { piece.now.tail < 2 ^ (64 - self.now.settings.cone_bits) }
+        requires { piece.now.tail < 2 ^ tail_bits self.now.settings }
         ensures value { result ≡ due_key self.now.settings self.now.cone self.now.reports piece.now }
         ensures own { MatchOption result (Unit {0}) (λ key. cone_of self.now.settings key ≡ self.now.cone) }
     {
@@ -165,7 +166,7 @@ impl<T: CountTable> Due<T> {
 
     // Whether a number is a tail of the cone's keys.
     fn is_tail(&self, tail: u64) -> bool
-        ensures tail { IsTrue result ↔ (tail < 2 ^ (64 - self.now.settings.cone_bits)) }
+        ensures tail { IsTrue result ↔ (tail < 2 ^ tail_bits self.now.settings) }
         ensures valid { IsValid self.now.settings }
         ensures named { self.now.cone < 2 ^ self.now.settings.cone_bits }
     {

@@ -50,6 +50,17 @@ impl<T: CountTable> ConeRoom<T> {
         })
     }
 
+    /// The same memory, as `new` made it, with the reports under a secret: nothing but how long calls take depends on it.
+    pub fn with_secret(self, secret: u64) -> ConeRoom<T>
+        requires none { self.store.reports ≡ [] }
+        ensures { result ≡ self }
+    {
+        ConeRoom {
+            store: self.store.with_secret(secret),
+            ..self
+        }
+    }
+
     // The counts and reports of a cone with this number, which has no key yet, the entry, and the buffer.
     pub(crate) fn into_parts<B: Bay>(self, bay: &B, cone: u32) -> (Tally<B, T>, Entry, Vec<u8>)
         requires named { cone < 2 ^ self.settings.cone_bits }

@@ -1,28 +1,17 @@
 -- The rule at the start, and what it says at the end.
-use Rattle.std.proofs.Common.{◌≡◌, ℕ, zero, suc, ◌<◌, ◌≤◌, true, eqb, List, [], ◌∷◌, ◌⊎◌, map, get_or, set, Option, Some, None, sym, refl, ap, ◌∙◌, subst, inl, inr}
-use Rattle.std.proofs.Common.{⊎_elim, arith, append-nil, eq-eqb}
+use Rattle.std.proofs.Common.{◌≡◌, ℕ, zero, suc, ◌<◌, ◌≤◌, true, eqb, List, [], ◌∷◌, ◌⊎◌, map, get_or, set, Option, Some, None, sym, refl, ap, ◌∙◌, subst, inl, inr, ⊎_elim, arith, append-nil, eq-eqb}
+use Rattle.std.proofs.{lemmas.List.Sums.sum_by-cons, lemmas.Option.none-some, lemmas.Bool.false≢true}
 use Rattle.std.specs.Prelude.{IsTrue, Contains, sum_by}
-use Rattle.std.proofs.lemmas.List.Sums.{sum_by-cons}
-use Rattle.std.proofs.lemmas.Option.{none-some}
-use Rattle.std.proofs.lemmas.Bool.{false≢true}
 use mathlib.Core.Option.{some, some-ne-none}
 use mathlib.Core.Logic.{dite}
 use native.Mathlib.Decide.{ℕ_discrete}
 use lib.ListN.{get_elem?}
-use Rattle.atomic_table.specs.Table.{State, opening, Final, Seen}
-use Rattle.atomic_table.specs.Seated.{TableId}
+use Rattle.atomic_table.specs.{Table.{State, opening, Final, Seen}, Seated.TableId}
 use Rattle.atomic_table.proofs.Lists.{at_set}
-use Rattle.lert_base.specs.declared.held.Held.{Ghosts as HeldOf}
-use Rattle.lert_base.specs.Packet.{Packet, own}
-use Rattle.lert_conelock.specs.Prefix.{IsPrefix}
-use Rattle.lert_conelock.specs.Moves.{own_moves}
-use Rattle.lert_conelock.specs.Shown.{Shown, whole}
-use Rattle.lert_conelock.specs.Rule.{Views, Has, met_of, IsStopped, IsRefused, IsPart, Passes, IsHome, HoldsWith, Holds}
+use Rattle.lert_base.specs.{declared.held.Held.Ghosts as HeldOf, Packet.{Packet, own}}
+use Rattle.lert_conelock.specs.{Prefix.IsPrefix, Moves.own_moves, Shown.{Shown, whole}, Rule.{Views, Has, met_of, IsStopped, IsRefused, IsPart, Passes, IsHome, HoldsWith, Holds}}
 use Rattle.lert_conelock.specs.Sight.{LockSight, sight, Closed}
-use Rattle.lert_conelock.proofs.Prefixes.{prefix_nil}
-use Rattle.lert_conelock.proofs.Contained.{no_item, Contains-filter}
-use Rattle.lert_conelock.proofs.Replaced.{there_again}
-use Rattle.lert_conelock.proofs.Moved.{met_replaced}
+use Rattle.lert_conelock.proofs.{Prefixes.prefix_nil, Contained.{no_item, Contains-filter}, Replaced.there_again, Moved.met_replaced}
 
 -- where no pass is live, none missed a take
 none_met : {H F : Type 0} (views : Views H F) → ((a : ℕ) (r : Shown H F) → Has views a r → ⊥) → sum_by met_of views ≡ 0

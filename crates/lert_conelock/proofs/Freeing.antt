@@ -1,22 +1,13 @@
 -- The pass that has the lock brings the state home and frees the lock, and the rule goes on.
 use Rattle.std.proofs.Common.{◌≡◌, ◌≢◌, ℕ, ◌+◌, List, [], ◌∷◌, ◌++◌, ◌⊎◌, get_or, set, Some, None, sym, refl, ap, ◌∙◌, subst, inl, inr, ⊎_elim, arith, length-set, get_or-set_same, get_or-set_other}
-use Rattle.std.specs.Prelude.{Contains}
 use Rattle.std.proofs.lemmas.Option.{same_Some, none-some}
+use Rattle.std.specs.Prelude.{Contains}
 use mathlib.Core.Option.{some}
 use Rattle.atomic_table.specs.Table.{Allows, gives, rest}
 use Rattle.atomic_table.proofs.Lists.{set_here}
-use Rattle.lert_base.specs.declared.held.Held.{Ghosts as HeldOf}
-use Rattle.lert_base.specs.Packet.{Packet}
-use Rattle.lert_conelock.specs.After.{StandsAfter}
-use Rattle.lert_conelock.specs.Moves.{Move, Free, Moves}
-use Rattle.lert_conelock.specs.Shown.{Shown, freed}
-use Rattle.lert_conelock.specs.Rule.{Views, Has, Passes, IsHome, Holds}
-use Rattle.lert_conelock.specs.Steps.{Mine, InHand, HasLock}
-use Rattle.lert_conelock.proofs.Contained.{no_item}
-use Rattle.lert_conelock.proofs.Prefixes.{prefix_itself}
-use Rattle.lert_conelock.proofs.Replaced.{Grows, has_after, stopped_back, refused_on, passes_after}
-use Rattle.lert_conelock.proofs.Moving.{held_more}
-use Rattle.lert_conelock.proofs.Moved.{moved_knows, moved_more}
+use Rattle.lert_base.specs.{declared.held.Held.Ghosts as HeldOf, Packet.Packet}
+use Rattle.lert_conelock.specs.{After.StandsAfter, Moves.{Move, Free, Moves}, Shown.{Shown, freed}, Rule.{Views, Has, Passes, IsHome, Holds}, Steps.{Mine, InHand, HasLock}}
+use Rattle.lert_conelock.proofs.{Contained.no_item, Prefixes.prefix_itself, Replaced.{Grows, has_after, stopped_back, refused_on, passes_after}, Moving.held_more, Moved.{moved_knows, moved_more}}
 
 add_zero : (n : ℕ) → n + 0 ≡ n
 add_zero n = omega arith

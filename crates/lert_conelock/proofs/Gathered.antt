@@ -1,14 +1,11 @@
 -- What all passes together show: whether the state is stopped, and which packets were refused.
-use Rattle.std.proofs.Common.{◌≡◌, ℕ, zero, suc, ◌<◌, ◌≤◌, Bool, true, false, ◌&&◌, ◌||◌, ltb, leb, List, [], ◌∷◌, ◌++◌, map, filter, Option, Some, None, sym}
-use Rattle.std.proofs.Common.{refl, ap, ◌∙◌, subst, ⊎_elim}
-use Rattle.std.specs.Prelude.{Contains}
-use Rattle.std.proofs.lemmas.Option.{same_Some, none-some}
-use Rattle.std.proofs.lemmas.Bool.{or_cases, or_left, or_right, and_parts, and_from, false≢true, ltb-true, leb-true, lt-ltb, le-leb}
+use Rattle.std.proofs.Common.{◌≡◌, ℕ, zero, suc, ◌<◌, ◌≤◌, Bool, true, false, ◌&&◌, ◌||◌, ltb, leb, List, [], ◌∷◌, ◌++◌, map, filter, Option, Some, None, sym, refl, ap, ◌∙◌, subst, ⊎_elim}
+use Rattle.std.proofs.{lemmas.Option.{same_Some, none-some}, lemmas.Bool.{or_cases, or_left, or_right, and_parts, and_from, false≢true, ltb-true, leb-true, lt-ltb, le-leb}}
 use Rattle.std.proofs.lemmas.List.Elements.{Contains-append_left, Contains-append_right, Contains-append_cases}
+use Rattle.std.specs.Prelude.{Contains}
 use mathlib.Core.Option.{some-injective, some-ne-none}
 use Rattle.lert_base.specs.Packet.{Packet}
-use Rattle.lert_conelock.specs.Shown.{Shown}
-use Rattle.lert_conelock.specs.Rule.{Views, Has, IsStopped, IsRefused}
+use Rattle.lert_conelock.specs.{Shown.Shown, Rule.{Views, Has, IsStopped, IsRefused}}
 use Rattle.lert_conelock.proofs.Contained.{no_item, Contains-map, Contains-map_back, Contains-filter, Contains-filter_back}
 
 module _ {H F : Type 0} where

@@ -1,8 +1,7 @@
 -- A state stays at home while the passes change.
 use Rattle.std.proofs.Common.{◌≡◌, List, ◌⊎◌, Some, inl, inr, ⊎_elim}
 use Rattle.std.specs.Prelude.{Contains}
-use Rattle.lert_base.specs.declared.held.Held.{Ghosts as HeldOf}
-use Rattle.lert_base.specs.Packet.{Packet}
+use Rattle.lert_base.specs.{declared.held.Held.Ghosts as HeldOf, Packet.Packet}
 use Rattle.lert_conelock.specs.Rule.{Views, IsStopped, IsRefused, IsHome}
 
 module _ {H T R F : Type 0} (held : HeldOf H T R F) (first : H) where

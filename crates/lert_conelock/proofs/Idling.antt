@@ -1,17 +1,10 @@
 -- A pass without the lock sees more of the history, or counts a lost take, and the rule goes on.
-use Rattle.std.proofs.Common.{◌≡◌, ℕ, List, get_or, set, Option, Some, None, sym, refl, ◌∙◌, subst, inl, ⊎_elim}
+use Rattle.std.proofs.{Common.{◌≡◌, ℕ, List, get_or, set, Option, Some, None, sym, refl, ◌∙◌, subst, inl, ⊎_elim}, lemmas.Option.none-some}
 use Rattle.std.specs.Prelude.{IsTrue}
-use Rattle.std.proofs.lemmas.Option.{none-some}
 use Rattle.atomic_table.specs.Table.{State}
-use Rattle.lert_base.specs.declared.held.Held.{Ghosts as HeldOf}
-use Rattle.lert_base.specs.Packet.{Packet}
-use Rattle.lert_conelock.specs.Prefix.{IsPrefix}
-use Rattle.lert_conelock.specs.Moves.{Move, held_after}
-use Rattle.lert_conelock.specs.Shown.{Shown}
-use Rattle.lert_conelock.specs.Rule.{Views, Has, IsStopped, Moved, Passes, IsHome, HoldsWith}
-use Rattle.lert_conelock.proofs.Prefixes.{prefix_itself}
-use Rattle.lert_conelock.proofs.Homes.{home_after}
-use Rattle.lert_conelock.proofs.Replaced.{Grows, has_after, forward, stopped_back, refused_on, passes_after}
+use Rattle.lert_base.specs.{declared.held.Held.Ghosts as HeldOf, Packet.Packet}
+use Rattle.lert_conelock.specs.{Prefix.IsPrefix, Moves.{Move, held_after}, Shown.Shown, Rule.{Views, Has, IsStopped, Moved, Passes, IsHome, HoldsWith}}
+use Rattle.lert_conelock.proofs.{Prefixes.prefix_itself, Homes.home_after, Replaced.{Grows, has_after, forward, stopped_back, refused_on, passes_after}}
 
 module _ {H T R F : Type 0} (held : HeldOf H T R F) (first : H) (numbers : ℕ) where
   module _ (s : State (Option H) (Option (Shown H F))) (history : List Packet) (w : HoldsWith held first numbers s history)

@@ -1,24 +1,15 @@
 -- A pass takes in the pass that begins where it ends, and the rule goes on.
 use Rattle.std.proofs.Common.{◌≡◌, ℕ, ◌<◌, ◌≤◌, ltb, List, ◌⊎◌, length, set, Option, Some, None, sym, ap, ◌∙◌, subst, inl, inr, ⊎_elim, arith, ltb-true, ltb-false}
+use Rattle.std.proofs.{lemmas.Option.{same_Some, none-some}, lemmas.Bool.{cases_lt, cond_both, or_cases, or_left, or_right}}
 use Rattle.std.specs.Prelude.{IsTrue, Contains}
-use Rattle.std.proofs.lemmas.Option.{same_Some, none-some}
-use Rattle.std.proofs.lemmas.Bool.{cases_lt, cond_both, or_cases, or_left, or_right}
 use mathlib.Core.Logic.{dite}
 use native.Mathlib.Decide.{ℕ_discrete}
 use Rattle.atomic_table.specs.Table.{Joins}
 use Rattle.atomic_table.proofs.Lists.{at_set, set_here, set_else}
-use Rattle.lert_base.specs.declared.held.Held.{Ghosts as HeldOf}
-use Rattle.lert_base.specs.Packet.{Packet}
-use Rattle.lert_conelock.specs.Prefix.{IsPrefix}
-use Rattle.lert_conelock.specs.Steps.{Mine, IsIdle}
-use Rattle.lert_conelock.specs.Moves.{Move, own_moves}
-use Rattle.lert_conelock.specs.Shown.{Shown, joined, both_of}
+use Rattle.lert_base.specs.{declared.held.Held.Ghosts as HeldOf, Packet.Packet}
+use Rattle.lert_conelock.specs.{Prefix.IsPrefix, Steps.{Mine, IsIdle}, Moves.{Move, own_moves}, Shown.{Shown, joined, both_of}}
 use Rattle.lert_conelock.specs.Rule.{Views, Has, IsStopped, IsRefused, IsCovered, IsTried, IsPart, IsCaused, Passes, Moved, Holds}
-use Rattle.lert_conelock.proofs.Replaced.{at_within, there_again}
-use Rattle.lert_conelock.proofs.Prefixes.{comparable}
-use Rattle.lert_conelock.proofs.Moving.{own_between}
-use Rattle.lert_conelock.proofs.Moved.{met_replaced}
-use Rattle.lert_conelock.proofs.Homes.{home_after}
+use Rattle.lert_conelock.proofs.{Replaced.{at_within, there_again}, Prefixes.comparable, Moving.own_between, Moved.met_replaced, Homes.home_after}
 use Rattle.lert_conelock.proofs.Cuts.{joined_below, joined_above, Contains-low, Contains-high, Contains-both_sides}
 
 module _ {H F : Type 0} (views : Views H F) (id : ℕ) (p : Shown H F) (mine : Has views id p) (other : ℕ)

@@ -1,18 +1,11 @@
 -- A pass without the lock reads the count of the history, and the rule goes on.
-use Rattle.std.proofs.Common.{◌≡◌, ℕ, ◌≤◌, List, length, get_or, set, Option, Some, None, sym, refl, ap, ◌∙◌, subst}
-use Rattle.std.proofs.lemmas.Option.{same_Some}
+use Rattle.std.proofs.{Common.{◌≡◌, ℕ, ◌≤◌, List, length, get_or, set, Option, Some, None, sym, refl, ap, ◌∙◌, subst}, lemmas.Option.same_Some}
 use mathlib.Core.Option.{some}
 use Rattle.atomic_table.specs.Table.{Allows, keeps}
 use Rattle.atomic_table.proofs.Lists.{set_again}
 use Rattle.lert_base.specs.declared.held.Held.{Ghosts as HeldOf}
-use Rattle.lert_conelock.specs.Prefix.{IsPrefix}
-use Rattle.lert_conelock.specs.Shown.{Shown}
-use Rattle.lert_conelock.specs.Rule.{Has, HoldsWith, Holds}
-use Rattle.lert_conelock.specs.Steps.{Mine, Looked}
-use Rattle.lert_conelock.proofs.Prefixes.{prefix_itself, comparable}
-use Rattle.lert_conelock.proofs.Words.{set_found}
-use Rattle.lert_conelock.proofs.Idling.{idles}
-use Rattle.lert_conelock.proofs.Moved.{moved_same}
+use Rattle.lert_conelock.specs.{Prefix.IsPrefix, Shown.Shown, Rule.{Has, HoldsWith, Holds}, Steps.{Mine, Looked}}
+use Rattle.lert_conelock.proofs.{Prefixes.{prefix_itself, comparable}, Words.set_found, Idling.idles, Moved.moved_same}
 
 module _ {H T R F : Type 0} (held : HeldOf H T R F) (first : H) (numbers : ℕ) where
   pub looking : (slots id : ℕ) (me : Mine H F) (p : Shown H F) → me.0 ≡ Some p → p.tries ≡ None

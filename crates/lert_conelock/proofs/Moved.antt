@@ -1,19 +1,13 @@
 -- The moves of a lock go on: one pass makes a move, or shows what it showed, or passes are split and joined.
 use Rattle.std.proofs.Common.{◌≡◌, ◌≢◌, ℕ, zero, suc, ◌+◌, ◌<◌, ◌≤◌, ltb, List, [], ◌∷◌, ◌++◌, ◌⊎◌, length, set, Option, Some, None, sym, refl, ap, ◌∙◌, subst, inl, inr, ⊎_elim, arith}
+use Rattle.std.proofs.{lemmas.Option.{same_Some, none-some}, lemmas.Bool.cond_both, lemmas.List.Sums.{sum_by-cons, sum_by_push}}
 use Rattle.std.specs.Prelude.{sum_by}
-use Rattle.std.proofs.lemmas.Option.{same_Some, none-some}
-use Rattle.std.proofs.lemmas.Bool.{cond_both}
-use Rattle.std.proofs.lemmas.List.Sums.{sum_by-cons, sum_by_push}
 use mathlib.Core.Option.{some, some-injective, some-ne-none}
 use lib.ListN.{get_elem?}
 use Rattle.lert_base.specs.Packet.{Packet}
-use Rattle.lert_conelock.specs.Prefix.{IsPrefix}
-use Rattle.lert_conelock.specs.Moves.{Move, mover, is_missed, misses, own_moves, held_next, held_after, MayCome, AreOrderly, Moves}
-use Rattle.lert_conelock.specs.Shown.{Shown, lower, upper, joined}
+use Rattle.lert_conelock.specs.{Prefix.IsPrefix, Moves.{Move, mover, is_missed, misses, own_moves, held_next, held_after, MayCome, AreOrderly, Moves}, Shown.{Shown, lower, upper, joined}}
 use Rattle.lert_conelock.specs.Rule.{Views, Has, Moved, met_of}
-use Rattle.lert_conelock.proofs.Prefixes.{prefix_itself, prefix_append, prefix_trans}
-use Rattle.lert_conelock.proofs.Moving.{held_more, orderly_more, own_mine, own_others, own_between}
-use Rattle.lert_conelock.proofs.Replaced.{has_after}
+use Rattle.lert_conelock.proofs.{Prefixes.{prefix_itself, prefix_append, prefix_trans}, Moving.{held_more, orderly_more, own_mine, own_others, own_between}, Replaced.has_after}
 
 module _ {H F : Type 0} where
   -- one seat's view is another one: the sum of the misses changes by its own

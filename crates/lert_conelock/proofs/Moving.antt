@@ -1,11 +1,9 @@
 -- What callers did to a lock, as lists.
-use Rattle.std.proofs.Common.{◌≡◌, ◌≢◌, ℕ, zero, suc, ◌+◌, ◌<◌, ◌≤◌, eqb, List, [], ◌∷◌, ◌++◌, length, filter, replicate, Option, Some, None, sym, refl, ap, ◌∙◌, subst, arith, append-nil, append_assoc, length-append, ne_eqb, eq-eqb}
+use Rattle.std.proofs.Common.{◌≡◌, ◌≢◌, ℕ, zero, suc, ◌+◌, ◌<◌, ◌≤◌, eqb, List, [], ◌∷◌, ◌++◌, length, filter, replicate, Option, Some, None, sym, refl, ap, ◌∙◌, subst, arith, append-nil}
+use Rattle.std.proofs.Common.{append_assoc, length-append, ne_eqb, eq-eqb}
+use Rattle.std.proofs.{lemmas.Bool.{cond-true, cond-false}, lemmas.List.replicate-append-replicate, lemmas.List.Elements.filter-append}
 use Rattle.std.specs.Prelude.{sum_by}
-use Rattle.std.proofs.lemmas.Bool.{cond-true, cond-false}
-use Rattle.std.proofs.lemmas.List.{replicate-append-replicate}
-use Rattle.std.proofs.lemmas.List.Elements.{filter-append}
-use Rattle.lert_conelock.specs.Prefix.{IsPrefix}
-use Rattle.lert_conelock.specs.Moves.{Move, Take, Free, Miss, mover, own_moves, held_next, held_after, MayCome, AreOrderly, Moves, waits_and_takes}
+use Rattle.lert_conelock.specs.{Prefix.IsPrefix, Moves.{Move, Take, Free, Miss, mover, own_moves, held_next, held_after, MayCome, AreOrderly, Moves, waits_and_takes}}
 use Rattle.lert_conelock.proofs.Prefixes.{prefix_append, prefix_trans}
 
 -- who has the lock behind one move more

@@ -1,21 +1,12 @@
 -- The pass that has the lock notes a refusal, and the rule goes on.
-use Rattle.std.proofs.Common.{◌≡◌, ℕ, Bool, List, [], ◌∷◌, get_or, set, Option, Some, sym, refl, ap, ◌∙◌, subst, inl, inr, ⊎_elim, arith}
-use Rattle.std.specs.Prelude.{IsTrue}
-use Rattle.std.proofs.lemmas.Option.{same_Some}
-use Rattle.std.proofs.lemmas.Bool.{or_left, or_right}
+use Rattle.std.proofs.{Common.{◌≡◌, ℕ, Bool, List, [], ◌∷◌, get_or, set, Option, Some, sym, refl, ap, ◌∙◌, subst, inl, inr, ⊎_elim, arith}, lemmas.Option.same_Some, lemmas.Bool.{or_left, or_right}}
 use Rattle.std.proofs.lemmas.List.Elements.{Contains-append_left, Contains-push, Contains-push_cases}
+use Rattle.std.specs.Prelude.{IsTrue}
 use mathlib.Core.Option.{some}
 use Rattle.atomic_table.specs.Table.{Allows, keeps}
-use Rattle.lert_base.specs.declared.held.Held.{Ghosts as HeldOf}
-use Rattle.lert_base.specs.Packet.{Packet}
-use Rattle.lert_conelock.specs.After.{RefusesAfter}
-use Rattle.lert_conelock.specs.Shown.{Shown, noted}
-use Rattle.lert_conelock.specs.Rule.{Views, Has, IsRefused, IsCaused, Passes, HoldsWith, Holds}
-use Rattle.lert_conelock.specs.Steps.{Mine, IsReason}
-use Rattle.lert_conelock.proofs.Prefixes.{prefix_itself}
-use Rattle.lert_conelock.proofs.Replaced.{Grows, has_here, stopped_back, refused_on, passes_after}
-use Rattle.lert_conelock.proofs.Moved.{moved_same}
-use Rattle.lert_conelock.proofs.Words.{set_found}
+use Rattle.lert_base.specs.{declared.held.Held.Ghosts as HeldOf, Packet.Packet}
+use Rattle.lert_conelock.specs.{After.RefusesAfter, Shown.{Shown, noted}, Rule.{Views, Has, IsRefused, IsCaused, Passes, HoldsWith, Holds}, Steps.{Mine, IsReason}}
+use Rattle.lert_conelock.proofs.{Prefixes.prefix_itself, Replaced.{Grows, has_here, stopped_back, refused_on, passes_after}, Moved.moved_same, Words.set_found}
 
 module _ {H T R F : Type 0} (held : HeldOf H T R F) (first : H) (numbers : ℕ) where
   module _ (history : List Packet) (views : Views H F) (b : Passes held first numbers history views)

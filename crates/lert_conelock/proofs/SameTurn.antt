@@ -1,7 +1,6 @@
 -- Two answers that are one.
 use Rattle.std.proofs.Common.{◌≡◌}
-use Rattle.lert_conelock.specs.declared.turn.Turn.{Turn}
-use Rattle.lert_conelock.specs.declared.turn.Turn.TheVariants.{Busy, Done, Refused}
+use Rattle.lert_conelock.specs.{declared.turn.Turn.Turn, declared.turn.Turn.TheVariants.{Busy, Done, Refused}}
 
 pub same_done : {A F : Type 0} (a b : A) → ◌≡◌ {A = Turn A F} (Done a) (Done b) → a ≡ b
 same_done a b e = cc

@@ -1,27 +1,17 @@
 -- A pass is split in two, and the rule goes on.
-use Rattle.std.proofs.Common.{◌≡◌, ℕ, zero, suc, ◌<◌, ◌≤◌, List, [], ◌∷◌, ◌++◌, ◌⊎◌, length, set, Option, Some, None, sym, refl, ap, ◌∙◌, subst, inl, inr}
-use Rattle.std.proofs.Common.{⊎_elim, arith, length-set}
-use Rattle.std.specs.Prelude.{IsTrue, Contains}
-use Rattle.std.proofs.lemmas.Option.{same_Some, none-some}
-use Rattle.std.proofs.lemmas.Bool.{cases_lt}
-use Rattle.std.proofs.lemmas.List.Sums.{sum_by_push}
+use Rattle.std.proofs.Common.{◌≡◌, ℕ, zero, suc, ◌<◌, ◌≤◌, List, [], ◌∷◌, ◌++◌, ◌⊎◌, length, set, Option, Some, None, sym, refl, ap, ◌∙◌, subst, inl, inr, ⊎_elim, arith, length-set}
+use Rattle.std.proofs.{lemmas.Option.{same_Some, none-some}, lemmas.Bool.cases_lt, lemmas.List.Sums.sum_by_push}
+use Rattle.std.specs.{Prelude.{IsTrue, Contains}, Option.option_map}
 use mathlib.Core.Option.{some, some-injective, some-ne-none}
 use mathlib.Core.Logic.{dite}
 use native.Mathlib.Decide.{ℕ_discrete}
 use lib.ListN.{get_elem?}
 use Rattle.atomic_table.specs.Table.{Splits}
 use Rattle.atomic_table.proofs.Lists.{at_set, set_here, set_else, at_longer, at_last}
-use Rattle.lert_base.specs.declared.held.Held.{Ghosts as HeldOf}
-use Rattle.lert_base.specs.Packet.{Packet}
-use Rattle.std.specs.Option.{option_map}
-use Rattle.lert_conelock.specs.Steps.{Mine, IsIdle}
-use Rattle.lert_conelock.specs.Prefix.{IsPrefix}
-use Rattle.lert_conelock.specs.Moves.{Move, own_moves}
-use Rattle.lert_conelock.specs.Shown.{Shown, lower, upper}
+use Rattle.lert_base.specs.{declared.held.Held.Ghosts as HeldOf, Packet.Packet}
+use Rattle.lert_conelock.specs.{Steps.{Mine, IsIdle}, Prefix.IsPrefix, Moves.{Move, own_moves}, Shown.{Shown, lower, upper}}
 use Rattle.lert_conelock.specs.Rule.{Views, Has, IsStopped, IsRefused, IsCovered, IsTried, IsPart, IsCaused, Passes, Moved, Holds, met_of}
-use Rattle.lert_conelock.proofs.Replaced.{at_within, there_again}
-use Rattle.lert_conelock.proofs.Moved.{met_replaced}
-use Rattle.lert_conelock.proofs.Homes.{home_after}
+use Rattle.lert_conelock.proofs.{Replaced.{at_within, there_again}, Moved.met_replaced, Homes.home_after}
 
 snoc_cases : {A : Type 0} (l : List A) (j : ℕ) (a b : A) → get_elem? (l ++ a ∷ []) j ≡ some b
     → (get_elem? l j ≡ some b) ⊎ ((j ≡ length l) × (a ≡ b))

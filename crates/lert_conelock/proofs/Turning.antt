@@ -1,18 +1,11 @@
 -- One try of a call: from what `apply` says of the state to what the pass shows.
-use Rattle.std.proofs.Common.{◌≡◌, ℕ, ◌<◌, ◌^◌, false, ◌||◌, List, [], ◌∷◌, ◌++◌, ◌⊎◌, length, Option, Some, None, sym, refl, ap, ◌∙◌, subst, inl, inr}
-use Rattle.std.proofs.Common.{⊎_elim, arith, append_assoc, length-append}
+use Rattle.std.proofs.Common.{◌≡◌, ℕ, ◌<◌, ◌^◌, false, ◌||◌, List, [], ◌∷◌, ◌++◌, ◌⊎◌, length, Option, Some, None, sym, refl, ap, ◌∙◌, subst, inl, inr, ⊎_elim, arith, append_assoc, length-append}
+use Rattle.std.proofs.{lemmas.Bool.{cases_Bool, both_ways, or_cases, or_left, or_right}, lemmas.Option.same_Some, lemmas.List.Elements.{Contains-append_left, Contains-push}}
 use Rattle.std.specs.Prelude.{IsTrue, Contains}
-use Rattle.std.proofs.lemmas.Bool.{cases_Bool, both_ways, or_cases, or_left, or_right}
-use Rattle.std.proofs.lemmas.Option.{same_Some}
-use Rattle.std.proofs.lemmas.List.Elements.{Contains-append_left, Contains-push}
 use Rattle.atomic_table.specs.Table.{rest}
-use Rattle.lert_base.specs.declared.held.Held.{Ghosts as HeldOf}
-use Rattle.lert_base.specs.Packet.{Packet}
-use Rattle.lert_conelock.specs.After.{RefusesAfter}
-use Rattle.lert_conelock.specs.Moves.{Move, Take, Free, Moves}
-use Rattle.lert_conelock.specs.Shown.{Shown, taken, committed, noted, freed}
-use Rattle.lert_conelock.specs.Steps.{Mine, IsIdle, MayTake, InHand, Took, HasLock, IsTrying, IsReason}
-use Rattle.lert_conelock.specs.Turns.{WasTaken, WasRefused}
+use Rattle.lert_base.specs.{declared.held.Held.Ghosts as HeldOf, Packet.Packet}
+use Rattle.lert_conelock.specs.{After.RefusesAfter, Moves.{Move, Take, Free, Moves}, Shown.{Shown, taken, committed, noted, freed}}
+use Rattle.lert_conelock.specs.{Steps.{Mine, IsIdle, MayTake, InHand, Took, HasLock, IsTrying, IsReason}, Turns.{WasTaken, WasRefused}}
 use Rattle.lert_conelock.proofs.Moving.{moves_on}
 
 pub taker : {H F : Type 0} {me : Mine H F} {e : Packet} (may : MayTake me e) → me.0 ≡ Some may.pass

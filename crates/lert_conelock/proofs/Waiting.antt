@@ -1,13 +1,8 @@
 -- A call that tries again and again: each lost take is counted, and nothing else changes.
-use Rattle.std.proofs.Common.{◌≡◌, ℕ, ◌+◌, List, [], ◌∷◌, ◌++◌, replicate, Some, None, sym, refl, ap, ◌∙◌, subst, arith, append-nil}
-use Rattle.std.proofs.lemmas.Option.{same_Some}
+use Rattle.std.proofs.{Common.{◌≡◌, ℕ, ◌+◌, List, [], ◌∷◌, ◌++◌, replicate, Some, None, sym, refl, ap, ◌∙◌, subst, arith, append-nil}, lemmas.Option.same_Some}
 use Rattle.lert_base.specs.Packet.{Packet}
-use Rattle.lert_conelock.specs.Moves.{Move, Miss, own_moves}
-use Rattle.lert_conelock.specs.Shown.{Shown, missed}
-use Rattle.lert_conelock.specs.Steps.{Mine, MayTake, Missed}
-use Rattle.lert_conelock.specs.Turns.{Waited}
-use Rattle.lert_conelock.proofs.Prefixes.{prefix_itself, prefix_trans}
-use Rattle.lert_conelock.proofs.Moving.{misses_on}
+use Rattle.lert_conelock.specs.{Moves.{Move, Miss, own_moves}, Shown.{Shown, missed}, Steps.{Mine, MayTake, Missed}, Turns.Waited}
+use Rattle.lert_conelock.proofs.{Prefixes.{prefix_itself, prefix_trans}, Moving.misses_on}
 
 pub record IsWaiting {H F : Type 0} (e : Packet) (before now : Mine H F) : Type 0 where
   pub pass : Shown H F

@@ -1,7 +1,6 @@
 -- What holds after a part of a lock's history, whatever list of packets its first state stands for.
 use Rattle.std.specs.Prelude.{List, ◌++◌}
-use Rattle.lert_base.specs.declared.held.Held.{Ghosts as HeldOf}
-use Rattle.lert_base.specs.Packet.{Packet}
+use Rattle.lert_base.specs.{declared.held.Held.Ghosts as HeldOf, Packet.Packet}
 
 module _ {H T R F : Type 0} (held : HeldOf H T R F) (first : H) (past : List Packet) where
   -- the state is one that the past makes of the first one

@@ -1,8 +1,6 @@
 -- What a try counts.
 use Rattle.std.specs.Prelude.{ℕ, List, [], ◌∷◌}
-use Rattle.lert_conelock.specs.Moves.{Move, Take, Free, Miss}
-use Rattle.lert_conelock.specs.declared.turn.Turn.{Turn}
-use Rattle.lert_conelock.specs.declared.turn.Turn.TheVariants.{Done, Refused, Busy}
+use Rattle.lert_conelock.specs.{Moves.{Move, Take, Free, Miss}, declared.turn.Turn.Turn, declared.turn.Turn.TheVariants.{Done, Refused, Busy}}
 
 -- how many takes a try lost
 abbrev pub lost : {A F : Type 0} → Turn A F → ℕ

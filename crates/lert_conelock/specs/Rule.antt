@@ -3,12 +3,8 @@ use Rattle.std.specs.Prelude.{◌≡◌, ℕ, ◌<◌, ◌≤◌, List, [], ◌�
 use mathlib.Core.Option.{some}
 use lib.ListN.{get_elem?}
 use Rattle.atomic_table.specs.Table.{State}
-use Rattle.lert_base.specs.declared.held.Held.{Ghosts as HeldOf}
-use Rattle.lert_base.specs.Packet.{Packet, own}
-use Rattle.lert_conelock.specs.Prefix.{IsPrefix}
-use Rattle.lert_conelock.specs.Moves.{Move, AreOrderly, held_after, misses, own_moves}
-use Rattle.lert_conelock.specs.After.{StandsAfter, RefusesAfter}
-use Rattle.lert_conelock.specs.Shown.{Shown}
+use Rattle.lert_base.specs.{declared.held.Held.Ghosts as HeldOf, Packet.{Packet, own}}
+use Rattle.lert_conelock.specs.{Prefix.IsPrefix, Moves.{Move, AreOrderly, held_after, misses, own_moves}, After.{StandsAfter, RefusesAfter}, Shown.Shown}
 
 -- what the seats show, in their order: a spent pass shows nothing
 abbrev pub Views : Type 0 → Type 0 → Type 0

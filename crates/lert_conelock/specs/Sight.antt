@@ -1,13 +1,8 @@
 -- What callers see of a pass and of a lock.
-use Rattle.std.specs.Prelude.{◌≡◌, ℕ, ◌+◌, ◌<◌, ◌≤◌, ◌==◌, Bool, false, ◌||◌, List, [], ◌∷◌, ◌++◌, ◌⊎◌, filter, Option, Some, None, is_none, IsTrue}
-use Rattle.std.specs.Prelude.{Contains}
+use Rattle.std.specs.Prelude.{◌≡◌, ℕ, ◌+◌, ◌<◌, ◌≤◌, ◌==◌, Bool, false, ◌||◌, List, [], ◌∷◌, ◌++◌, ◌⊎◌, filter, Option, Some, None, is_none, IsTrue, Contains}
 use Rattle.atomic_table.specs.Seated.{TableId}
-use Rattle.lert_base.specs.declared.held.Held.{Ghosts as HeldOf}
-use Rattle.lert_base.specs.Packet.{Packet, own}
-use Rattle.lert_conelock.specs.Prefix.{IsPrefix}
-use Rattle.lert_conelock.specs.Moves.{Move, Miss, AreOrderly, IsAnothers, held_after, misses, own_moves}
-use Rattle.lert_conelock.specs.After.{StandsAfter, AnswersAfter, RefusesAfter}
-use Rattle.lert_conelock.specs.Shown.{Shown, longer}
+use Rattle.lert_base.specs.{declared.held.Held.Ghosts as HeldOf, Packet.{Packet, own}}
+use Rattle.lert_conelock.specs.{Prefix.IsPrefix, Moves.{Move, Miss, AreOrderly, IsAnothers, held_after, misses, own_moves}, After.{StandsAfter, AnswersAfter, RefusesAfter}, Shown.{Shown, longer}}
 
 -- a pass: the lock that it is of, the state that this began with, the numbers from lo on and below hi,
 -- and what it knows. Of calls and refused only what its own numbers brought means anything

@@ -1,12 +1,8 @@
 -- What the steps of a cone lock tell the caller that makes them.
 use Rattle.std.specs.Prelude.{◌≡◌, ℕ, ◌<◌, ◌≤◌, Bool, List, [], ◌∷◌, ◌++◌, ◌⊎◌, length, Option, Some, None, IsTrue, Contains}
 use Rattle.atomic_table.specs.Table.{Me}
-use Rattle.lert_base.specs.declared.held.Held.{Ghosts as HeldOf}
-use Rattle.lert_base.specs.Packet.{Packet, own}
-use Rattle.lert_conelock.specs.Prefix.{IsPrefix}
-use Rattle.lert_conelock.specs.After.{StandsAfter, RefusesAfter}
-use Rattle.lert_conelock.specs.Moves.{Move, Take, Miss, Moves, IsAnothers, held_after}
-use Rattle.lert_conelock.specs.Shown.{Shown, missed, taken}
+use Rattle.lert_base.specs.{declared.held.Held.Ghosts as HeldOf, Packet.{Packet, own}}
+use Rattle.lert_conelock.specs.{Prefix.IsPrefix, After.{StandsAfter, RefusesAfter}, Moves.{Move, Take, Miss, Moves, IsAnothers, held_after}, Shown.{Shown, missed, taken}}
 
 -- a seat's view, and the slot that it holds
 abbrev pub Mine : Type 0 → Type 0 → Type 0

@@ -1,11 +1,7 @@
 -- What the tries of a call leave its pass with.
 use Rattle.std.specs.Prelude.{◌≡◌, ℕ, ◌+◌, Bool, List, [], ◌∷◌, ◌++◌, ◌⊎◌, None, IsTrue, replicate}
-use Rattle.lert_base.specs.declared.held.Held.{Ghosts as HeldOf}
-use Rattle.lert_base.specs.Packet.{Packet}
-use Rattle.lert_conelock.specs.Prefix.{IsPrefix}
-use Rattle.lert_conelock.specs.After.{AnswersAfter, RefusesAfter}
-use Rattle.lert_conelock.specs.Moves.{Move, Take, Free, Miss, Moves, own_moves}
-use Rattle.lert_conelock.specs.Shown.{Shown}
+use Rattle.lert_base.specs.{declared.held.Held.Ghosts as HeldOf, Packet.Packet}
+use Rattle.lert_conelock.specs.{Prefix.IsPrefix, After.{AnswersAfter, RefusesAfter}, Moves.{Move, Take, Free, Miss, Moves, own_moves}, Shown.Shown}
 
 -- p after so many takes that found the lock held: w is what it shows now
 pub record Waited {H F : Type 0} (p w : Shown H F) : Type 0 where

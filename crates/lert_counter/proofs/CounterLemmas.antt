@@ -1,8 +1,6 @@
 -- The texts of counters and groups, case by case.
-use Rattle.std.proofs.Common.{◌≡◌, ℕ, ◌+◌, ◌-◌, ◌<◌, ◌≤◌, false, eqb, List, [], ◌∷◌, ◌++◌, length, map, take, drop, get_or, set, refl, sym, ap, ◌∙◌}
-use Rattle.std.proofs.Common.{arith, append_assoc}
-use Rattle.std.proofs.lemmas.List.{take_more_set, length-take-le, drop-set-lt, drop-drop, length-set}
-use Rattle.std.proofs.lemmas.Bool.Decides.{nat_tests}
+use Rattle.std.proofs.Common.{◌≡◌, ℕ, ◌+◌, ◌-◌, ◌<◌, ◌≤◌, false, eqb, List, [], ◌∷◌, ◌++◌, length, map, take, drop, get_or, set, refl, sym, ap, ◌∙◌, arith, append_assoc}
+use Rattle.std.proofs.{lemmas.List.{take_more_set, length-take-le, drop-set-lt, drop-drop, length-set}, lemmas.Bool.Decides.nat_tests}
 use Rattle.lert_counter.specs.Group.{digits, written, digit_base, least_counter, counter_digits, guarded, counter, group}
 use Rattle.lert_counter.proofs.DigitLemmas.{digits-first}
 

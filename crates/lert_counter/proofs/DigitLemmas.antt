@@ -1,8 +1,6 @@
 -- The digits of a number and how they are written.
-use Rattle.std.proofs.Common.{◌≡◌, ℕ, suc, zero, ◌+◌, ◌-◌, ◌/◌, ◌%◌, ◌<◌, ◌≤◌, List, [], ◌∷◌, ◌++◌, length, map, take, get_or, set, refl, ◌∙◌}
-use Rattle.std.proofs.Common.{arith, length-append, append_assoc}
-use Rattle.std.proofs.lemmas.List.{take_more_set, map-append}
-use Rattle.std.proofs.lemmas.Bool.Decides.{nat_tests}
+use Rattle.std.proofs.Common.{◌≡◌, ℕ, suc, zero, ◌+◌, ◌-◌, ◌/◌, ◌%◌, ◌<◌, ◌≤◌, List, [], ◌∷◌, ◌++◌, length, map, take, get_or, set, refl, ◌∙◌, arith, length-append, append_assoc}
+use Rattle.std.proofs.{lemmas.List.{take_more_set, map-append}, lemmas.Bool.Decides.nat_tests}
 use Rattle.lert_counter.specs.Group.{digits, written}
 
 -- one digit more, where the number has one more

@@ -1,12 +1,8 @@
 -- The length of a group, its first value, and that it has no two zeros beside each other.
-use Rattle.std.proofs.Common.{◌≡◌, ℕ, suc, zero, ◌+◌, ◌-◌, ◌<◌, ◌≤◌, List, [], ◌∷◌, ◌++◌, length, map, get_or, sym, ap, ◌∙◌, subst, inl, inr, arith}
-use Rattle.std.proofs.Common.{length-append, append_assoc, add-one}
-use Rattle.std.proofs.lemmas.List.{length-map}
-use Rattle.std.proofs.lemmas.Bool.{cases_lt, cases_eq}
-use Rattle.lert_counter.specs.Group.{digits, written, digit_base, group}
-use Rattle.lert_counter.specs.Reading.{HasTwoZeros}
-use Rattle.lert_counter.proofs.DigitLemmas.{length_digits-le, length_digits-positive}
-use Rattle.lert_counter.proofs.CounterLemmas.{counter-zero, counter-guarded, counter-bare, group-counter, group-one, group-two, group-three}
+use Rattle.std.proofs.Common.{◌≡◌, ℕ, suc, zero, ◌+◌, ◌-◌, ◌<◌, ◌≤◌, List, [], ◌∷◌, ◌++◌, length, map, get_or, sym, ap, ◌∙◌, subst, inl, inr, arith, length-append, append_assoc, add-one}
+use Rattle.std.proofs.{lemmas.List.length-map, lemmas.Bool.{cases_lt, cases_eq}}
+use Rattle.lert_counter.specs.{Group.{digits, written, digit_base, group}, Reading.HasTwoZeros}
+use Rattle.lert_counter.proofs.{DigitLemmas.{length_digits-le, length_digits-positive}, CounterLemmas.{counter-zero, counter-guarded, counter-bare, group-counter, group-one, group-two, group-three}}
 use Rattle.lert_counter.proofs.ScanLemmas.{written-positive}
 
 -- the six texts that a group can have

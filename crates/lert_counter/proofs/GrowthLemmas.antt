@@ -1,15 +1,8 @@
 -- How the length of a group grows with its count.
-use Rattle.std.proofs.Common.{◌≡◌, ℕ, suc, zero, ◌+◌, ◌-◌, ◌*◌, ◌/◌, ◌%◌, ◌<◌, ◌≤◌, List, [], ◌∷◌, ◌++◌, length, map, get_or, refl, ap, ◌∙◌}
-use Rattle.std.proofs.Common.{inl, inr, ◌⊎◌, arith, length-append}
-use Rattle.std.proofs.lemmas.List.{get_or_append_left}
-use Rattle.std.proofs.Math.Nat.{div-lt_self, div-mul-le_self}
-use Rattle.std.proofs.lemmas.Nat.{le-div}
-use Rattle.std.proofs.lemmas.Bool.{cases_lt}
-use Rattle.std.proofs.lemmas.Bool.Decides.{nat_tests}
+use Rattle.std.proofs.Common.{◌≡◌, ℕ, suc, zero, ◌+◌, ◌-◌, ◌*◌, ◌/◌, ◌%◌, ◌<◌, ◌≤◌, List, [], ◌∷◌, ◌++◌, length, map, get_or, refl, ap, ◌∙◌, inl, inr, ◌⊎◌, arith, length-append}
+use Rattle.std.proofs.{lemmas.List.get_or_append_left, Math.Nat.{div-lt_self, div-mul-le_self}, lemmas.Nat.{le-div, div_below}, lemmas.Bool.cases_lt, lemmas.Bool.Decides.nat_tests}
 use Rattle.lert_counter.specs.Group.{digits, written, digit_base, group}
-use Rattle.lert_counter.proofs.DigitLemmas.{length_digits-positive, digits-suc, digits-last}
-use Rattle.lert_counter.proofs.Widths.{width_least}
-use Rattle.lert_counter.proofs.GroupLemmas.{shape_of, length_middle, length_group-positive}
+use Rattle.lert_counter.proofs.{DigitLemmas.{length_digits-positive, length_digits-le, digits-suc, digits-last}, Widths.width_least, GroupLemmas.{shape_of, length_middle, length_group-positive}}
 use Rattle.lert_counter.proofs.GroupLemmas.Shape.{one, two, three, zeros, bare, guarded}
 
 -- a number's digits are at most one more than the number
@@ -68,18 +61,45 @@ length_guarded : (width x c : ℕ) (t : List ℕ) → t ≡ x ∷ 0 ∷ (map (wr
     length t ≡ length (digits 5 (digit_base width x) (c - 3)) + 3
 length_guarded width x c t is = omega (arith, ap (λ (t : List ℕ). length t) is, length_middle x (c - 3) (digit_base width x) (x ∷ []))
 
--- a group is at most twice as long as its count
-pub length_group-twice : (width x c : ℕ) → 8 ≤ width → 1 ≤ c → length (group width x c) ≤ 2 * c
-length_group-twice width x c wide positive =
-    let few = length_digits-number 5 (digit_base width x) (c - 3) (base_least width x wide) in
-    let few_zero = length_digits-number 5 (digit_base width 0) (c - 4) (base_least width 0 wide) in
+base_large : (width x : ℕ) → 8 ≤ width → 254 ≤ digit_base width x
+base_large width x wide = let least = width_least width wide in grind (arith, nat_tests)
+
+-- a number below the base has one digit, and one up to 507 has two at most
+one_digit : (b n : ℕ) → n < b → length (digits 5 b n) ≡ 1
+one_digit b n less = ap (λ (t : List ℕ). length t) (digits-last 4 b n less)
+
+two_digits : (b n : ℕ) → 254 ≤ b → n ≤ 507 → length (digits 5 b n) ≤ 2
+two_digits b n large few =
+    elim (cases_lt n b) [
+      | inl less ↦ omega (arith, one_digit b n less)
+      | inr more ↦ (let below : n / b < 254 = div_below n b 254 (omega arith) (omega arith) in
+          let last : digits 4 b (n / b) ≡ n / b ∷ [] = digits-last 3 b (n / b) (omega arith) in
+          omega (arith, ap (λ (t : List ℕ). length t) (digits-suc 4 b n more), length-append (digits 4 b (n / b)) (n % b ∷ []), ap (λ (t : List ℕ). length t) last))
+    ]
+
+-- three more slots than digits are no more than four for each 255 of a count that is greater by three or four
+few_slots : (b c less slots : ℕ) → 254 ≤ b → 3 ≤ less → less ≤ c → slots ≤ length (digits 5 b (c - less)) + 3 → slots ≤ 4 * ((c + 254) / 255)
+few_slots b c less slots large least most is =
+    elim (cases_lt c 256) [
+      | inl low ↦ omega (arith, one_digit b (c - less) (omega arith))
+      | inr above ↦ elim (cases_lt c 511) [
+        | inl low ↦ omega (arith, two_digits b (c - less) large (omega arith))
+        | inr high ↦ omega (arith, length_digits-le 5 b (c - less))
+      ]
+    ]
+
+-- a group has at most four slots for each 255 of its count
+pub length_group-four : (width x c : ℕ) → 8 ≤ width → 1 ≤ c → length (group width x c) ≤ 4 * ((c + 254) / 255)
+length_group-four width x c wide positive =
+    let large = base_large width x wide in
+    let large_zero = base_large width 0 wide in
     elim (shape_of width x c positive) [
       | one e is ↦ omega (arith, ap (λ (t : List ℕ). length t) is)
       | two e is ↦ omega (arith, ap (λ (t : List ℕ). length t) is)
       | three z e is ↦ omega (arith, ap (λ (t : List ℕ). length t) is)
-      | zeros z l is ↦ omega (arith, length_zeros width c _ is)
-      | bare p l w is ↦ omega (arith, length_bare width x c _ is)
-      | guarded p l w is ↦ omega (arith, length_guarded width x c _ is)
+      | zeros z l is ↦ few_slots (digit_base width 0) c 4 _ large_zero (omega arith) l (let long = length_zeros width c _ is in omega arith)
+      | bare p l w is ↦ few_slots (digit_base width x) c 3 _ large (omega arith) l (let long = length_bare width x c _ is in omega arith)
+      | guarded p l w is ↦ few_slots (digit_base width x) c 3 _ large (omega arith) l (let long = length_guarded width x c _ is in omega arith)
     ]
 
 -- the least lengths of a group, by its count

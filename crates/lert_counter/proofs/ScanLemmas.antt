@@ -1,13 +1,9 @@
 -- Reading digits back.
 use Rattle.std.proofs.Common.{◌≡◌, ℕ, ◌+◌, ◌*◌, ◌<◌, ◌≤◌, ◌≢◌, List, [], ◌∷◌, ◌++◌, length, map, take, drop, get_or, sym, ap, ◌∙◌, inl, inr, arith}
-use Rattle.std.proofs.lemmas.List.{get_or_append_left, get_or_at, length-map, get_or-map, take-append-drop, take_all}
-use Rattle.std.proofs.lemmas.List.Sums.{fold-append, fold_more}
-use Rattle.std.proofs.Math.Nat.{mul-le-mul_left}
-use Rattle.std.proofs.lemmas.Bool.{cases_lt}
-use Rattle.std.proofs.lemmas.Bool.Decides.{nat_tests}
+use Rattle.std.proofs.{lemmas.List.{get_or_append_left, get_or_at, length-map, get_or-map, take-append-drop, take_all}, lemmas.List.Sums.{fold-append, fold_more}, Math.Nat.mul-le-mul_left}
+use Rattle.std.proofs.{lemmas.Bool.cases_lt, lemmas.Bool.Decides.nat_tests}
 use Rattle.std.specs.Prelude.{fold}
-use Rattle.lert_counter.specs.Group.{written}
-use Rattle.lert_counter.specs.Reading.{number_of}
+use Rattle.lert_counter.specs.{Group.written, Reading.number_of}
 
 -- no digit is written as 0 or as x
 pub written-positive : (x d : ℕ) → 0 < written x d

@@ -1,15 +1,9 @@
 -- The slots of a group are below 2 to its width.
 use Rattle.std.proofs.Common.{◌≡◌, ℕ, suc, zero, ◌-◌, ◌*◌, ◌/◌, ◌%◌, ◌^◌, ◌<◌, ◌≤◌, List, [], ◌∷◌, ◌++◌, map, ap, ◌∙◌, inl, inr, arith, All}
-use Rattle.std.proofs.lemmas.List.Elements.{All-append, All-map, All-cons, All-nil, All-same, All-weaker}
-use Rattle.std.proofs.Math.Nat.{pow-le-pow_left, pow-suc, pow-zero, one-mul}
-use Rattle.std.proofs.lemmas.Nat.{div_below, mod_below}
-use Rattle.std.proofs.lemmas.Bool.{cases_lt}
-use Rattle.std.proofs.lemmas.Bool.Decides.{nat_tests}
+use Rattle.std.proofs.{lemmas.List.Elements.{All-append, All-map, All-cons, All-nil, All-same, All-weaker}, Math.Nat.{pow-le-pow_left, pow-suc, pow-zero, one-mul}, lemmas.Nat.{div_below, mod_below}}
+use Rattle.std.proofs.{lemmas.Bool.cases_lt, lemmas.Bool.Decides.nat_tests}
 use Rattle.lert_counter.specs.Group.{digits, written, digit_base, group, IsCount}
-use Rattle.lert_counter.proofs.DigitLemmas.{digits-suc, digits-last}
-use Rattle.lert_counter.proofs.Widths.{width_least}
-use Rattle.lert_counter.proofs.GroupLemmas.{shape_of}
-use Rattle.lert_counter.proofs.GroupLemmas.Shape.{one, two, three, zeros, bare, guarded}
+use Rattle.lert_counter.proofs.{DigitLemmas.{digits-suc, digits-last}, Widths.width_least, GroupLemmas.shape_of, GroupLemmas.Shape.{one, two, three, zeros, bare, guarded}}
 
 -- the digits of a number that has room for them are below the base
 digits_below : (room b n : ℕ) → 0 < b → n < b ^ suc room → All (λ d. d < b) (digits room b n)

@@ -1,14 +1,8 @@
 -- Digits as they are read, with no test.
-use Rattle.std.proofs.Common.{◌≡◌, ◌≢◌, ℕ, suc, ◌+◌, ◌-◌, ◌*◌, ◌^◌, ◌<◌, ◌≤◌, Option, Some, None, List, [], ◌∷◌, ◌++◌, length, map, take, drop}
-use Rattle.std.proofs.Common.{get_or, refl, sym, ap, ◌∙◌, subst, arith, length-append}
+use Rattle.std.proofs.Common.{◌≡◌, ◌≢◌, ℕ, suc, ◌+◌, ◌-◌, ◌*◌, ◌^◌, ◌<◌, ◌≤◌, Option, Some, None, List, [], ◌∷◌, ◌++◌, length, map, take, drop, get_or, refl, sym, ap, ◌∙◌, subst, arith, length-append}
+use Rattle.std.proofs.{lemmas.Bool.Decides.nat_tests, lemmas.List.{take_more, take_rest, take-append-drop, map-append}, lemmas.List.Sums.fold-append, Math.Seq.drop-cons}
 use Rattle.std.specs.Prelude.{IfSome}
-use Rattle.std.proofs.lemmas.Bool.Decides.{nat_tests}
-use Rattle.std.proofs.lemmas.List.{take_more, take_rest, take-append-drop, map-append}
-use Rattle.std.proofs.lemmas.List.Sums.{fold-append}
-use Rattle.std.proofs.Math.Seq.{drop-cons}
-use Rattle.lert_counter.specs.Group.{written, digit_base}
-use Rattle.lert_counter.specs.Reading.{number_of, Spells, SpellsCounter, IsSpelled, digits_at}
-use Rattle.lert_counter.specs.declared.group.Group.{Group}
+use Rattle.lert_counter.specs.{Group.{written, digit_base}, Reading.{number_of, Spells, SpellsCounter, IsSpelled, digits_at}, declared.group.Group.Group}
 
 -- the digits that were read so far
 pub record SpelledTo (base x at : ℕ) (slots : List ℕ) (number : ℕ) : Type 0 where

@@ -1,7 +1,5 @@
 -- What a width of 8 to 62 bits says of `1 << width`.
-use Rattle.std.proofs.Common.{◌≡◌, ℕ, ◌*◌, ◌%◌, ◌^◌, ◌≤◌, arith}
-use Rattle.std.proofs.Math.Nat.{pow-le-pow_right}
-use Rattle.std.proofs.lemmas.Nat.{one_shl}
+use Rattle.std.proofs.{Common.{◌≡◌, ℕ, ◌*◌, ◌%◌, ◌^◌, ◌≤◌, arith}, Math.Nat.pow-le-pow_right, lemmas.Nat.one_shl}
 
 pub shift_is : (width : ℕ) → width ≤ 62 → (1 * 2 ^ width) % 18446744073709551616 ≡ 2 ^ width
 shift_is width narrow = one_shl width 64 (omega arith)

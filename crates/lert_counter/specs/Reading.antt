@@ -1,8 +1,6 @@
 -- What reading a group of a text answers.
-use Rattle.std.specs.Prelude.{ℕ, ◌+◌, ◌*◌, ◌^◌, ◌≡◌, ◌<◌, ◌≤◌, ◌==◌, ◌⊎◌, Option, Some, IfNone, IfSome, List, ◌∷◌, ◌++◌, fold, map, take, drop}
-use Rattle.std.specs.Prelude.{length, slice_index, if◌then◌else◌}
-use Rattle.lert_counter.specs.Group.{group, written, digit_base, IsCount, BeginsWith}
-use Rattle.lert_counter.specs.declared.group.Group.{Group}
+use Rattle.std.specs.Prelude.{ℕ, ◌+◌, ◌*◌, ◌^◌, ◌≡◌, ◌<◌, ◌≤◌, ◌==◌, ◌⊎◌, Option, Some, IfNone, IfSome, List, ◌∷◌, ◌++◌, fold, map, take, drop, length, slice_index, if◌then◌else◌}
+use Rattle.lert_counter.specs.{Group.{group, written, digit_base, IsCount, BeginsWith}, declared.group.Group.Group}
 
 -- the number that digits in base b spell, the most significant first
 abbrev pub number_of : ℕ → List ℕ → ℕ

@@ -1,12 +1,9 @@
 -- No count of a table is greater than all its counts together.
-use Rattle.std.proofs.Common.{ℕ, ◌/◌, ◌%◌, ◌^◌, ◌<◌, List, [], ◌∷◌, ◌++◌, sym, subst, inl, inr, arith}
-use Rattle.std.proofs.lemmas.Bool.{cases_eq}
+use Rattle.std.proofs.{Common.{ℕ, ◌/◌, ◌%◌, ◌^◌, ◌<◌, List, [], ◌∷◌, ◌++◌, sym, subst, inl, inr, arith}, lemmas.Bool.cases_eq}
 use Rattle.lert_runs.specs.RunText.{CountsBelow}
-use Rattle.lert_spec.specs.Table.{total}
-use Rattle.lert_spec.specs.declared.piece.Piece.{Piece}
+use Rattle.lert_spec.specs.{Table.total, declared.piece.Piece.Piece}
 use Rattle.lert_cqf.specs.Layout.{in_front, by_quotient}
-use Rattle.lert_cqf.proofs.QuotientLemmas.{Runs, front-none, front-same}
-use Rattle.lert_cqf.proofs.SplitLemmas.{Holds}
+use Rattle.lert_cqf.proofs.{QuotientLemmas.{Runs, front-none, front-same}, SplitLemmas.Holds}
 
 -- each count of each run is below m
 abbrev RunsBelow : ℕ → Runs → Type 0

@@ -1,12 +1,8 @@
 -- The cells as one run grows.
-use Rattle.std.proofs.Common.{◌≡◌, ℕ, suc, ◌+◌, ◌-◌, ◌<◌, ◌≤◌, List, [], ◌∷◌, ◌++◌, length, replicate, max, refl, sym, ap, ◌∙◌, arith, length-append}
-use Rattle.std.proofs.Common.{append_assoc}
+use Rattle.std.proofs.Common.{◌≡◌, ℕ, suc, ◌+◌, ◌-◌, ◌<◌, ◌≤◌, List, [], ◌∷◌, ◌++◌, length, replicate, max, refl, sym, ap, ◌∙◌, arith, length-append, append_assoc}
+use Rattle.std.proofs.{lemmas.List.{length-replicate, replicate-append-replicate}, lemmas.List.Edits.{remove-append_right, insert-append_right}}
 use Rattle.std.specs.Prelude.{insert, remove}
-use Rattle.std.proofs.lemmas.List.{length-replicate, replicate-append-replicate}
-use Rattle.std.proofs.lemmas.List.Edits.{remove-append_right, insert-append_right}
-use Rattle.lert_cqf.specs.Around.{HomesAscend}
-use Rattle.lert_cqf.specs.Rows.{filled_gap}
-use Rattle.lert_cqf.specs.Cells.{cells_from, cells, stop, first_free}
+use Rattle.lert_cqf.specs.{Around.HomesAscend, Rows.filled_gap, Cells.{cells_from, cells, stop, first_free}}
 use Rattle.lert_cqf.proofs.CellLemmas.{pushed, first_free-from}
 
 -- a gap behind a front

@@ -4,6 +4,7 @@ pub mod CellLemmas
 pub mod GrowingLemmas
 pub mod GrownLemmas
 pub mod OpeningLemmas
+pub mod PastLemmas
 pub mod QuotientLemmas
 pub mod SlotsLemmas
 pub mod RotateLemmas

@@ -1,18 +1,10 @@
 -- One slot more, step by step.
-use Rattle.std.proofs.Common.{◌≡◌, ℕ, suc, ◌+◌, ◌-◌, ◌^◌, ◌<◌, ◌≤◌, Bool, true, false, List, [], ◌∷◌, ◌++◌, length, get_or, set, max, min, refl, ap}
-use Rattle.std.proofs.Common.{◌∙◌, inl, inr, arith, length-append}
+use Rattle.std.proofs.Common.{◌≡◌, ℕ, suc, ◌+◌, ◌-◌, ◌^◌, ◌<◌, ◌≤◌, Bool, true, false, List, [], ◌∷◌, ◌++◌, length, get_or, set, max, min, refl, ap, ◌∙◌, inl, inr, arith, length-append}
+use Rattle.std.proofs.{lemmas.List.length-set, lemmas.List.Edits.{length-insert, length-remove}, lemmas.Bool.cases_lt}
 use Rattle.std.specs.Prelude.{remove}
-use Rattle.std.proofs.lemmas.List.{length-set}
-use Rattle.std.proofs.lemmas.List.Edits.{length-insert, length-remove}
-use Rattle.std.proofs.lemmas.Bool.{cases_lt}
 use Rattle.lert_slotbits.specs.Bits.{IsFirst, gapped}
-use Rattle.lert_cqf.specs.Cells.{stop, end_before, first_free}
-use Rattle.lert_cqf.specs.Rows.{IsSpread, filled_gap, IsRaised}
-use Rattle.lert_cqf.specs.Around.{total_length, IsOpening, IsWidened}
-use Rattle.lert_cqf.proofs.CellLemmas.{first_free-from}
-use Rattle.lert_cqf.proofs.SpillLemmas.{end_passes, end_here}
-use Rattle.lert_cqf.proofs.SpreadLemmas.{free_found, spread_grown}
-use Rattle.lert_cqf.proofs.BegunLemmas.{total-append, free_within}
+use Rattle.lert_cqf.specs.{Cells.{stop, end_before, first_free}, Rows.{IsSpread, filled_gap, IsRaised}, Around.{total_length, IsOpening, IsWidened}}
+use Rattle.lert_cqf.proofs.{CellLemmas.first_free-from, SpillLemmas.{end_passes, end_here}, SpreadLemmas.{free_found, spread_grown}, BegunLemmas.{total-append, free_within}}
 
 pub length_filled : {C : Type 0} (xs : List C) (from to : ℕ) (v : C) → from ≤ to → to < length xs → length (filled_gap xs from to v) ≡ length xs
 length_filled xs from to v order within =

@@ -1,14 +1,10 @@
 -- A count table by its quotients.
-use Rattle.std.proofs.Common.{◌≡◌, ℕ, ◌+◌, ◌-◌, ◌*◌, ◌/◌, ◌%◌, ◌^◌, ◌<◌, ◌≤◌, ◌≢◌, cond, ltb, eqb, List, [], ◌∷◌, length, refl, sym, ap}
-use Rattle.std.proofs.Common.{◌∙◌, subst, inl, inr, ◌⊎◌, arith}
-use Rattle.std.proofs.lemmas.Bool.{cases_lt, cases_eq, cases_order}
-use Rattle.std.proofs.lemmas.Bool.Decides.{nat_tests}
-use Rattle.std.proofs.lemmas.Nat.{div-add-mod', mod_below, div_below, pow_pos, div-mul-add, mod-mul-add}
+use Rattle.std.proofs.Common.{◌≡◌, ℕ, ◌+◌, ◌-◌, ◌*◌, ◌/◌, ◌%◌, ◌^◌, ◌<◌, ◌≤◌, ◌≢◌, cond, ltb, eqb, List, [], ◌∷◌, length, refl, sym, ap, ◌∙◌, subst, inl, inr, ◌⊎◌, arith}
+use Rattle.std.proofs.{lemmas.Bool.{cases_lt, cases_eq, cases_order}, lemmas.Bool.Decides.nat_tests, lemmas.Nat.{div-add-mod', mod_below, div_below, pow_pos, div-mul-add, mod-mul-add}}
 use Rattle.lert_counter.specs.Group.{IsCount}
 use Rattle.lert_runs.specs.RunText.{RemaindersAscend, count_in, pairs_plus}
 use Rattle.lert_runs.proofs.RunLemmas.{count_in-here, count_in-later, pairs_plus-before, pairs_plus-here, pairs_plus-behind}
-use Rattle.lert_spec.specs.Table.{count_of, total, plus, AscendsFrom}
-use Rattle.lert_spec.specs.declared.piece.Piece.{Piece}
+use Rattle.lert_spec.specs.{Table.{count_of, total, plus, AscendsFrom}, declared.piece.Piece.Piece}
 use Rattle.lert_spec.proofs.Tables.{plus_here, plus_before, plus_behind}
 use Rattle.lert_cqf.specs.Layout.{in_front, by_quotient}
 

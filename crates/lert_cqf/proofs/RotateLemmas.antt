@@ -1,10 +1,7 @@
 -- A part of a row that is rotated by one.
-use Rattle.std.proofs.Common.{◌≡◌, ℕ, suc, ◌+◌, ◌-◌, ◌<◌, ◌≤◌, Bool, List, [], ◌∷◌, ◌++◌, length, take, drop, get_or, sym, ap, ◌∙◌, inl, inr, arith}
-use Rattle.std.proofs.Common.{length-append, append_assoc}
+use Rattle.std.proofs.Common.{◌≡◌, ℕ, suc, ◌+◌, ◌-◌, ◌<◌, ◌≤◌, Bool, List, [], ◌∷◌, ◌++◌, length, take, drop, get_or, sym, ap, ◌∙◌, inl, inr, arith, length-append, append_assoc}
+use Rattle.std.proofs.{lemmas.Bool.cases_order, lemmas.List.{take_at, drop_at, take_more, drop-drop, length-take-le, length-drop, get_or-drop}, Math.Seq.take-add}
 use Rattle.std.specs.Prelude.{insert, remove}
-use Rattle.std.proofs.lemmas.Bool.{cases_order}
-use Rattle.std.proofs.lemmas.List.{take_at, drop_at, take_more, drop-drop, length-take-le, length-drop, get_or-drop}
-use Rattle.std.proofs.Math.Seq.{take-add}
 use Rattle.lert_slotbits.specs.Bits.{IsFirst}
 use Rattle.lert_cqf.specs.Rows.{filled_gap}
 

@@ -10,7 +10,7 @@ use Rattle.lert_counter.proofs.GroupLemmas.{shape_of, length_middle}
 use Rattle.lert_counter.proofs.GroupLemmas.Shape.{one, two, three, zeros, bare, guarded}
 use Rattle.lert_runs.specs.RunText.{run_text, RemaindersAscend, count_in}
 use Rattle.lert_runs.proofs.RunLemmas.{count_in-here, count_in-later}
-use Rattle.lert_spec.specs.Table.{count_of, total}
+use Rattle.lert_spec.specs.Table.{costs, count_of}
 use Rattle.lert_spec.specs.declared.piece.Piece.{Piece}
 use Rattle.lert_cqf.specs.Cells.{stop, end_before}
 use Rattle.lert_cqf.specs.Layout.{by_quotient, texts, slot_count}
@@ -124,11 +124,11 @@ pub record Reaches (q : ℕ) (slots spill : List ℕ) : Type 0 where
   pub ends : q + 1 + get_or spill (q + 1) 0 ≤ length slots
   pub short : length slots + 1 < 2 ^ 32
 
-module _ (pieces : List Piece) (quotient_bits width events room : ℕ) (slots : List ℕ) (occupied ends used : List Bool) (spill : List ℕ)
-    (k : IsKept pieces quotient_bits width events room slots occupied ends used spill)
+module _ (pieces : List Piece) (quotient_bits width adds room : ℕ) (slots : List ℕ) (occupied ends used : List Bool) (spill : List ℕ)
+    (k : IsKept pieces quotient_bits width adds room slots occupied ends used spill)
     (q : ℕ) (below : q < 2 ^ quotient_bits) where
   found : Holds (2 ^ quotient_bits) q (by_quotient width pieces) ⊎ Lacks (2 ^ quotient_bits) q (by_quotient width pieces)
-  found = find_quotient (2 ^ quotient_bits) 0 0 q (by_quotient width pieces) (runs_ascend pieces quotient_bits width events room slots occupied ends used spill k)
+  found = find_quotient (2 ^ quotient_bits) 0 0 q (by_quotient width pieces) (runs_ascend pieces quotient_bits width adds room slots occupied ends used spill k)
 
   -- a quotient that has no run
   module _ (l : Lacks (2 ^ quotient_bits) q (by_quotient width pieces)) where
@@ -159,10 +159,10 @@ module _ (pieces : List Piece) (quotient_bits width events room : ℕ) (slots : 
     lack_within : max (stop 0 before) q < slot_count quotient_bits room
     lack_within =
         let sum = total_slots width (2 ^ quotient_bits) 0 (2 ^ quotient_bits * 2 ^ width) pieces ((k.limits).least_width) k.ascend in
-        let all : total_length (before ++ after) ≤ 2 * total pieces = subst (λ (t : List (ℕ × List ℕ)). total_length t ≤ 2 * total pieces) split sum in
+        let all : total_length (before ++ after) ≤ 4 * costs 2 pieces = subst (λ (t : List (ℕ × List ℕ)). total_length t ≤ 4 * costs 2 pieces) split sum in
         let first = stop_bound 0 q before around.below in
         let parts = total-append before after in
-        let few = k.events_are in
+        let few = k.cheap in
         let room = k.in_room in omega arith
 
     lack_reaches : Reaches q slots spill × (q + 1 + get_or spill (q + 1) 0 ≤ q + get_or spill q 0 + 1)
@@ -179,11 +179,11 @@ module _ (pieces : List Piece) (quotient_bits width events room : ℕ) (slots : 
   -- a quotient that has one
   hold_reaches : (h : Holds (2 ^ quotient_bits) q (by_quotient width pieces)) → Reaches q slots spill
   hold_reaches h =
-      let at = hold_at pieces quotient_bits width events room slots occupied ends used spill k q h in
+      let at = hold_at pieces quotient_bits width adds room slots occupied ends used spill k q h in
       let start = at.start_is in
       let end = at.end_is in
       let within = at.within in
-      let some = hold_some pieces quotient_bits width events room slots occupied ends used spill k q h in
+      let some = hold_some pieces quotient_bits width adds room slots occupied ends used spill k q h in
       let lengths = (k.stand).lengths in
       let slots_long = lengths.slots_long in
       let spill_long = lengths.spill_long in
@@ -208,15 +208,15 @@ module _ (pieces : List Piece) (quotient_bits width events room : ℕ) (slots : 
       elim found [
         | inl h ↦ hold_count h
         | inr l ↦ (let reach = lack_reaches l in let zero_second = none reach.1 in
-            let zero_first = vacant (lacked pieces quotient_bits width events room slots occupied ends used spill k q below l) in
-            let absent = count_absent pieces quotient_bits width events room slots occupied ends used spill k tail q q_is l in omega arith)
+            let zero_first = vacant (lacked pieces quotient_bits width adds room slots occupied ends used spill k q below l) in
+            let absent = count_absent pieces quotient_bits width adds room slots occupied ends used spill k tail q q_is l in omega arith)
       ]
     where
       single_count : (h : Holds (2 ^ quotient_bits) q (by_quotient width pieces)) (y : ℕ) → h.pairs ≡ (y, 1) ∷ [] → get_or slots (q + get_or spill q 0) 0 ≡ y →
           m ≡ count_in h.pairs x
       single_count h y is there =
           elim (cases_eq y x) [
-            | inl same ↦ here (was_held pieces quotient_bits width events room slots occupied ends used spill k q h) (there ∙ same)
+            | inl same ↦ here (was_held pieces quotient_bits width adds room slots occupied ends used spill k q h) (there ∙ same)
                 ∙ sym (ap (λ (t : List (ℕ × ℕ)). count_in t x) is ∙ count_in-here (y, 1) [] x same)
             | inr apart ↦ other (λ e. apart (sym there ∙ e)) ∙ sym (ap (λ (t : List (ℕ × ℕ)). count_in t x) is ∙ count_in-later (y, 1) [] x apart)
           ]
@@ -228,13 +228,13 @@ module _ (pieces : List Piece) (quotient_bits width events room : ℕ) (slots : 
 
       hold_count : (h : Holds (2 ^ quotient_bits) q (by_quotient width pieces)) → m + n ≡ count_of pieces tail
       hold_count h =
-          let at = hold_at pieces quotient_bits width events room slots occupied ends used spill k q h in
+          let at = hold_at pieces quotient_bits width adds room slots occupied ends used spill k q h in
           let start = at.start_is in
           let end = at.end_is in
           let text = at.text in
           let within = at.within in
-          let some = hold_some pieces quotient_bits width events room slots occupied ends used spill k q h in
-          let is : count_in h.pairs x ≡ count_of pieces tail = count_present pieces quotient_bits width events room slots occupied ends used spill k tail q x q_is x_is h in
+          let some = hold_some pieces quotient_bits width adds room slots occupied ends used spill k q h in
+          let is : count_in h.pairs x ≡ count_of pieces tail = count_present pieces quotient_bits width adds room slots occupied ends used spill k tail q x q_is x_is h in
           elim (cases_lt (q + get_or spill q 0 + 1) (q + 1 + get_or spill (q + 1) 0)) [
             | inr one_long ↦ (let one = single width h.pairs h.some h.ascend (omega arith) in
                 let first = single_count h one.0 one.1 (first_slot (q + get_or spill q 0) (q + 1 + get_or spill (q + 1) 0) slots one.0 (omega arith) (text ∙ one.2)) in
@@ -244,5 +244,5 @@ module _ (pieces : List Piece) (quotient_bits width events room : ℕ) (slots : 
                 let slots_are = sym text ∙ ap (λ i. take i (drop (q + get_or spill q 0) slots)) two_is ∙ two_of (q + get_or spill q 0) slots (omega arith)
                 ∙ ap (λ i. get_or slots (q + get_or spill q 0) 0 ∷ get_or slots i 0 ∷ []) last_is in
                 pair_count width h.pairs x _ _ m n h.some h.ascend slots_are other
-                (here (was_held pieces quotient_bits width events room slots occupied ends used spill k q h)) last_other (last_here two_long) ∙ is)
+                (here (was_held pieces quotient_bits width adds room slots occupied ends used spill k q h)) last_other (last_here two_long) ∙ is)
           ]

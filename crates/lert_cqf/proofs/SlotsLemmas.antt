@@ -1,14 +1,10 @@
--- A table has at most two slots for each event.
-use Rattle.std.proofs.Common.{◌≡◌, ℕ, ◌+◌, ◌*◌, ◌/◌, ◌%◌, ◌^◌, ◌≤◌, List, [], ◌∷◌, length}
-use Rattle.std.proofs.Common.{inl, inr, arith, length-append}
-use Rattle.std.proofs.lemmas.Bool.{cases_eq}
+-- A table has at most four slots for each of what it costs.
+use Rattle.std.proofs.{Common.{◌≡◌, ℕ, ◌+◌, ◌*◌, ◌/◌, ◌%◌, ◌^◌, ◌≤◌, List, [], ◌∷◌, length, inl, inr, arith, length-append}, lemmas.Bool.cases_eq}
 use Rattle.lert_counter.specs.Group.{group}
-use Rattle.lert_counter.proofs.GrowthLemmas.{length_group-twice}
+use Rattle.lert_counter.proofs.GrowthLemmas.{length_group-four}
 use Rattle.lert_runs.specs.RunText.{run_text}
-use Rattle.lert_spec.specs.Table.{total, AscendsFrom}
-use Rattle.lert_spec.specs.declared.piece.Piece.{Piece}
-use Rattle.lert_cqf.specs.Layout.{in_front, by_quotient, texts}
-use Rattle.lert_cqf.specs.Around.{total_length}
+use Rattle.lert_spec.specs.{Table.{costs, AscendsFrom}, declared.piece.Piece.Piece}
+use Rattle.lert_cqf.specs.{Layout.{in_front, by_quotient, texts}, Around.total_length}
 use Rattle.lert_cqf.proofs.QuotientLemmas.{Runs, front-none, front-same}
 
 module _ (width homes : ℕ) where
@@ -20,10 +16,10 @@ module _ (width homes : ℕ) where
         | inr other ↦ rw (front-none q pair r rs other) (omega (arith, length-append (group width pair.0 pair.1) []))
       ]
 
-  pub total_slots : (least limit : ℕ) (table : List Piece) → 8 ≤ width → AscendsFrom least limit table → total_length (texts width (by_quotient width table)) ≤ 2 * total table
+  pub total_slots : (least limit : ℕ) (table : List Piece) → 8 ≤ width → AscendsFrom least limit table → total_length (texts width (by_quotient width table)) ≤ 4 * costs 2 table
   total_slots least limit [] wide t = omega arith
   total_slots least limit (p ∷ ps) wide t =
       let rest = total_slots (p.tail + 1) limit ps wide t.3 in
-      let twice = length_group-twice width (p.tail % 2 ^ width) p.count wide (t.2) in
+      let four = length_group-four width (p.tail % 2 ^ width) p.count wide (t.2) in
       let front = length_front_text (p.tail / 2 ^ width) (p.tail % 2 ^ width, p.count) (by_quotient width ps) in
       omega arith

@@ -1,10 +1,7 @@
 -- How far runs reach past a home, as one run grows.
-use Rattle.std.proofs.Common.{◌≡◌, ℕ, suc, ◌+◌, ◌-◌, ◌<◌, ◌≤◌, List, [], ◌∷◌, ◌++◌, length, max, refl, sym, ap, ◌∙◌, inl, inr, arith}
-use Rattle.std.proofs.lemmas.Bool.{cases_lt}
-use Rattle.std.proofs.lemmas.Bool.Decides.{nat_tests}
-use Rattle.lert_cqf.specs.Cells.{stop, end_before, first_free}
+use Rattle.std.proofs.{Common.{◌≡◌, ℕ, suc, ◌+◌, ◌-◌, ◌<◌, ◌≤◌, List, [], ◌∷◌, ◌++◌, length, max, refl, sym, ap, ◌∙◌, inl, inr, arith}, lemmas.Bool.cases_lt, lemmas.Bool.Decides.nat_tests}
+use Rattle.lert_cqf.specs.{Cells.{stop, end_before, first_free}, Around.{HomesAscend, HomesBelow}}
 use Rattle.lert_cqf.proofs.CellLemmas.{first_free-from, free_there, free_later}
-use Rattle.lert_cqf.specs.Around.{HomesAscend, HomesBelow}
 
 -- the test of a home
 pub end_passes : {C : Type 0} (at g : ℕ) (r : ℕ × List C) (rs : List (ℕ × List C)) → r.0 < g → end_before at g (r ∷ rs) ≡ end_before (max at r.0 + length r.1) g rs

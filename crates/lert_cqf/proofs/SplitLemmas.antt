@@ -119,7 +119,7 @@ texts_below : (width q : ℕ) (rs : Runs) → HomesBelow q rs → HomesBelow q (
 texts_below width q [] h = tt
 texts_below width q (r ∷ rs) h = (h.0, texts_below width q rs h.1)
 
-texts_above : (width q limit : ℕ) (rs : Runs) → HomesAscend q limit rs → HomesAscend q limit (texts width rs)
+pub texts_above : (width q limit : ℕ) (rs : Runs) → HomesAscend q limit rs → HomesAscend q limit (texts width rs)
 texts_above width q limit [] h = tt
 texts_above width q limit (r ∷ rs) h = (h.0, h.1, texts_above width (r.0 + 1) limit rs h.2)
 

@@ -25,7 +25,7 @@ use Rattle.lert_cqf.proofs.BegunLemmas.{StandsAt, stands_at, text_within}
 use Rattle.lert_cqf.proofs.GrowingLemmas.{length_text-positive}
 use Rattle.lert_cqf.proofs.QuotientLemmas.{Runs, RunsAscend, front-same, front-none}
 use Rattle.lert_cqf.proofs.SplitLemmas.{runs_homes, texts-split, around_texts, home_holds, home_lacks}
-use Rattle.lert_cqf.proofs.TableLemmas.{few, runs_ascend, homes_ascend, occupied_long}
+use Rattle.lert_cqf.proofs.TableLemmas.{few_more, runs_ascend, homes_ascend, occupied_long}
 
 -- the pieces of the runs are those of the table
 pieces_front : (width q : ℕ) (pair : ℕ × ℕ) (rs : Runs) → pieces_of width (in_front q pair rs) ≡ record { tail = q * 2 ^ width + pair.0; count = pair.1 } ∷ pieces_of width rs
@@ -91,16 +91,16 @@ tail_below least limit zero (r ∷ ps) p qs h is = (let e : r.tail ≡ p.tail = 
 tail_below least limit (suc g) [] p qs h is = absurd (let e = ap (λ (t : List Piece). length t) is in omega arith)
 tail_below least limit (suc g) (r ∷ ps) p qs h is = tail_below (r.tail + 1) limit g ps p qs h.3 is
 
-module _ (pieces : List Piece) (quotient_bits width events room : ℕ) (slots : List ℕ) (occupied ends used : List Bool) (spill : List ℕ)
-    (k : IsKept pieces quotient_bits width events room slots occupied ends used spill) where
+module _ (pieces : List Piece) (quotient_bits width adds room : ℕ) (slots : List ℕ) (occupied ends used : List Bool) (spill : List ℕ)
+    (k : IsKept pieces quotient_bits width adds room slots occupied ends used spill) where
   abbrev pub seen : Contents
-  seen = record { pieces = pieces; room = room; quotient_bits = quotient_bits; width = width }
+  seen = record { pieces = pieces; adds = adds; room = room; quotient_bits = quotient_bits; width = width }
 
   ascends : RunsAscend (2 ^ quotient_bits) 0 0 (by_quotient width pieces)
-  ascends = runs_ascend pieces quotient_bits width events room slots occupied ends used spill k
+  ascends = runs_ascend pieces quotient_bits width adds room slots occupied ends used spill k
 
   homes_are : HomesAscend 0 (2 ^ quotient_bits) (by_quotient width pieces)
-  homes_are = homes_ascend pieces quotient_bits width events room slots occupied ends used spill k
+  homes_are = homes_ascend pieces quotient_bits width adds room slots occupied ends used spill k
 
   pub stands_first : Stands seen (record { next = 0; at = 0; end = 0; given = 0 })
   stands_first = inr (record {
@@ -142,7 +142,7 @@ module _ (pieces : List Piece) (quotient_bits width events room : ℕ) (slots : 
           drop c.given pieces ≡ []
       go [] split above left_is = left_is
       go (r ∷ after) split above left_is =
-          let long = occupied_long pieces quotient_bits width events room slots occupied ends used spill k in
+          let long = occupied_long pieces quotient_bits width adds room slots occupied ends used spill k in
           absurd (true≢false (sym (there r after split above) ∙ none r.0 above.0 (omega (arith, above.1))))
         where
           there : (r : ℕ × List (ℕ × ℕ)) (after : Runs) → by_quotient width pieces ≡ b.before ++ r ∷ after → HomesAscend c.next (2 ^ quotient_bits) (r ∷ after) →
@@ -167,7 +167,7 @@ module _ (pieces : List Piece) (quotient_bits width events room : ℕ) (slots : 
   next_run c home b f = go b.after b.split b.above b.left_is
     where
       long : length occupied ≡ 2 ^ quotient_bits
-      long = occupied_long pieces quotient_bits width events room slots occupied ends used spill k
+      long = occupied_long pieces quotient_bits width adds room slots occupied ends used spill k
 
       absent : (after : Runs) → by_quotient width pieces ≡ b.before ++ after → HomesAscend (home + 1) (2 ^ quotient_bits) after → get_or occupied home false ≡ false
       absent after split above =
@@ -312,7 +312,7 @@ module _ (pieces : List Piece) (quotient_bits width events room : ℕ) (slots : 
 
     pub given_small : c.given + 1 < 2 ^ 64
     given_small =
-        let few = few pieces quotient_bits width events room slots occupied ends used spill k in
+        let few = few_more pieces quotient_bits width adds room slots occupied ends used spill k in
         let long = length_le-total 0 (2 ^ 64) pieces k.narrow in
         omega (arith, ap (λ (t : List Piece). length t) left_now, length-drop c.given pieces)
 

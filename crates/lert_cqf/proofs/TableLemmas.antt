@@ -7,8 +7,9 @@ use Rattle.std.proofs.lemmas.Bool.Decides.{nat_tests}
 use Rattle.std.proofs.lemmas.Nat.{div_below, pow_pos, pow-add, div-mul-add, mod-mul-add}
 use Rattle.std.proofs.lemmas.List.{length-replicate, get_or-replicate}
 use Rattle.lert_runs.specs.RunText.{run_text, count_in, pairs_plus}
-use Rattle.lert_spec.specs.Table.{count_of, total, plus, AscendsFrom}
+use Rattle.lert_spec.specs.Table.{costs, count_of, total, plus, AscendsFrom}
 use Rattle.lert_spec.specs.declared.piece.Piece.{Piece}
+use Rattle.lert_spec.proofs.CostLaws.{cost_one, costs-plus, costs_from}
 use Rattle.lert_spec.proofs.Tables.{AscendsFrom-plus, total-plus}
 use Rattle.lert_cqf.specs.Cells.{cells}
 use Rattle.lert_cqf.specs.Layout.{by_quotient, texts, homes_from, slot_count}
@@ -41,8 +42,8 @@ minus_zero n = omega arith
 pub no_cells : {C : Type 0} (z : C) (n : ℕ) → replicate n z ≡ cells z n []
 no_cells z n = ap (λ k. replicate k z) (let e : n ≡ n - 0 = omega arith in e)
 
-module _ (pieces : List Piece) (quotient_bits width events room : ℕ) (slots : List ℕ) (occupied ends used : List Bool) (spill : List ℕ)
-    (k : IsKept pieces quotient_bits width events room slots occupied ends used spill) where
+module _ (pieces : List Piece) (quotient_bits width adds room : ℕ) (slots : List ℕ) (occupied ends used : List Bool) (spill : List ℕ)
+    (k : IsKept pieces quotient_bits width adds room slots occupied ends used spill) where
   abbrev pub homes : ℕ
   homes = 2 ^ quotient_bits
 
@@ -52,11 +53,14 @@ module _ (pieces : List Piece) (quotient_bits width events room : ℕ) (slots : 
   abbrev pub runs : Runs
   runs = by_quotient width pieces
 
-  pub few : total pieces ≤ 2 ^ 39
-  few = let a = k.events_are in let b = k.in_room in let c = (k.limits).most_room in omega arith
+  pub adds_few : adds ≤ 2 ^ 39
+  adds_few = omega (arith, k.in_room, (k.limits).most_room)
+
+  pub no_more : total pieces ≤ 255 * adds
+  no_more = omega (arith, costs_from 2 pieces, k.cheap)
 
   pub few_more : total pieces ≤ 2 ^ 47
-  few_more = omega (arith, few)
+  few_more = omega (arith, no_more, adds_few)
 
   pub runs_ascend : RunsAscend homes 0 0 runs
   runs_ascend =
@@ -154,7 +158,7 @@ module _ (pieces : List Piece) (quotient_bits width events room : ℕ) (slots : 
       sym (count_is tail ∙ ap (λ i. count_runs runs i (tail % 2 ^ width)) (sym q_is) ∙ ap (λ y. count_runs runs q y) (sym x_is) ∙ h.count x)
 
   -- one more piece
-  module _ (tail n home rest : ℕ) (p : IsPutting pieces quotient_bits width room tail n home rest) where
+  module _ (tail n home rest : ℕ) (p : IsPutting adds quotient_bits width room tail n home rest) where
     pub whole : tail < homes * 2 ^ width
     whole = let e = pow-add 2 quotient_bits width in let b = p.below in omega arith
 
@@ -172,32 +176,32 @@ module _ (pieces : List Piece) (quotient_bits width events room : ℕ) (slots : 
     pub next_ascends : AscendsFrom 0 (2 ^ quotient_bits * 2 ^ width) (plus pieces tail n)
     next_ascends = AscendsFrom-plus 0 (2 ^ quotient_bits * 2 ^ width) pieces tail n (omega arith) whole p.positive k.ascend
 
+    next_cheap : costs 2 (plus pieces tail n) ≤ adds + 1
+    next_cheap = omega (arith, costs-plus 2 pieces tail n, cost_one 2 n p.positive p.few refl, k.cheap)
+
     pub next_fits : (ts : List (ℕ × List ℕ)) → texts width (by_quotient width (plus pieces tail n)) ≡ ts → homes + total_length ts ≤ places
     next_fits ts e =
         let few = total_slots width homes 0 (2 ^ quotient_bits * 2 ^ width) (plus pieces tail n) ((k.limits).least_width) next_ascends in
-        let sum = total-plus pieces tail n in
-        let f = p.fits in
-        subst (λ (t : List (ℕ × List ℕ)). homes + total_length t ≤ places) e (omega arith)
+        subst (λ (t : List (ℕ × List ℕ)). homes + total_length t ≤ places) e (omega (arith, few, next_cheap, p.fits))
 
     -- the new table is kept by rows that stand for its runs
     pub next_kept : (slots' : List ℕ) (occupied' ends' used' : List Bool) (spill' : List ℕ) (rs : Runs) → runs_plus runs home rest n ≡ rs
         → Stand places homes (texts width rs) slots' ends' used' spill' → occupied' ≡ homes_from homes 0 rs
-        → IsKept (plus pieces tail n) quotient_bits width (events + n) room slots' occupied' ends' used' spill'
+        → IsKept (plus pieces tail n) quotient_bits width (adds + 1) room slots' occupied' ends' used' spill'
     next_kept slots' occupied' ends' used' spill' rs is stand homes_is =
-        let sum = total-plus pieces tail n in
-        let were = k.events_are in
         record {
           limits = k.limits;
           ascend = next_ascends;
           narrow = AscendsFrom-plus 0 (2 ^ 64) pieces tail n (omega arith) p.word p.positive k.narrow;
-          events_are = omega arith;
-          in_room = (let f = p.fits in omega arith);
+          cheap = next_cheap;
+          some = omega (arith, total-plus pieces tail n, k.some, p.positive);
+          in_room = omega (arith, p.fits);
           stand = subst (λ (t : Runs). Stand places homes (texts width t) slots' ends' used' spill') (sym (next ∙ is)) stand;
           occupied_is = homes_is ∙ ap (homes_from homes 0) (sym (next ∙ is));
         }
 
     pub count_fits : count_of pieces tail + n ≤ 2 ^ 47
-    count_fits = let c = count_le pieces tail in let f = p.fits in let r = (k.limits).most_room in omega arith
+    count_fits = omega (arith, count_le pieces tail, no_more, p.few, p.fits, (k.limits).most_room)
 
     abbrev pub growing : Holds homes home runs → IsGrowing places homes width home rest n slots ends used spill
     growing h = record {
@@ -226,7 +230,7 @@ module _ (pieces : List Piece) (quotient_bits width events room : ℕ) (slots : 
 
     pub kept_grown : (h : Holds homes home runs) (slots' : List ℕ) (occupied' ends' used' : List Bool) (spill' : List ℕ)
         → Stand places homes (texts width h.before ++ (home, run_text width (pairs_plus h.pairs rest n)) ∷ texts width h.after) slots' ends' used' spill' → occupied' ≡ occupied
-        → IsKept (plus pieces tail n) quotient_bits width (events + n) room slots' occupied' ends' used' spill'
+        → IsKept (plus pieces tail n) quotient_bits width (adds + 1) room slots' occupied' ends' used' spill'
     kept_grown h slots' occupied' ends' used' spill' stand same =
         next_kept slots' occupied' ends' used' spill' (h.before ++ (home, pairs_plus h.pairs rest n) ∷ h.after) (h.plus rest n)
         (subst (λ (t : List (ℕ × List ℕ)). Stand places homes t slots' ends' used' spill') (sym (texts-split width home h.before (pairs_plus h.pairs rest n) h.after)) stand)
@@ -234,7 +238,7 @@ module _ (pieces : List Piece) (quotient_bits width events room : ℕ) (slots : 
 
     pub kept_begun : (l : Lacks homes home runs) (slots' : List ℕ) (occupied' ends' used' : List Bool) (spill' : List ℕ)
         → Stand places homes (texts width l.before ++ (home, run_text width ((rest, n) ∷ [])) ∷ texts width l.after) slots' ends' used' spill' → occupied' ≡ set occupied home true
-        → IsKept (plus pieces tail n) quotient_bits width (events + n) room slots' occupied' ends' used' spill'
+        → IsKept (plus pieces tail n) quotient_bits width (adds + 1) room slots' occupied' ends' used' spill'
     kept_begun l slots' occupied' ends' used' spill' stand now =
         next_kept slots' occupied' ends' used' spill' (l.before ++ (home, (rest, n) ∷ []) ∷ l.after) (l.plus rest n)
         (subst (λ (t : List (ℕ × List ℕ)). Stand places homes t slots' ends' used' spill') (sym (texts-split width home l.before ((rest, n) ∷ []) l.after)) stand)
@@ -252,18 +256,19 @@ built_more adds tail n = go [] adds
     go table (a ∷ adds) = go (plus table a.tail a.count) adds
 
 -- the rows of no pieces
-pub kept_empty : (pieces : List Piece) (quotient_bits width events room : ℕ) (slots : List ℕ) (occupied ends used : List Bool) (spill : List ℕ) →
-    IsKept pieces quotient_bits width events room slots occupied ends used spill
+pub kept_empty : (pieces : List Piece) (quotient_bits width adds room : ℕ) (slots : List ℕ) (occupied ends used : List Bool) (spill : List ℕ) →
+    IsKept pieces quotient_bits width adds room slots occupied ends used spill
     → (slots' : List ℕ) (occupied' ends' used' : List Bool) (spill' : List ℕ) → slots' ≡ replicate (length slots) 0 → occupied' ≡ replicate (length occupied) false
     → ends' ≡ replicate (length ends) false → used' ≡ replicate (length used) false → spill' ≡ replicate (length spill) 0
     → IsKept [] quotient_bits width 0 room slots' occupied' ends' used' spill'
-kept_empty pieces quotient_bits width events room slots occupied ends used spill k slots' occupied' ends' used' spill' s o e u p =
+kept_empty pieces quotient_bits width adds room slots occupied ends used spill k slots' occupied' ends' used' spill' s o e u p =
     let lengths = (k.stand).lengths in
     record {
       limits = k.limits;
       ascend = tt;
       narrow = tt;
-      events_are = refl;
+      cheap = omega arith;
+      some = omega arith;
       in_room = omega arith;
       stand = record {
         spread = record {
@@ -282,7 +287,7 @@ kept_empty pieces quotient_bits width events room slots occupied ends used spill
           short = lengths.short;
         };
       };
-      occupied_is = o ∙ ap (λ n. replicate n false) (occupied_long pieces quotient_bits width events room slots occupied ends used spill k
+      occupied_is = o ∙ ap (λ n. replicate n false) (occupied_long pieces quotient_bits width adds room slots occupied ends used spill k
           ∙ (let z : 2 ^ quotient_bits ≡ 2 ^ quotient_bits - 0 = omega arith in z));
     }
 
@@ -295,7 +300,8 @@ kept_none quotient_bits width room homes n slots occupied ends used spill limits
       limits = limits;
       ascend = tt;
       narrow = tt;
-      events_are = refl;
+      cheap = omega arith;
+      some = omega arith;
       in_room = omega arith;
       stand = record {
         spread = record {

@@ -1,7 +1,6 @@
 -- The order of runs around one, and where it may grow.
 use Rattle.std.specs.Prelude.{ℕ, ◌+◌, ◌^◌, ◌≡◌, ◌<◌, ◌≤◌, Bool, List, [], ◌∷◌, ◌++◌, length, max}
-use Rattle.lert_cqf.specs.Cells.{stop}
-use Rattle.lert_cqf.specs.Rows.{IsSpread}
+use Rattle.lert_cqf.specs.{Cells.stop, Rows.IsSpread}
 
 -- the homes ascend from `least` on, below `limit`
 abbrev pub HomesAscend : {C : Type 0} → ℕ → ℕ → List (ℕ × List C) → Type 0

@@ -2,8 +2,7 @@
 use Rattle.std.specs.Prelude.{ℕ, ◌+◌, ◌^◌, ◌<◌, ◌≤◌, Bool, List, [], ◌∷◌, ◌++◌, length}
 use Rattle.lert_counter.specs.Group.{IsCount}
 use Rattle.lert_runs.specs.RunText.{run_text, RemaindersAscend, count_in, pairs_plus}
-use Rattle.lert_cqf.specs.Rows.{IsSpread}
-use Rattle.lert_cqf.specs.Around.{IsAround, total_length, HaveLengths}
+use Rattle.lert_cqf.specs.{Rows.IsSpread, Around.{IsAround, total_length, HaveLengths}}
 
 -- the rows stand for texts, and are as long as they should be
 pub record Stand (n homes : ℕ) (ts : List (ℕ × List ℕ)) (slots : List ℕ) (ends used : List Bool) (spill : List ℕ) : Type 0 where

@@ -1,6 +1,5 @@
 -- The layout of a count table: slots, occupied quotients and run ends.
-use Rattle.std.specs.Prelude.{ℕ, zero, suc, ◌+◌, ◌-◌, ◌*◌, ◌/◌, ◌%◌, ◌^◌, ◌==◌, Bool, true, false, List, [], ◌∷◌, ◌++◌, length, map, replicate}
-use Rattle.std.specs.Prelude.{if◌then◌else◌}
+use Rattle.std.specs.Prelude.{ℕ, zero, suc, ◌+◌, ◌-◌, ◌*◌, ◌/◌, ◌%◌, ◌^◌, ◌==◌, Bool, true, false, List, [], ◌∷◌, ◌++◌, length, map, replicate, if◌then◌else◌}
 use Rattle.lert_runs.specs.RunText.{run_text}
 use Rattle.lert_spec.specs.declared.piece.Piece.{Piece}
 use Rattle.lert_cqf.specs.Cells.{cells}
@@ -33,9 +32,9 @@ abbrev pub homes_from : {C : Type 0} → ℕ → ℕ → List (ℕ × List C) �
 homes_from n at [] = replicate (n - at) false
 homes_from n at (r ∷ rs) = replicate (r.0 - at) false ++ true ∷ homes_from n (r.0 + 1) rs
 
--- the slots of a table with 2^q quotients and room for `events`
+-- the slots of a table with 2^q quotients and room for so many adds: none takes more than four
 abbrev pub slot_count : ℕ → ℕ → ℕ
-slot_count quotient_bits events = 2 ^ quotient_bits + 2 * events
+slot_count quotient_bits adds = 2 ^ quotient_bits + 4 * adds
 
 -- what a table shows of itself
 pub record Layout : Type 0 where

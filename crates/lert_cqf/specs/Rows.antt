@@ -1,7 +1,6 @@
 -- The rows of a table, as they stand for the texts of runs.
 use Rattle.std.specs.Prelude.{ℕ, ◌+◌, ◌-◌, ◌≡◌, ◌<◌, ◌≤◌, Bool, true, false, List, length, map, take, drop, replicate, slice_index, insert, remove}
-use Rattle.lert_cqf.specs.Cells.{cells, end_before}
-use Rattle.lert_cqf.specs.Layout.{ends_of}
+use Rattle.lert_cqf.specs.{Cells.{cells, end_before}, Layout.ends_of}
 
 -- runs of the same lengths in the same places
 abbrev pub reshaped : {C D : Type 0} → (ℕ → List D) → List (ℕ × List C) → List (ℕ × List D)

@@ -2,11 +2,7 @@
 use Rattle.std.specs.Prelude.{ℕ, ◌+◌, ◌*◌, ◌^◌, ◌≡◌, ◌<◌, ◌≤◌, ◌⊎◌, List, [], ◌∷◌, ◌++◌, length, map, drop, max}
 use Rattle.lert_runs.specs.RunText.{run_text, RemaindersAscend}
 use Rattle.lert_spec.specs.declared.piece.Piece.{Piece}
-use Rattle.lert_cqf.specs.Cells.{stop}
-use Rattle.lert_cqf.specs.Layout.{by_quotient, texts}
-use Rattle.lert_cqf.specs.Around.{HomesAscend, HomesBelow}
-use Rattle.lert_cqf.specs.Contents.{Contents}
-use Rattle.lert_cqf.specs.declared.cursor.CqfCursor.{CqfCursor}
+use Rattle.lert_cqf.specs.{Cells.stop, Layout.{by_quotient, texts}, Around.{HomesAscend, HomesBelow}, Contents.Contents, declared.cursor.CqfCursor.CqfCursor}
 
 -- the pieces of one quotient
 abbrev pub pieces_at : ℕ → ℕ → List (ℕ × ℕ) → List Piece

@@ -1,6 +1,6 @@
 //! Writes to a part of a row.
 
-ghost use Rattle.std.specs.Prelude.{◌≡◌, ℕ, ◌+◌, ◌^◌, ◌<◌, ◌≤◌, ◌++◌, List, length, take, drop, slice_index};
+ghost use Rattle.std.specs.Prelude.{◌≡◌, ℕ, ◌+◌, ◌^◌, ◌<◌, ◌≤◌, ◌++◌, List, length, replicate, take, drop, slice_index};
 ghost use Rattle.lert_cqf.specs.Rows.{IsRaised, filled_gap};
 
 /// Moves the values `from..to` one place up; the one at `to` comes to `from`.
@@ -18,6 +18,14 @@ pub fn overwrite(slots: &mut [u64], at: usize, text: &[u64])
     ensures { slots.new ≡ take at slots.old ++ (text.now ++ drop (at + length text.now) slots.old) }
 {
     slots[at..at + text.len()].copy_from_slice(text);
+}
+
+/// Makes the first `count` slots 0.
+pub fn clear_first(slots: &mut [u64], count: usize)
+    requires { count ≤ length slots.old }
+    ensures { slots.new ≡ replicate count 0 ++ drop count slots.old }
+{
+    slots[..count].fill(0);
 }
 
 /// Raises each number by one.

@@ -125,17 +125,17 @@ impl Rows {
         overwrite(&mut self.slots, at as usize, &growth.text[..growth.len]);
     }
 
-    /// Raises the count of a tail by `n`: its quotient's run grows, or begins.
+    /// Adds `n` to the count of a tail: its quotient's run grows, or begins.
     pub fn put(&mut self, width: u32, home: u64, x: u64, n: u64)
-        requires kept { (table : List Piece) × (quotient_bits : ℕ) × (events : ℕ) × (room : ℕ)
-            × IsKept table quotient_bits width events room self.old.slots.items self.old.occupied
+        requires kept { (table : List Piece) × (quotient_bits : ℕ) × (adds : ℕ) × (room : ℕ)
+            × IsKept table quotient_bits width adds room self.old.slots.items self.old.occupied
             self.old.run_ends self.old.used self.old.spill.items
-            × (tail : ℕ) × IsPutting table quotient_bits width room tail n home x }
-        ensures { (table : List Piece) (quotient_bits events room tail : ℕ)
-            → IsKept table quotient_bits width events room self.old.slots.items self.old.occupied
+            × (tail : ℕ) × IsPutting adds quotient_bits width room tail n home x }
+        ensures { (table : List Piece) (quotient_bits adds room tail : ℕ)
+            → IsKept table quotient_bits width adds room self.old.slots.items self.old.occupied
             self.old.run_ends self.old.used self.old.spill.items
-            → IsPutting table quotient_bits width room tail n home x
-            → IsKept (plus table tail n) quotient_bits width (events + n) room self.new.slots.items self.new.occupied
+            → IsPutting adds quotient_bits width room tail n home x
+            → IsKept (plus table tail n) quotient_bits width (adds + 1) room self.new.slots.items self.new.occupied
             self.new.run_ends self.new.used self.new.spill.items }
     {
         if self.occupied.get(home) {

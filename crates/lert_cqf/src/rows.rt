@@ -7,6 +7,7 @@
 ghost use Rattle.std.specs.Prelude.{◌≡◌, ◌≢◌, ◌+◌, ◌-◌, ◌^◌, ◌<◌, ◌≤◌, true, false, length, replicate, slice_index, slice_index_or, take, drop, IfOk};
 ghost use Rattle.lert_cqf.specs.Rows.{run_slots};
 
+use crate::cells::clear_first;
 use lert_io::OutOfMemory;
 use lert_slotbits::Bits;
 use std::alloc::Global;
@@ -97,15 +98,17 @@ impl Rows {
         &self.slots[at as usize..end as usize]
     }
 
-    /// Empties all rows.
-    pub fn clear(&mut self)
+    /// Empties all rows, where no run reaches past `end`.
+    pub fn clear(&mut self, end: u64)
+        requires within { end ≤ length self.old.slots.items }
+        requires past { drop end self.old.slots.items ≡ replicate (length self.old.slots.items - end) 0 }
         ensures slots { self.new.slots.items ≡ replicate (length self.old.slots.items) 0 }
         ensures occupied { self.new.occupied ≡ replicate (length self.old.occupied) false }
         ensures run_ends { self.new.run_ends ≡ replicate (length self.old.run_ends) false }
         ensures used { self.new.used ≡ replicate (length self.old.used) false }
         ensures spill { self.new.spill.items ≡ replicate (length self.old.spill.items) 0 }
     {
-        self.slots.fill(0);
+        clear_first(&mut self.slots, end as usize);
         self.occupied.clear();
         self.run_ends.clear();
         self.used.clear();

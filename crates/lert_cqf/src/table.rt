@@ -18,7 +18,7 @@ use std::marker::Model;
 /// More slots than a spill can count.
 const TOO_MANY_SLOTS: u64 = (1 << 32) - 1;
 
-/// A counting quotient filter: the counts of tails, in `2^q + 2 * events` slots.
+/// A counting quotient filter: the counts of tails, in `2^q + 4 * events` slots, where `events` adds have room.
 ///
 /// Beside the slots it takes 4 bytes and a bit for each quotient, and two bits for each slot.
 #[derive(Drop)]
@@ -26,26 +26,32 @@ pub struct Cqf {
     rows: Rows,
     quotient_bits: u32,
     width: u32,
-    events: u64,
+    adds: u64,
+    // All counts together.
+    sum: u64,
     room: u64,
     // Every add since the last `clear`, which contracts alone see.
     added: Seen<Piece>,
 }
 
 impl Model for Cqf {
+    ghost use Rattle.std.specs.Prelude.{◌≡◌};
+    ghost use Rattle.lert_spec.specs.Table.{total};
     ghost use Rattle.lert_cqf.specs.Contents.{Contents, built, IsKept};
 
     ghost Value = { Contents };
 
     ghost view = { λ t. record {
       pieces = built t.added;
+      adds = t.adds;
       room = t.room;
       quotient_bits = t.quotient_bits;
       width = t.width;
     } };
 
-    ghost invariant = { λ t. IsKept (built t.added) t.quotient_bits t.width t.events t.room
-        t.rows.slots.items t.rows.occupied t.rows.run_ends t.rows.used t.rows.spill.items };
+    ghost invariant = { λ t. IsKept (built t.added) t.quotient_bits t.width t.adds t.room
+        t.rows.slots.items t.rows.occupied t.rows.run_ends t.rows.used t.rows.spill.items
+        × (t.sum ≡ total (built t.added)) };
 }
 
 impl Cqf {
@@ -53,7 +59,7 @@ impl Cqf {
     pub fn slots(&self) -> &[u64]
         ensures laid { result.now ≡
             (layout self.now.quotient_bits self.now.width self.now.room self.now.pieces).slots }
-        ensures count { length result.now ≡ 2 ^ self.now.quotient_bits + 2 * self.now.room }
+        ensures count { length result.now ≡ 2 ^ self.now.quotient_bits + 4 * self.now.room }
     {
         &self.rows.slots
     }
@@ -71,7 +77,7 @@ impl Cqf {
     pub fn run_ends(&self) -> &Bits
         ensures laid { result.now ≡
             (layout self.now.quotient_bits self.now.width self.now.room self.now.pieces).run_ends }
-        ensures count { length result.now ≡ 2 ^ self.now.quotient_bits + 2 * self.now.room }
+        ensures count { length result.now ≡ 2 ^ self.now.quotient_bits + 4 * self.now.room }
     {
         &self.rows.run_ends
     }
@@ -114,6 +120,8 @@ impl CountTable for Cqf {
 
     ghost pieces = { λ t. t.pieces };
 
+    ghost adds = { λ t. t.adds };
+
     ghost room = { λ t. t.room };
 
     ghost quotient_bits = { λ t. t.quotient_bits };
@@ -126,7 +134,7 @@ impl CountTable for Cqf {
 
     fn new(alloc: Global, quotient: u32, remainder: u32, events: u64) -> Result<Self, OutOfMemory> {
         let homes = 1u64 << quotient;
-        let slots = homes + 2 * events;
+        let slots = homes + 4 * events;
         if slots >= TOO_MANY_SLOTS {
             return Err(OutOfMemory);
         }
@@ -135,7 +143,8 @@ impl CountTable for Cqf {
             rows,
             quotient_bits: quotient,
             width: remainder,
-            events: 0,
+            adds: 0,
+            sum: 0,
             room: events,
             added: Seen::new(),
         })
@@ -145,7 +154,8 @@ impl CountTable for Cqf {
     fn add(&mut self, tail: u64, n: u64) {
         let (home, x) = self.parts(tail);
         self.rows.put(self.width, home, x, n);
-        self.events += n;
+        self.adds += 1;
+        self.sum += n;
         self.added.push(&Piece { tail, count: n });
     }
 
@@ -161,21 +171,25 @@ impl CountTable for Cqf {
             return self.rows.count_first(home, at, x) + self.rows.count_second(at, end, x);
         }
         let run = self.rows.part(at, end);
-        if x > self.room {
-            // So do nearly all remainders: no count is greater than the room.
+        if x > self.sum {
+            // So do nearly all remainders: no count is greater than all of them together.
             return count_above_all(run, x);
         }
         find(self.width, run, x).count
     }
 
-    fn events(&self) -> u64 {
-        self.events
+    fn adds(&self) -> u64 {
+        self.adds
     }
 
-    /// Writes all rows anew: 8 bytes a slot and 4 a quotient.
+    /// Writes 8 bytes for each slot up to the last run's end, which is at least one for each quotient, 4 for each
+    /// quotient, and all bits.
     fn clear(&mut self) {
-        self.rows.clear();
-        self.events = 0;
+        let homes = self.rows.occupied.len();
+        let end = self.rows.start(homes);
+        self.rows.clear(end);
+        self.adds = 0;
+        self.sum = 0;
         self.added = Seen::new();
     }
 

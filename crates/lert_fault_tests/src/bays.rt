@@ -8,6 +8,7 @@ use lert_bay::{JOURNAL, LOG};
 use lert_top::Status;
 use std::alloc::Global;
 use std::process::Abort;
+use std::random::RandomSource;
 use std::sync::Wait;
 use std::thread::Threads;
 
@@ -95,7 +96,7 @@ fn log_behind(
 // Makes a call of a bay fail in a recovery of these files, and repeats that. Answers how long the log of cone 0 is,
 // where it met no fault.
 fn recover_failing(
-    rt: &(impl Abort + Threads + Wait + Sync),
+    rt: &(impl Abort + Threads + Wait + Sync + RandomSource),
     alloc: Global,
     bay: Object,
     cones: &Cones,
@@ -112,7 +113,7 @@ fn recover_failing(
 // journals, and that another recovery prints what is due. Answers the number of the recovery that meets no fault, and
 // how long the log of cone 0 is then.
 fn check_recoveries(
-    rt: &(impl Abort + Threads + Wait + Sync),
+    rt: &(impl Abort + Threads + Wait + Sync + RandomSource),
     alloc: Global,
     bay: Object,
     cones: &Cones,

@@ -6,12 +6,13 @@ use crate::steps::{recover_words, run_words};
 use lert_top::Status;
 use std::alloc::Global;
 use std::process::Abort;
+use std::random::RandomSource;
 use std::sync::Wait;
 use std::thread::Threads;
 
 // Makes this opening fail, and wants that what was opened before came back, with the files as they were.
 fn check_opening(
-    rt: &(impl Abort + Threads + Wait + Sync),
+    rt: &(impl Abort + Threads + Wait + Sync + RandomSource),
     alloc: Global,
     words: &[&str],
     opening: u64,

@@ -7,6 +7,7 @@ use lert_top::Status;
 use lert_trials::trace;
 use std::alloc::Global;
 use std::process::Abort;
+use std::random::RandomSource;
 use std::sync::Wait;
 use std::thread::Threads;
 
@@ -36,7 +37,7 @@ fn bytes_of(rt: &impl Abort, alloc: Global, trace_of: Trace) -> Vec<u8> {
 
 // Runs two workers over two traces and empty files, and wants the status, and no text.
 fn check_order(
-    rt: &(impl Abort + Threads + Wait + Sync),
+    rt: &(impl Abort + Threads + Wait + Sync + RandomSource),
     alloc: Global,
     traces: [Trace; 2],
     faults: Faults,

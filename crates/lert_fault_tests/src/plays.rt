@@ -10,6 +10,7 @@ use lert_top::{MemPlace, Status, run};
 use lert_trials::{Files, bay_of, trace};
 use std::alloc::Global;
 use std::process::Abort;
+use std::random::RandomSource;
 use std::sync::Wait;
 use std::thread::Threads;
 
@@ -65,7 +66,7 @@ impl Ended {
 
 /// Runs these words over the traces `a` and `b` and bays of cones 0 and 1 in the directory `d` that hold these files.
 pub fn play(
-    rt: &(impl Abort + Threads + Wait + Sync),
+    rt: &(impl Abort + Threads + Wait + Sync + RandomSource),
     alloc: Global,
     texts: &[&str],
     cones: &Cones,
@@ -78,7 +79,7 @@ pub fn play(
 
 /// The same, where the traces `a` and `b` have these bytes.
 pub fn play_over(
-    rt: &(impl Abort + Threads + Wait + Sync),
+    rt: &(impl Abort + Threads + Wait + Sync + RandomSource),
     alloc: Global,
     texts: &[&str],
     traces: [&[u8]; 2],
@@ -91,7 +92,7 @@ pub fn play_over(
 }
 
 fn play_at(
-    rt: &(impl Abort + Threads + Wait + Sync),
+    rt: &(impl Abort + Threads + Wait + Sync + RandomSource),
     alloc: Global,
     texts: &[&str],
     faults: Faults,
@@ -106,7 +107,7 @@ fn play_at(
 }
 
 // The call alone, so that what it says stands in no goal of its caller.
-fn run_words<R: Threads + Wait + Sync>(
+fn run_words<R: Threads + Wait + Sync + RandomSource>(
     rt: &R,
     alloc: Global,
     words: &Words,

@@ -6,13 +6,14 @@ use crate::steps::{WHOLE, recover_words, run_words};
 use lert_top::Status;
 use std::alloc::Global;
 use std::process::Abort;
+use std::random::RandomSource;
 use std::sync::Wait;
 use std::thread::Threads;
 
 // Runs these words over these files into a sink of each size up to that of the text, and once more with a first write that fails,
 // and wants the front of the text for which there is room, `OutFault` where that isn't all, and these files.
 fn check_sinks(
-    rt: &(impl Abort + Threads + Wait + Sync),
+    rt: &(impl Abort + Threads + Wait + Sync + RandomSource),
     alloc: Global,
     words: &[&str],
     cones: &Cones,

@@ -7,6 +7,7 @@ use crate::walk::{Left, check_calls};
 use lert_top::Status;
 use std::alloc::Global;
 use std::process::Abort;
+use std::random::RandomSource;
 use std::sync::Wait;
 use std::thread::Threads;
 
@@ -21,7 +22,7 @@ fn a_run_whose_trace_fails_drops_what_its_rings_hold(rt: HostRuntime) {
 
 // Runs two workers over empty files, and wants the status, and this text of a recovery.
 fn check_two(
-    rt: &(impl Abort + Threads + Wait + Sync),
+    rt: &(impl Abort + Threads + Wait + Sync + RandomSource),
     alloc: Global,
     faults: Faults,
     status: Status,

@@ -6,6 +6,7 @@ use crate::steps::{STEPS, WHOLE, have_no_packet, have_packets, recover_words, ru
 use lert_top::Status;
 use std::alloc::Global;
 use std::process::Abort;
+use std::random::RandomSource;
 use std::sync::Wait;
 use std::thread::Threads;
 
@@ -24,7 +25,7 @@ pub enum Left {
 /// Makes each call of an object fail in turn, and wants the object's status, no text, and that the run leaves what these rows
 /// say: so many calls in turn leave this, and with 0 as many as there are, one at least. No further call comes.
 pub fn check_calls(
-    rt: &(impl Abort + Threads + Wait + Sync),
+    rt: &(impl Abort + Threads + Wait + Sync + RandomSource),
     alloc: Global,
     object: Object,
     rows: &[(u64, Left)],
@@ -48,7 +49,7 @@ fn ends_whole(rt: &impl Abort, ended: &Ended, call: u64) {
 
 // The number of the first call from this one on whose failing leaves something else.
 fn first_other(
-    rt: &(impl Abort + Threads + Wait + Sync),
+    rt: &(impl Abort + Threads + Wait + Sync + RandomSource),
     alloc: Global,
     object: Object,
     from: u64,
@@ -64,7 +65,7 @@ fn first_other(
 
 // Whether a run of which this call fails has the object's status and no text, puts all back, and leaves this.
 fn leaves(
-    rt: &(impl Abort + Threads + Wait + Sync),
+    rt: &(impl Abort + Threads + Wait + Sync + RandomSource),
     alloc: Global,
     object: Object,
     call: u64,
@@ -82,7 +83,7 @@ fn has_failed(ended: &Ended, object: Object) -> bool {
 
 /// What comes of a run by one worker over empty files of which this call fails.
 pub fn run_failing(
-    rt: &(impl Abort + Threads + Wait + Sync),
+    rt: &(impl Abort + Threads + Wait + Sync + RandomSource),
     alloc: Global,
     object: Object,
     call: u64,

@@ -1,6 +1,6 @@
 -- How many bytes a file has in common with those that begin it.
 use Rattle.std.proofs.{Common.{ℕ, zero, suc, ◌≡◌, ◌≤◌, ◌==◌, cond, List, [], ◌∷◌, length, take, refl, ap, ap₂, sym, ◌∙◌, arith, inl, inr}, lemmas.Bool.{cases_Bool, eq-eqb, eqb-true}}
-use Rattle.lert_spec.specs.Trace.{agreed}
+use Rattle.lert_spec.specs.Agreed.{agreed}
 
 -- bytes behind the text change nothing
 pub agreed_front : (text bytes : List ℕ) (n : ℕ) → length text ≤ n → agreed text (take n bytes) ≡ agreed text bytes

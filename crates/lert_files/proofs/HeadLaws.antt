@@ -6,7 +6,7 @@ use Rattle.std.specs.Prelude.{slice_index, if◌then◌else◌, MatchResult, IsE
 use Rattle.byteorder.specs.Endian.{little_bytes}
 use Rattle.lert_base.specs.declared.kept.Kept.{Kept}
 use Rattle.lert_bay.specs.declared.bay.TheConstants.{JOURNAL}
-use Rattle.lert_spec.specs.{declared.numbers.Numbers.Numbers, Limits.IsInLimits, Trace.agreed}
+use Rattle.lert_spec.specs.{declared.numbers.Numbers.Numbers, Limits.IsInLimits, Agreed.agreed}
 use Rattle.lert_spec.proofs.ByteLaws.{bytes_back}
 use Rattle.lert_journal.specs.Header.{magic, header, header_left, number_at, kept_in}
 use Rattle.lert_journal.proofs.HeaderLaws.{reads_back, begins}

@@ -1,12 +1,11 @@
 -- Where a payload first leaves the format of a log: by its fields, or at a key that was listed before.
 use Rattle.std.proofs.{Common.{ℕ, ◌≡◌, ◌+◌, ◌-◌, ◌*◌, ◌/◌, ◌<◌, ◌≤◌, false, Some, List, ◌++◌, length, map, ap, ap₂, sym, ◌∙◌, subst, arith, inl, inr, ◌⊎◌}, lemmas.Bool.{cases_lt, true≢false}}
-use Rattle.std.proofs.{lemmas.List.Elements.All-append, lemmas.List.FromFn.get_or-map-range_with_len}
-use Rattle.std.specs.{Prelude.All, List.range_with_len}
-use Rattle.lert_spec.specs.{declared.numbers.Numbers.Numbers, declared.report.Report.Report, Look.is_listed, Mix.cone_of}
+use Rattle.std.specs.List.{range_with_len}
+use Rattle.lert_spec.specs.{declared.numbers.Numbers.Numbers, declared.report.Report.Report, Look.is_listed}
 use Rattle.lert_reports.specs.{declared.log.LogBefore.LogBefore, Log.{before_of, listed_in, IsRepeatedAt, PayloadLeavesAt}}
 use Rattle.lert_reports.specs.LogText.{LogRecord, log_left, number_in, n0_in, report_in, report_place, reports_in, reports_place}
 use Rattle.lert_files.specs.Repeated.{reports_from, IsListedThere, AreNewThere}
-use Rattle.lert_files.proofs.{LeftLaws.{some_place, ReportsBefore, HasKey, reports_before}, RepeatLaws.length_from}
+use Rattle.lert_files.proofs.LeftLaws.{some_place, ReportsBefore, HasKey, reports_before}
 
 module _ (s : Numbers) (payload : List ℕ) (start : ℕ) (start_is : start ≡ reports_place s (n0_in payload) + 4) where
   -- ---- a key that was listed before, by the places of reports
@@ -124,22 +123,6 @@ module _ (s : Numbers) (payload : List ℕ) (start : ℕ) (start_is : start ≡ 
     | inl other ↦ absurd (omega (arith, is, other, start_is))
     | inr position ↦ position.2
   ]
-
-  -- ---- keys of the cone
-
-  module _ (cone : ℕ) (before : LogBefore) where
-    pub key_of_cone : (k : ℕ) → HasKey s cone before payload k → cone_of s (number_in 8 payload (start + 16 * k)) ≡ cone
-    key_of_cone k key = subst (λ st. cone_of s (number_in 8 payload (st + 16 * k)) ≡ cone) (sym start_is) key.of_cone
-
-    pub all_of_cone : (listed : List Report) (n : ℕ) → All (λ report. cone_of s report.key ≡ cone) listed → ((k : ℕ) → k < n → HasKey s cone before payload k) →
-        All (λ report. cone_of s report.key ≡ cone) (listed ++ reports_from payload start n)
-    all_of_cone listed n are keys =
-        let there : ℕ → Report = λ k. report_in payload (start + 16 * k) in
-        All-append (λ (report : Report). cone_of s report.key ≡ cone) listed (reports_from payload start n) are
-        (λ k d below.
-        let among_n : k < n = omega (arith, below, length_from payload start n) in
-        subst (λ (report : Report). cone_of s report.key ≡ cone) (sym (get_or-map-range_with_len there 0 n k k d among_n (let same : 0 + k ≡ k = omega arith in same)))
-        (key_of_cone k (keys k among_n)))
 
   pub place_small : (cone : ℕ) (before : LogBefore) (place n : ℕ) → ReportsBefore s cone before payload place n → place ≤ length payload + 8
   place_small cone before place n reports = elim reports.place_is [

@@ -1,9 +1,9 @@
 -- Where the fields of a payload break, by the reports that stand before that place.
 use Rattle.std.proofs.Common.{ℕ, zero, suc, ◌≡◌, ◌+◌, ◌-◌, ◌*◌, ◌/◌, ◌<◌, ◌≤◌, ◌==◌, ◌&&◌, nat_le, nat_lt, false, Option, Some, None, List, [], ◌∷◌, ◌++◌, length, refl, ap, sym, ◌∙◌, subst, arith}
-use Rattle.std.proofs.{Common.{inl, inr, ◌⊎◌}, lemmas.Bool.{cases_Bool, cases_lt, and_parts, eqb-true, leb-true}, lemmas.Option.none-some}
+use Rattle.std.proofs.{Common.{inl, inr, ◌⊎◌}, lemmas.Bool.{cases_Bool, cases_lt, and_parts, leb-true}, lemmas.Option.none-some}
 use Rattle.std.specs.{Prelude.{flat_map, slice_index, if◌then◌else◌}, List.range_with_len}
-use Rattle.lert_spec.specs.{declared.numbers.Numbers.Numbers, Edges.capacity, Mix.cone_of}
-use Rattle.lert_reports.specs.{declared.log.LogBefore.LogBefore, LogText.{Field, is_broken, left_at, log_left, number_in, n0_in, next_flush, kind_field, n0_field, offset_field, first_field}}
+use Rattle.lert_spec.specs.{declared.numbers.Numbers.Numbers, Edges.capacity}
+use Rattle.lert_reports.specs.{declared.log.LogBefore.LogBefore, LogText.{Field, is_broken, left_at, log_left, n0_in, next_flush, kind_field, n0_field, offset_field, first_field}}
 use Rattle.lert_reports.specs.LogText.{head_fields, bin_count, level_place, frame_field, level_fields, directory_fields, reports_place, reports_in, at_before, key_field, at_field, count_field}
 use Rattle.lert_reports.specs.LogText.{report_fields, all_report_fields, end_field}
 use Rattle.lert_reports.proofs.{DirectoryLaws.{level_place-next, later_place}, FieldLaws.{broken, kept, whole, none_left, stops, goes_on, parted, first_kept, keeps_rule, each_none, in_first}}
@@ -159,25 +159,21 @@ module _ (s : Numbers) (cone : ℕ) (before : LogBefore) (payload : List ℕ) wh
 
   -- ---- the reports before the place
 
-  -- a report's key is whole and of the cone
+  -- a report's key is whole
   pub record HasKey (k : ℕ) : Type 0 where
     pub long : start + 16 * k + 8 ≤ length payload
-    pub of_cone : cone_of s (number_in 8 payload (start + 16 * k)) ≡ cone
 
   key_there : (k : ℕ) → is_broken payload (key_field s cone payload (start + 16 * k)) ≡ false → HasKey k
-  key_there k good = record {
-    long = whole payload (key_field s cone payload (start + 16 * k)) good;
-    of_cone = eqb-true (cone_of s (number_in 8 payload (start + 16 * k))) cone (keeps_rule payload (key_field s cone payload (start + 16 * k)) good);
-  }
+  key_there k good = record { long = whole payload (key_field s cone payload (start + 16 * k)) good }
 
   -- a report none of whose fields breaks
-  report_fine : (k : ℕ) → left_at payload (report_fields s cone before payload k) ≡ None → HasKey k × (start + 16 * k + 16 ≤ length payload)
+  report_fine : (k : ℕ) → left_at payload (report_fields s cone before payload k) ≡ None → start + 16 * k + 16 ≤ length payload
   report_fine k none =
       let place = start + 16 * k in
       let at = at_field payload place (at_before s before payload k) in
       let key = first_kept payload (key_field s cone payload place) (at ∷ []) none in
       let position = first_kept payload at [] key.1 in
-      (key_there k key.0, omega (arith, whole payload at position.0))
+      omega (arith, whole payload at position.0)
 
   -- a report of which one does
   report_left : (k place : ℕ) → left_at payload (report_fields s cone before payload k) ≡ Some place → (place ≡ start + 16 * k) ⊎ ((place ≡ start + 16 * k + 8) × HasKey k)
@@ -195,7 +191,6 @@ module _ (s : Numbers) (cone : ℕ) (before : LogBefore) (payload : List ℕ) wh
     pub few : reports ≤ reports_in s payload
     pub room : before.reports + reports_in s payload ≤ s.room
     pub there : start + 16 * reports ≤ length payload
-    pub keys : (k : ℕ) → k < reports → HasKey k
     pub place_is : (place ≡ start + 16 * reports) ⊎ ((place ≡ start + 16 * reports + 8) × (reports < reports_in s payload) × HasKey reports)
 
   count_there : is_broken payload (count_field s before payload) ≡ false → (start ≤ length payload) × (before.reports + reports_in s payload ≤ s.room)
@@ -241,13 +236,12 @@ module _ (s : Numbers) (cone : ℕ) (before : LogBefore) (payload : List ℕ) wh
         let found = first_among payload (report_fields s cone before payload) (reports_in s payload) 0 place here in
         let good = count_there (count_good none) in
         let n = found.number in
-        let fine : (k : ℕ) → k < n → HasKey k × (start + 16 * k + 16 ≤ length payload) = λ k below. report_fine k (found.fine k (omega arith) below) in (
+        let fine : (k : ℕ) → k < n → start + 16 * k + 16 ≤ length payload = λ k below. report_fine k (found.fine k (omega arith) below) in (
           n,
           record {
             few = omega (arith, found.high);
             room = good.1;
-            there = reports_long n good.0 (λ k below. (fine k below).1);
-            keys = λ k below. (fine k below).0;
+            there = reports_long n good.0 fine;
             place_is = elim (report_left n place found.here) [
               | inl at_key ↦ inl at_key
               | inr at_position ↦ inr (at_position.0, omega (arith, found.high), at_position.1)
@@ -260,14 +254,13 @@ module _ (s : Numbers) (cone : ℕ) (before : LogBefore) (payload : List ℕ) wh
     at_end none whole_reports here =
         let good = count_there (count_good none) in
         let n = reports_in s payload in
-        let fine : (k : ℕ) → k < n → HasKey k × (start + 16 * k + 16 ≤ length payload) = λ k below. report_fine k
+        let fine : (k : ℕ) → k < n → start + 16 * k + 16 ≤ length payload = λ k below. report_fine k
         (each_none payload (report_fields s cone before payload) n 0 whole_reports k (omega arith) (omega (arith, below))) in (
           n,
           record {
             few = omega arith;
             room = good.1;
-            there = reports_long n good.0 (λ k below. (fine k below).1);
-            keys = λ k below. (fine k below).0;
+            there = reports_long n good.0 fine;
             place_is = inl (one_left payload (end_field s payload) place here);
           },
         )

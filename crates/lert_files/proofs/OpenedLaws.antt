@@ -5,7 +5,7 @@ use Rattle.std.specs.Prelude.{IfOk, MatchResult, IsErrOf, IsErrAnd}
 use Rattle.lert_base.specs.declared.kept.Kept.{Kept}
 use Rattle.lert_bay.specs.{declared.bay.TheConstants.{JOURNAL, LOG, FRAMES}, Files.Files}
 use Rattle.lert_levels.specs.{declared.rows.bin_at.BinAt.BinAt, declared.rows.fault.FlushFault.FlushFault}
-use Rattle.lert_levels.specs.{declared.rows.fault.FlushFault.TheVariants.{Failed as CheckFailed, Malformed as CheckMalformed}, rows.Checked.rows_left, OnDisk.OnDisk}
+use Rattle.lert_levels.specs.{declared.rows.fault.FlushFault.TheVariants.{Failed as CheckFailed, Malformed as CheckMalformed}, rows.Checked.rows_left, OnDisk.{OnDisk, written}}
 use Rattle.lert_levels.specs.rows.Rows.{IsAt, AreRows, directory_text}
 use Rattle.lert_levels.proofs.rows.NamedLaws.{same_named}
 use Rattle.lert_reports.specs.{Log.{last_directory, last_n0, HasLog, LogLeavesAt}, LogText.{LogRecord, directory_bytes}, declared.log_point.LogPoint.LogPoint}
@@ -44,7 +44,7 @@ module _ (s : Numbers) (cone : ℕ) (valid : IsValid s) (below : cone < 2 ^ 32) 
   opened_or_left records log_end rows file at opened (In_beginning file_is left) = no_place opened.headed at left
   opened_or_left records log_end rows file at opened (In_log headed file_is leaves) = log_or_left s cone valid (seen LOG) records log_end at opened.log leaves
   opened_or_left records log_end rows file at opened (In_frame headed others other_end log other_rows named file_is left) =
-      none-some at (sym opened.frames ∙ ap (rows_left s (seen FRAMES)) (same_last records others log_end other_end rows other_rows opened.log log opened.named named) ∙ left)
+      none-some at (sym opened.frames ∙ ap (rows_left s written (seen FRAMES)) (same_last records others log_end other_end rows other_rows opened.log log opened.named named) ∙ left)
 
   pub left_or_other : (file at : ℕ) (kept : Kept) → LeaveAt s cone seen file at → HasOther s cone (seen JOURNAL) kept → ⊥
   left_or_other file at kept (In_beginning file_is left) has = other_or_left s cone valid.limits below (seen JOURNAL) kept at has left
@@ -68,7 +68,7 @@ module _ (s : Numbers) (cone : ℕ) (valid : IsValid s) (below : cone < 2 ^ 32) 
   one_place file at other_file other (In_frame headed records log_end log rows named file_is left)
       (In_frame headed_too others other_end log_too other_rows named_too other_is left_too) = (
         file_is ∙ sym other_is,
-        some_place at other (sym left ∙ ap (rows_left s (seen FRAMES))
+        some_place at other (sym left ∙ ap (rows_left s written (seen FRAMES))
             (same_last records others log_end other_end rows other_rows log log_too named named_too) ∙ left_too),
       )
 
@@ -184,21 +184,21 @@ module _ (s : Numbers) (cone : ℕ) (seen : Files) (n0 offset first : ℕ) (clos
     text_is = text ∙ read.directory_is;
   }
 
-  pub opened_of : (now : OnDisk) → now ≡ levels → rows_left levels.settings (seen FRAMES) levels.rows ≡ None →
+  pub opened_of : (now : OnDisk) → now ≡ levels → rows_left levels.settings written (seen FRAMES) levels.rows ≡ None →
       IsReadOf s cone n0 offset first closed reports (directory_text now.rows) records × AreOpened s cone seen records log_end now.rows
   opened_of now same whole =
       subst (λ (disk : OnDisk). IsReadOf s cone n0 offset first closed reports (directory_text disk.rows) records × AreOpened s cone seen records log_end disk.rows) (sym same) (
         subst (λ bytes. IsReadOf s cone n0 offset first closed reports bytes records) (sym text) read,
-        record { headed = headed; log = log; named = named; frames = subst (λ (numbers : Numbers). rows_left numbers (seen FRAMES) levels.rows ≡ None) own whole },
+        record { headed = headed; log = log; named = named; frames = subst (λ (numbers : Numbers). rows_left numbers written (seen FRAMES) levels.rows ≡ None) own whole },
       )
 
   -- why the frames are refused
   pub check_refused : (fault : ReopenFault) (check : FlushFault) → fault ≡ checked_fault check →
-      ((place : ℕ) → check ≡ CheckMalformed place → rows_left levels.settings (seen FRAMES) levels.rows ≡ Some place) → IsRefused s cone seen fault
+      ((place : ℕ) → check ≡ CheckMalformed place → rows_left levels.settings written (seen FRAMES) levels.rows ≡ Some place) → IsRefused s cone seen fault
   check_refused fault CheckFailed is said = By_call is
   check_refused fault (CheckMalformed place) is said =
       By_place 2 place is (In_frame headed records log_end log levels.rows named refl
-      (subst (λ (numbers : Numbers). rows_left numbers (seen FRAMES) levels.rows ≡ Some place) own (said place refl)))
+      (subst (λ (numbers : Numbers). rows_left numbers written (seen FRAMES) levels.rows ≡ Some place) own (said place refl)))
 
 pub check_failed : (check : FlushFault) → checked_fault check ≡ Failed → check ≡ CheckFailed
 check_failed CheckFailed is = refl

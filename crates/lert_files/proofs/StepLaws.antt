@@ -3,11 +3,11 @@ use Rattle.std.proofs.Common.{ℕ, zero, suc, ◌≡◌, ◌≢◌, ◌+◌, ◌
 use Rattle.std.proofs.{Common.{append_assoc, length-append}, Math.Nat.mul-le-mul, lemmas.Bool.{eq-eqb, eqb-true, true≢false}, lemmas.Bool.Decides.Decides-eqb, lemmas.List.{append-nil, take_at}}
 use Rattle.std.proofs.{lemmas.List.Concat.flat_map-cons, lemmas.List.Folds.{Any-from_list_any, list_any_at}, lemmas.List.Quantifiers.all_pairs_push, lemmas.Map.Made.IsDistinct-from_AllPairs}
 use Rattle.std.proofs.lemmas.Map.Steps.{length-le_from_distinct_below}
-use Rattle.std.specs.{Prelude.{All, flat_map, replicate, slice_index_or}, List.AllPairs}
+use Rattle.std.specs.{Prelude.{flat_map, replicate, slice_index_or}, List.AllPairs}
 use Rattle.byteorder.specs.Endian.{little_bytes}
 use Rattle.lert_bay.specs.Settled.{part}
 use Rattle.lert_gatelog.specs.Gated.{IsClosed, IsOpen, Records, next_gate}
-use Rattle.lert_spec.specs.{declared.numbers.Numbers.Numbers, declared.report.Report.Report, Edges.capacity, Limits.IsValid, Look.is_listed, Mix.cone_of}
+use Rattle.lert_spec.specs.{declared.numbers.Numbers.Numbers, declared.report.Report.Report, Edges.capacity, Limits.IsValid, Look.is_listed}
 use Rattle.lert_spec.proofs.LimitLaws.{capacity_to}
 use Rattle.lert_reports.specs.{declared.log.LogBefore.LogBefore, declared.log.LogKind.LogKind}
 use Rattle.lert_reports.specs.Log.{is_closed, is_closing, is_flush, flushes_in, last_at, last_n0, listed_in, most_record, log_header, before_of, AreRecords, HasLog, HasLogUpTo}
@@ -184,9 +184,6 @@ module _ (s : Numbers) (cone : ℕ) (valid : IsValid s) (progress : Progress) (l
     (has : HasRead s cone progress listed directory records) where
   pub counted : progress.before.reports ≡ length listed
   counted = ap (λ (before : LogBefore). before.reports) has.before_is ∙ ap (length {A = Report}) (sym has.is_read.reports_are)
-
-  pub listed_of_cone : All (λ report. cone_of s report.key ≡ cone) listed
-  listed_of_cone = subst (All (λ (report : Report). cone_of s report.key ≡ cone)) (sym has.is_read.reports_are) (together s cone valid records has.is_read.rules).of_cone
 
   pub flushes_few : progress.before.flushes < 2 ^ 32
   flushes_few = omega (arith, ap (λ (before : LogBefore). before.flushes) has.before_is, (together s cone valid records has.is_read.rules).few, capacity_to s valid)

@@ -7,6 +7,7 @@ use Rattle.lert_levels.specs.{declared.rows.fault.FlushFault.TheVariants.{Failed
 use Rattle.lert_files.specs.{declared.fault.ReopenFault.ReopenFault, declared.fault.ReopenFault.TheVariants.{Failed, Malformed, OtherSettings}, Headed.{BeginningLeaves, IsHeaded, HasOther}}
 use Rattle.lert_reports.specs.{Log.{last_directory, last_n0, HasLog, LogLeavesAt}, LogText.{LogRecord, directory_bytes}}
 use Rattle.lert_spec.specs.declared.numbers.Numbers.{Numbers}
+use Rattle.lert_levels.specs.OnDisk.{written}
 
 -- rows that the last record of a log names: the bins of the levels after its events, in its frames
 abbrev pub AreLastRows : Numbers → List LogRecord → List (List BinAt) → Type 0
@@ -17,7 +18,7 @@ pub record AreOpened (s : Numbers) (cone : ℕ) (seen : Files) (records : List L
   pub headed : IsHeaded s cone (seen JOURNAL)
   pub log : HasLog s cone (seen LOG) records log_end
   pub named : AreLastRows s records rows
-  pub frames : rows_left s (seen FRAMES) rows ≡ None
+  pub frames : rows_left s written (seen FRAMES) rows ≡ None
 
 -- the files first leave their format at this place, in the order in which they are read: the beginning of the journal,
 -- behind the right one the log, and behind a whole log the frames that its last record names
@@ -25,7 +26,7 @@ pub data LeaveAt (s : Numbers) (cone : ℕ) (seen : Files) (file at : ℕ) : Typ
   In_beginning : file ≡ JOURNAL → BeginningLeaves s cone (seen JOURNAL) at → LeaveAt s cone seen file at
   In_log : IsHeaded s cone (seen JOURNAL) → file ≡ LOG → LogLeavesAt s cone (seen LOG) at → LeaveAt s cone seen file at
   In_frame : IsHeaded s cone (seen JOURNAL) → (records : List LogRecord) (log_end : ℕ) → HasLog s cone (seen LOG) records log_end →
-      (rows : List (List BinAt)) → AreLastRows s records rows → file ≡ FRAMES → rows_left s (seen FRAMES) rows ≡ Some at → LeaveAt s cone seen file at
+      (rows : List (List BinAt)) → AreLastRows s records rows → file ≡ FRAMES → rows_left s written (seen FRAMES) rows ≡ Some at → LeaveAt s cone seen file at
 
 -- why files aren't read: a call failed, or what stands in them
 pub data IsRefused (s : Numbers) (cone : ℕ) (seen : Files) (fault : ReopenFault) : Type 0 where

@@ -12,6 +12,7 @@ ghost use Rattle.lert_files.specs.Opened.{AreOpened, IsAsRead, IsRefused, LeaveA
 ghost use Rattle.lert_files.specs.Read.{IsReadOf, IsPoint, AreReportsUpTo};
 ghost use Rattle.lert_reports.specs.Log.{most_record};
 ghost use Rattle.lert_reports.specs.LogText.{LogRecord};
+ghost use Rattle.lert_levels.specs.OnDisk.{written};
 
 use crate::directory::Directory;
 use crate::fault::ReopenFault;
@@ -52,7 +53,7 @@ pub fn read_files<B: Bay, T: CountTable>(
     ensures opened { IfTold (B.files bay.old) (λ seen. IfOk result (λ end. (records : List LogRecord)
         × IsReadOf settings.now cone end.n0 end.offset end.first end.closed store.new.reports (directory_text levels.new.rows) records
         × AreOpened settings.now cone seen records end.log_end levels.new.rows)) }
-    ensures stand { IfTold (B.files bay.old) (λ seen. OnOk result (EachStands settings.now (seen FRAMES) levels.new.rows)) }
+    ensures stand { IfTold (B.files bay.old) (λ seen. OnOk result (EachStands settings.now written (seen FRAMES) levels.new.rows)) }
     ensures durable { IfTold (B.files bay.old) (λ seen. OnOk result ((image : Files) → B.leaves bay.new image → IsAsRead seen image)) }
     ensures malformed { IfTold (B.files bay.old) (λ seen. (file at : ℕ) → IsErrOf result (ReopenFault.Malformed file at) →
         LeaveAt settings.now cone seen file at) }
@@ -104,7 +105,7 @@ fn read_in_order<B: Bay, T: CountTable>(
         × IsReadOf settings.now cone end.n0 end.offset end.first end.closed store.new.reports (directory_text levels.new.rows) records
         × AreOpened settings.now cone seen records end.log_end levels.new.rows)
         (IsRefused settings.now cone seen)) }
-    ensures stand { IfTold (B.files bay.old) (λ seen. OnOk result (EachStands settings.now (seen FRAMES) levels.new.rows)) }
+    ensures stand { IfTold (B.files bay.old) (λ seen. OnOk result (EachStands settings.now written (seen FRAMES) levels.new.rows)) }
     ensures durable { IfTold (B.files bay.old) (λ seen. OnOk result ((image : Files) → B.leaves bay.new image → IsAsRead seen image)) }
     ensures same { (levels.new.settings ≡ levels.old.settings) × (store.new.settings ≡ store.old.settings) }
     ensures quiet { WritesNothing B.Bay bay.old bay.new (IsErrOf result ReopenFault.Failed) }

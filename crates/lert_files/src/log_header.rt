@@ -6,7 +6,7 @@ ghost use Rattle.lert_bay.specs.Files.{IfTold};
 ghost use Rattle.lert_bay.specs.Kept.{OnlyReads};
 ghost use Rattle.lert_bay.specs.Settled.{part};
 ghost use Rattle.lert_reports.specs.Log.{log_header};
-ghost use Rattle.lert_spec.specs.Trace.{agreed};
+ghost use Rattle.lert_spec.specs.Agreed.{agreed};
 
 use crate::fault::ReopenFault;
 use lert_bay::{Bay, LOG};

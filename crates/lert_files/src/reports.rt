@@ -1,12 +1,11 @@
 //! The reports in a payload: whether each key is new, and where the first one isn't.
 
-ghost use Rattle.std.specs.Prelude.{◌≡◌, ℕ, ◌+◌, ◌*◌, ◌<◌, ◌≤◌, ◌^◌, All, List, ◌++◌, Some, length, MatchOption};
+ghost use Rattle.std.specs.Prelude.{◌≡◌, ℕ, ◌+◌, ◌*◌, ◌<◌, ◌≤◌, ◌^◌, List, ◌++◌, Some, length, MatchOption};
 ghost use Rattle.lert_files.specs.Repeated.{reports_from, IsListedThere, AreNewThere};
 ghost use Rattle.lert_reports.specs.declared.log.LogBefore.{LogBefore};
 ghost use Rattle.lert_reports.specs.Log.{before_of, listed_in, PayloadLeavesAt};
 ghost use Rattle.lert_reports.specs.LogText.{LogRecord, log_left, n0_in, number_in, report_in, reports_place};
 ghost use Rattle.lert_spec.specs.Edges.{capacity};
-ghost use Rattle.lert_spec.specs.Mix.{cone_of};
 
 use byteorder::{ByteOrder, LittleEndian};
 use lert_base::{CountTable, Report, Settings};
@@ -25,7 +24,6 @@ pub fn put_reports<T: CountTable>(
 ) -> Option<usize>
     requires whole { start + 16 * count ≤ length payload.now }
     requires room { length store.old.reports + count ≤ store.old.settings.room }
-    requires of_cone { (cone : ℕ) × All (λ report. cone_of store.old.settings report.key ≡ cone) (store.old.reports ++ reports_from payload.now start count) }
     ensures found { MatchOption result
         ((store.new.reports ≡ store.old.reports ++ reports_from payload.now start count) × AreNewThere store.old.reports payload.now start count)
         (λ number. (number < count) × IsListedThere store.old.reports payload.now start number × AreNewThere store.old.reports payload.now start number) }
@@ -50,8 +48,7 @@ pub fn first_left<T: CountTable>(
     place: u64,
 ) -> u64
     requires same { store.old.settings ≡ settings.now }
-    requires left { (cone : ℕ) × (before : LogBefore) × (log_left settings.now cone before payload.now ≡ Some place) × (length store.old.reports ≤ before.reports)
-        × All (λ report. cone_of settings.now report.key ≡ cone) store.old.reports }
+    requires left { (cone : ℕ) × (before : LogBefore) × (log_left settings.now cone before payload.now ≡ Some place) × (length store.old.reports ≤ before.reports) }
     requires short { length payload.now < 2 ^ 32 }
     ensures first { (cone : ℕ) (records : List LogRecord) → log_left settings.now cone (before_of records) payload.now ≡ Some place →
         store.old.reports ≡ listed_in records → PayloadLeavesAt settings.now cone records payload.now result }

@@ -1,16 +1,11 @@
 -- The locks of a fleet are closed from the last cone on.
 use Rattle.std.proofs.Common.{◌≡◌, ℕ, ◌+◌, ◌≤◌, List, [], ◌∷◌, ◌++◌, length, map, reverse, slice_get, sym, ap, ◌∙◌, subst, arith}
 use Rattle.std.proofs.lemmas.List.{append_assoc, append-nil, reverse-append, reverse-reverse, length_push, length-map, map-append}
-use Rattle.crossbeam_utils.specs.declared.cache_padded.CachePadded.{CachePadded}
-use Rattle.crossbeam_utils.specs.Padded.{padded_value}
+use Rattle.crossbeam_utils.specs.{declared.cache_padded.CachePadded.CachePadded, Padded.padded_value}
 use Rattle.lert_base.specs.declared.held.Held.{Ghosts as HeldOf}
 use Rattle.lert_conelock.specs.Sight.{Sight, LockSight, Closed}
-use Rattle.lert_fleet.specs.Cones.{ClosesEach, FleetPassSight, FleetSight, IsPassOf}
-use Rattle.lert_fleet.specs.Each.{EachTwo, EachThree}
-use Rattle.lert_fleet.specs.Rows.{IsWholePass, WereClosed}
-use Rattle.lert_fleet.proofs.Places.{slice_get_seam}
-use Rattle.lert_fleet.proofs.Eachwise.{three_none, three_cons}
-use Rattle.lert_fleet.proofs.Splitting.{as_long}
+use Rattle.lert_fleet.specs.{Cones.{ClosesEach, FleetPassSight, FleetSight, IsPassOf}, Each.{EachTwo, EachThree}, Rows.{IsWholePass, WereClosed}}
+use Rattle.lert_fleet.proofs.{Places.slice_get_seam, Eachwise.{three_none, three_cons}, Splitting.as_long}
 
 module _ {H T R F : Type 0} (held : HeldOf H T R F) (locks₀ : List (LockSight H)) (passes₀ : List (Sight H F)) (others : List H) where
   -- the locks that are left stand in front of those that are closed, whose states lie the last one first

@@ -1,6 +1,5 @@
 -- Facts of three lists, place by place, with one element more in front or one less.
-use Rattle.std.proofs.Common.{◌≡◌, ℕ, suc, zero, List, [], ◌∷◌, Some, slice_get, refl, ap, subst, arith}
-use Rattle.std.proofs.lemmas.Option.{same_Some, none-some}
+use Rattle.std.proofs.{Common.{◌≡◌, ℕ, suc, zero, List, [], ◌∷◌, Some, slice_get, refl, ap, subst, arith}, lemmas.Option.{same_Some, none-some}}
 use Rattle.lert_fleet.specs.Each.{EachThree}
 
 module _ {A B C : Type 0} (R : A → B → C → Type 0) where

@@ -1,15 +1,10 @@
 -- Two passes of a fleet are joined from the last cone on.
-use Rattle.std.proofs.Common.{◌≡◌, ◌≢◌, ℕ, ◌<◌, ◌≤◌, List, [], ◌∷◌, ◌++◌, length, set, map, get_or, Some, slice_get, refl, sym, ap, ◌∙◌, subst, ⊎_elim}
-use Rattle.std.proofs.Common.{arith}
-use Rattle.std.proofs.lemmas.Bool.{cases_eq}
-use Rattle.std.proofs.lemmas.List.{length-set, append_assoc, append-nil, length_push, length-map}
-use Rattle.std.proofs.lemmas.Option.{same_Some, slice_get_within}
-use Rattle.crossbeam_utils.specs.declared.cache_padded.CachePadded.{CachePadded}
-use Rattle.crossbeam_utils.specs.Padded.{padded_value}
+use Rattle.std.proofs.{Common.{◌≡◌, ◌≢◌, ℕ, ◌<◌, ◌≤◌, List, [], ◌∷◌, ◌++◌, length, set, map, get_or, Some, slice_get, refl, sym, ap, ◌∙◌, subst, ⊎_elim, arith}, lemmas.Bool.cases_eq}
+use Rattle.std.proofs.{lemmas.List.{length-set, append_assoc, append-nil, length_push, length-map}, lemmas.Option.{same_Some, slice_get_within}}
+use Rattle.crossbeam_utils.specs.{declared.cache_padded.CachePadded.CachePadded, Padded.padded_value}
 use Rattle.lert_conelock.specs.Sight.{Sight, LockSight, Joined}
 use Rattle.lert_fleet.specs.Cones.{FleetSight, FleetPassSight, IsOwnPass, IsPassOf, JoinsEach}
-use Rattle.lert_fleet.proofs.Places.{slice_get-set_same, slice_get-set_other, slice_get_seam, some_at, read_at, seen_at}
-use Rattle.lert_fleet.proofs.Eachwise.{three_here}
+use Rattle.lert_fleet.proofs.{Places.{slice_get-set_same, slice_get-set_other, slice_get_seam, some_at, read_at, seen_at}, Eachwise.three_here}
 
 module _ {H F : Type 0} where
   -- the cones that are left stand as before, and each behind them is joined

@@ -1,18 +1,13 @@
 -- A lock is put round each state, and after want of memory each state comes back as it was.
 use Rattle.std.proofs.Common.{◌≡◌, ℕ, suc, zero, ◌≤◌, List, [], ◌∷◌, ◌++◌, length, map, reverse, Some, slice_get, refl, sym, ap, ◌∙◌, subst, arith}
-use Rattle.std.specs.Prelude.{All}
-use Rattle.std.proofs.lemmas.List.{append_assoc, append-nil, reverse-append, reverse-reverse, length-map, length-reverse, map-append}
-use Rattle.std.proofs.lemmas.List.Elements.{All-nil, All-head, All-tail, All-push}
+use Rattle.std.proofs.{lemmas.List.{append_assoc, append-nil, reverse-append, reverse-reverse, length-map, length-reverse, map-append}, lemmas.List.Elements.{All-nil, All-head, All-tail, All-push}}
 use Rattle.std.proofs.lemmas.Option.{same_Some, none-some}
-use Rattle.crossbeam_utils.specs.declared.cache_padded.CachePadded.{CachePadded}
-use Rattle.crossbeam_utils.specs.Padded.{padded_value}
+use Rattle.std.specs.Prelude.{All}
+use Rattle.crossbeam_utils.specs.{declared.cache_padded.CachePadded.CachePadded, Padded.padded_value}
 use Rattle.lert_base.specs.declared.held.Held.{Ghosts as HeldOf}
 use Rattle.lert_conelock.specs.Sight.{Sight, LockSight, first_pass, Closed}
-use Rattle.lert_fleet.specs.Each.{EachTwo, EachThree}
-use Rattle.lert_fleet.specs.Cones.{FleetSight, FleetPassSight, IsOwnPass, IsPassOf, IsWhole, IsFleetOf, first_passes}
-use Rattle.lert_fleet.specs.Rows.{IsWholePass, WereClosed}
-use Rattle.lert_fleet.proofs.Places.{image_at}
-use Rattle.lert_fleet.proofs.Eachwise.{three_tail}
+use Rattle.lert_fleet.specs.{Each.{EachTwo, EachThree}, Cones.{FleetSight, FleetPassSight, IsOwnPass, IsPassOf, IsWhole, IsFleetOf, first_passes}, Rows.{IsWholePass, WereClosed}}
+use Rattle.lert_fleet.proofs.{Places.image_at, Eachwise.three_tail}
 
 pub All-reverse : {X : Type 0} (P : X → Type 0) (xs : List X) → All P xs → All P (reverse xs)
 All-reverse P [] all = All-nil P

@@ -1,7 +1,6 @@
 -- Elements of a list by their place.
 use Rattle.std.proofs.Common.{◌≡◌, ◌+◌, ◌≢◌, ℕ, suc, zero, ◌<◌, ◌≤◌, List, [], ◌∷◌, ◌++◌, length, set, get_or, map, Some, slice_get, refl, sym, ap, ◌∙◌, arith}
-use Rattle.std.proofs.lemmas.List.{length-set, length_push, get_or-set_same}
-use Rattle.std.proofs.lemmas.Option.{slice_get-get_or, slice_get-map, slice_get_read, none-some, same_Some}
+use Rattle.std.proofs.{lemmas.List.{length-set, length_push, get_or-set_same}, lemmas.Option.{slice_get-get_or, slice_get-map, slice_get_read, none-some, same_Some}}
 use Rattle.std.specs.Option.{option_map}
 
 pub slice_get-set_same : {X : Type 0} (xs : List X) (i : ℕ) (y : X) → i < length xs → slice_get (set xs i y) i ≡ Some y

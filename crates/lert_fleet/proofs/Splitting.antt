@@ -1,9 +1,7 @@
 -- A pass of a fleet is cut from the first cone on.
 use Rattle.std.proofs.Common.{◌≡◌, ℕ, ◌+◌, ◌<◌, ◌≤◌, List, [], ◌∷◌, ◌++◌, length, map, set, take, drop, get_or, refl, sym, ap, ◌∙◌, subst, arith}
-use Rattle.std.proofs.lemmas.List.{length-append, length-map, length-take-le, take-append-drop, drop_more, drop_all, take_all, append-nil, get_or_at, map_more}
-use Rattle.std.proofs.lemmas.List.Edits.{map_over_more}
-use Rattle.crossbeam_utils.specs.declared.cache_padded.CachePadded.{CachePadded}
-use Rattle.crossbeam_utils.specs.Padded.{padded_value}
+use Rattle.std.proofs.{lemmas.List.{length-append, length-map, length-take-le, take-append-drop, drop_more, drop_all, take_all, append-nil, get_or_at, map_more}, lemmas.List.Edits.map_over_more}
+use Rattle.crossbeam_utils.specs.{declared.cache_padded.CachePadded.CachePadded, Padded.padded_value}
 use Rattle.lert_conelock.specs.Sight.{Sight, LockSight}
 use Rattle.lert_fleet.specs.Cones.{FleetSight, FleetPassSight, IsOwnPass, IsPassOf, below, from}
 use Rattle.lert_fleet.proofs.Places.{image_at, read_at, seen_at}

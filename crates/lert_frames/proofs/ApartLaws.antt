@@ -2,32 +2,32 @@
 use Rattle.std.proofs.Common.{◌≡◌, ◌↔◌, ℕ, ◌+◌, ◌≤◌, ◌⊎◌, List, [], ◌++◌, length, Option, Some, None, sym, ap, ap₂, ◌∙◌, subst, inl, inr, ⊎_elim, arith}
 use Rattle.lert_bay.{specs.declared.bay.TheConstants.FRAMES, specs.Files.Files}
 use Rattle.lert_blocks.specs.Walk.{Found}
-use Rattle.lert_frames.{specs.Apart.{SamePlace, IsSure}, specs.Decoded.decoder_found, specs.Frame.{HoldsFrame, frame_text, frame_found, frame_left, frame_pieces, judged}, specs.Outlet.IsOut}
+use Rattle.lert_frames.{specs.Apart.{SamePlace, IsSure}, specs.Decoded.decoder_found, specs.Frame.{frame_found, frame_left, judged}, specs.Outlet.IsOut}
 use Rattle.lert_frames.{specs.Place.{block_count, blocks_bytes, frame_len, frame_place, most_slots}, specs.Reading.verdict}
 use Rattle.lert_frames.{specs.ToCome.{known_or, left_of, pieces_of, ready_of, if_whole, told_of, Breaks}, specs.Writing.{IsWriting, text_before}, specs.declared.outlet.Outlet.Outlet}
 use Rattle.lert_frames.{specs.declared.reader.FrameReader.FrameReader, specs.declared.reader.Sum.Sum, specs.declared.reader.Sum.TheVariants.{Left, Over}}
-use Rattle.lert_frames.{specs.declared.writer.FrameWriter.FrameWriter, proofs.CheckLaws.summed_parts, proofs.KeptPlaceLaws.{blocks_kept, decoder_kept}}
+use Rattle.lert_frames.{specs.declared.writer.FrameWriter.FrameWriter, proofs.JudgedLaws.summed_parts, proofs.KeptPlaceLaws.{blocks_kept, decoder_kept}}
 use Rattle.lert_frames.{proofs.OutletLaws.{out_elsewhere, out_reaches}, proofs.ReadingLaws.never_over, proofs.SamePlaceLaws.{same_part, text_stays}, proofs.StandsLaws.between_of}
 use Rattle.lert_spec.{specs.declared.numbers.Numbers.Numbers, specs.Edges.width}
 
 -- ---- a reader
 
 -- a reader that finds no fault finds none in what its decoder finds
-found_whole : (sum : Sum) (place : ℕ) (found : Found) (fault : Option ℕ) → known_or fault (verdict sum place found) ≡ None → found.left ≡ None
-found_whole (Left n) place found None whole = (summed_parts n place found.pieces found.left whole).0
-found_whole Over place found None whole = absurd (never_over place found.left whole)
-found_whole (Left n) place found (Some at) whole = absurd (cc)
-found_whole Over place found (Some at) whole = absurd (cc)
+found_whole : (version : ℕ) (sum : Sum) (place : ℕ) (found : Found) (fault : Option ℕ) → known_or fault (verdict version sum place found) ≡ None → found.left ≡ None
+found_whole version (Left most due) place found None whole = (summed_parts version most due place found.pieces found.left whole).0
+found_whole version Over place found None whole = absurd (never_over place found.left whole)
+found_whole version (Left most due) place found (Some at) whole = absurd (cc)
+found_whole version Over place found (Some at) whole = absurd (cc)
 
-module _ (r : FrameReader) (old new : List ℕ) (sure : IsSure r old) (kept : SamePlace r.place (frame_len r.settings r.level) old new) where
+module _ (r : FrameReader) (old new : List ℕ) (sure : IsSure r old) (kept : SamePlace r.place (frame_len r.settings r.version r.level) old new) where
   found_stays : decoder_found r.decoder new ≡ decoder_found r.decoder old
   found_stays =
-      decoder_kept r.decoder r.place (frame_len r.settings r.level) old new kept (between_of r.settings r.level r.place r.decoder r.reading.stands)
-      (⊎_elim (λ long. inl long) (λ whole. inr (found_whole r.sum r.place (decoder_found r.decoder old) r.fault whole)) sure)
+      decoder_kept r.decoder r.place (frame_len r.settings r.version r.level) old new kept (between_of r.settings r.version r.level r.place r.decoder r.reading.stands)
+      (⊎_elim (λ long. inl long) (λ whole. inr (found_whole r.version r.sum r.place (decoder_found r.decoder old) r.fault whole)) sure)
 
   -- where it leaves its text
   pub left_stays : left_of r new ≡ left_of r old
-  left_stays = ap (λ found. known_or r.fault (verdict r.sum r.place found)) found_stays
+  left_stays = ap (λ found. known_or r.fault (verdict r.version r.sum r.place found)) found_stays
 
   -- and the pieces to come
   pub pieces_stay : pieces_of r new ≡ pieces_of r old
@@ -44,7 +44,7 @@ breaks_in r told seen is at left = λ other same. subst (λ (files : Files). lef
 
 -- the same is told of two bays that tell their files
 pub told_stays : (r : FrameReader) (before after : Option Files) (seen later : Files) → before ≡ Some seen → after ≡ Some later → IsSure r (seen FRAMES) →
-    SamePlace r.place (frame_len r.settings r.level) (seen FRAMES) (later FRAMES) → told_of before r ≡ told_of after r
+    SamePlace r.place (frame_len r.settings r.version r.level) (seen FRAMES) (later FRAMES) → told_of before r ≡ told_of after r
 told_stays r before after seen later told told_later sure kept =
     ap (λ told. told_of told r) told
     ∙ (ap₂ if_whole (sym (left_stays r (seen FRAMES) (later FRAMES) sure kept)) (sym (pieces_stay r (seen FRAMES) (later FRAMES) sure kept))
@@ -52,7 +52,7 @@ told_stays r before after seen later told told_later sure kept =
 
 -- and the same place breaks a rule
 pub breaks_stay : (r : FrameReader) (before after : Option Files) (seen later : Files) → before ≡ Some seen → after ≡ Some later → IsSure r (seen FRAMES) →
-    SamePlace r.place (frame_len r.settings r.level) (seen FRAMES) (later FRAMES) → (at : ℕ) → Breaks before r at ↔ Breaks after r at
+    SamePlace r.place (frame_len r.settings r.version r.level) (seen FRAMES) (later FRAMES) → (at : ℕ) → Breaks before r at ↔ Breaks after r at
 breaks_stay r before after seen later told told_later sure kept at =
     let left = left_stays r (seen FRAMES) (later FRAMES) sure kept in (
       λ breaks. breaks_in r after later told_later at (left ∙ breaks seen told),
@@ -61,22 +61,22 @@ breaks_stay r before after seen later told told_later sure kept at =
 
 -- ---- a frame
 
-module _ (s : Numbers) (level frame : ℕ) (old new : List ℕ) (kept : SamePlace (frame_place s level frame) (frame_len s level) old new) where
-  frame_found_stays : (frame_place s level frame + frame_len s level ≤ length old) ⊎ ((frame_found s level frame old).left ≡ None) →
-      frame_found s level frame new ≡ frame_found s level frame old
+module _ (s : Numbers) (version level frame : ℕ) (old new : List ℕ) (kept : SamePlace (frame_place s version level frame) (frame_len s version level) old new) where
+  frame_found_stays : (frame_place s version level frame + frame_len s version level ≤ length old) ⊎ ((frame_found s version level frame old).left ≡ None) →
+      frame_found s version level frame new ≡ frame_found s version level frame old
   frame_found_stays =
-      let place = frame_place s level frame in
-      let fits : place + blocks_bytes (block_count s level) (most_slots s level) ≤ place + frame_len s level = omega arith in
-      blocks_kept place (frame_len s level) old new kept [] place place (omega arith) (omega arith) (block_count s level) (width s level) 0 (most_slots s level) fits
+      let place = frame_place s version level frame in
+      let fits : place + blocks_bytes (block_count s level) (most_slots s version level) ≤ place + frame_len s version level = omega arith in
+      blocks_kept place (frame_len s version level) old new kept [] place place (omega arith) (omega arith) (block_count s level) (width s level) 0 (most_slots s version level) fits
 
 -- what a file says at its place
-pub frame_stays : (s : Numbers) (level frame wide : ℕ) (old new : List ℕ) →
-    (frame_place s level frame + frame_len s level ≤ length old) ⊎ (frame_left s level frame wide old ≡ None) →
-    SamePlace (frame_place s level frame) (frame_len s level) old new → frame_left s level frame wide new ≡ frame_left s level frame wide old
-frame_stays s level frame wide old new sure kept =
-    let found = frame_found s level frame old in
-    ap (judged wide (frame_place s level frame)) (frame_found_stays s level frame old new kept
-    (⊎_elim (λ long. inl long) (λ whole. inr (summed_parts wide (frame_place s level frame) found.pieces found.left whole).0) sure))
+pub frame_stays : (s : Numbers) (version level frame wide : ℕ) (old new : List ℕ) →
+    (frame_place s version level frame + frame_len s version level ≤ length old) ⊎ (frame_left s version level frame wide old ≡ None) →
+    SamePlace (frame_place s version level frame) (frame_len s version level) old new → frame_left s version level frame wide new ≡ frame_left s version level frame wide old
+frame_stays s version level frame wide old new sure kept =
+    let found = frame_found s version level frame old in
+    ap (judged version wide wide (frame_place s version level frame)) (frame_found_stays s version level frame old new kept
+    (⊎_elim (λ long. inl long) (λ whole. inr (summed_parts version wide wide (frame_place s version level frame) found.pieces found.left whole).0) sure))
 
 -- ---- a writer
 
@@ -90,9 +90,9 @@ module _ (place len : ℕ) (old new : List ℕ) (kept : SamePlace place len old 
   }
 
 -- what was put stands in the file and in the buffers
-pub writing_stays : (w : FrameWriter) (old new : List ℕ) → SamePlace w.place (frame_len w.settings w.level) old new → IsWriting w old → IsWriting w new
+pub writing_stays : (w : FrameWriter) (old new : List ℕ) → SamePlace w.place (frame_len w.settings w.version w.level) old new → IsWriting w old → IsWriting w new
 writing_stays w old new kept is =
-    let len = frame_len w.settings w.level in
+    let len = frame_len w.settings w.version w.level in
     let stands = is.at.stands in
     record {
       ahead = is.ahead;

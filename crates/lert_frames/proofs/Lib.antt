@@ -14,6 +14,7 @@ pub mod FrameLaws
 pub mod FrontLaws
 pub mod GiveLaws
 pub mod GrowingLaws
+pub mod JudgedLaws
 pub mod KeptPlaceLaws
 pub mod NearLaws
 pub mod NumberLaws
@@ -26,6 +27,7 @@ pub mod ProceedLaws
 pub mod PutLaws
 pub mod ReadingLaws
 pub mod RestLaws
+pub mod RoomLaws
 pub mod RunEndLaws
 pub mod SamePlaceLaws
 pub mod SlotLaws

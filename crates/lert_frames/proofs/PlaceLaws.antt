@@ -1,22 +1,22 @@
 -- Places of frames don't overlap, and end early.
-use Rattle.std.proofs.Common.{◌≡◌, ◌≢◌, ℕ, zero, suc, ◌+◌, ◌-◌, ◌*◌, ◌/◌, ◌%◌, ◌^◌, ◌<◌, ◌≤◌, ◌⊎◌, inl, inr, ap, sym, ◌∙◌, subst, arith}
+use Rattle.std.proofs.Common.{◌≡◌, ◌≢◌, ℕ, zero, suc, ◌+◌, ◌-◌, ◌*◌, ◌/◌, ◌%◌, ◌^◌, ◌<◌, ◌≤◌, ◌==◌, ◌⊎◌, cond, true, false, inl, inr, ap, sym, ◌∙◌, subst, arith}
 use Rattle.std.{proofs.Math.Nat.{mod-eq_of_lt, mul-le-mul_left, mul-le-mul_right, one-le-pow, pow-le-pow_right}, proofs.lemmas.Bool.{cases_lt, cases_order}}
 use Rattle.std.{proofs.lemmas.Nat.{leading_top, mul-le, pow-add, pow_pos}, proofs.lemmas.Nat.Bits.ones_shr}
-use Rattle.lert_spec.{specs.declared.numbers.Numbers.Numbers, specs.Edges.{span, spans, quotient_bits, width}, specs.Limits.IsValid, proofs.EdgeLaws.span_pos}
+use Rattle.lert_spec.{specs.declared.numbers.Numbers.Numbers, specs.Edges.{span, spans, quotient_bits, width, tail_bits}, specs.Limits.IsValid}
 use Rattle.lert_spec.proofs.LimitLaws.{span_grows, quotient_bits_by_zeros}
-use Rattle.lert_frames.specs.Place.{block_count, frame_len, frame_lens, frame_place, tail_limit}
+use Rattle.lert_frames.specs.Place.{block_count, frame_len, frame_lens, frame_place, most_slots, slots_each, tail_limit}
 
 -- one level more
-pub frame_lens-more : (s : Numbers) (level : ℕ) → 1 ≤ level → frame_lens s (level - 1) + frame_len s level ≡ frame_lens s level
-frame_lens-more s zero from = absurd (omega (arith, from))
-frame_lens-more s (suc level) from = let same : suc level - 1 ≡ level = omega arith in ap (λ n. frame_lens s n + frame_len s (suc level)) same
+pub frame_lens-more : (s : Numbers) (version level : ℕ) → 1 ≤ level → frame_lens s version (level - 1) + frame_len s version level ≡ frame_lens s version level
+frame_lens-more s version zero from = absurd (omega (arith, from))
+frame_lens-more s version (suc level) from = let same : suc level - 1 ≡ level = omega arith in ap (λ n. frame_lens s version n + frame_len s version (suc level)) same
 
 -- more levels have more bytes
-pub frame_lens_grow : (s : Numbers) (low high : ℕ) → low ≤ high → frame_lens s low ≤ frame_lens s high
-frame_lens_grow s low zero below = let none : low ≡ 0 = omega (arith, below) in subst (λ n. frame_lens s n ≤ 0) (sym none) (omega arith)
-frame_lens_grow s low (suc high) below = elim (cases_order low (suc high)) [
-  | inl same ↦ subst (λ n. frame_lens s n ≤ frame_lens s (suc high)) (sym same) (omega arith)
-  | inr (inl less) ↦ omega (arith, frame_lens_grow s low high (omega (arith, less)))
+pub frame_lens_grow : (s : Numbers) (version low high : ℕ) → low ≤ high → frame_lens s version low ≤ frame_lens s version high
+frame_lens_grow s version low zero below = let none : low ≡ 0 = omega (arith, below) in subst (λ n. frame_lens s version n ≤ 0) (sym none) (omega arith)
+frame_lens_grow s version low (suc high) below = elim (cases_order low (suc high)) [
+  | inl same ↦ subst (λ n. frame_lens s version n ≤ frame_lens s version (suc high)) (sym same) (omega arith)
+  | inr (inl less) ↦ omega (arith, frame_lens_grow s version low high (omega (arith, less)))
   | inr (inr more) ↦ absurd (omega (arith, more, below))
 ]
 
@@ -25,22 +25,33 @@ span_of_spans : (s : Numbers) (level : ℕ) → span s level ≤ spans s level
 span_of_spans s zero = omega arith
 span_of_spans s (suc level) = omega arith
 
+-- a frame has no more than four slots for each item of a bin
+pub slots_each_few : (version : ℕ) → slots_each version ≤ 4
+slots_each_few version = elim (version == 1) as (λ b. cond b 2 4 ≤ 4) [
+  | true ↦ omega arith
+  | false ↦ omega arith
+]
+
 module _ (s : Numbers) (valid : IsValid s) where
+  spans_from : (level : ℕ) → 4 ≤ span s level
+  spans_from level = mul-le 4 1 s.base (s.ratio ^ level) valid.limits.base_from (one-le-pow level s.ratio (omega (arith, valid.limits.ratio_from)))
+
   -- all spans together
-  all_spans : spans s s.levels ≤ 2 ^ 32
+  all_spans : spans s s.levels ≤ 2 ^ 31
   all_spans =
       let more = mul-le-mul_right (spans s s.levels) (let two : 1 ≤ s.bins - 1 = omega (arith, valid.limits.bins_from) in two) in
       omega (arith, more, valid.positions_fit)
 
-  spans_from : (level : ℕ) → 4 ≤ span s level
-  spans_from level = mul-le 4 1 s.base (s.ratio ^ level) valid.limits.base_from (one-le-pow level s.ratio (omega (arith, valid.limits.ratio_from)))
+  -- the last level's is less than half of them
+  span_less : (level : ℕ) → 1 ≤ level → span s level < spans s level
+  span_less zero first = absurd (omega (arith, first))
+  span_less (suc level) first = omega (arith, spans_from level, span_of_spans s level)
 
-  pub span_fits : (level : ℕ) → level ≤ s.levels → span s level < 2 ^ 32
+  pub span_fits : (level : ℕ) → level ≤ s.levels → 4 * span s level < 2 ^ 32
   span_fits level within =
       let more = mul-le-mul_right (spans s s.levels) (let two : 1 ≤ s.bins - 1 = omega (arith, valid.limits.bins_from) in two) in
-      let last = span_of_spans s s.levels in
-      let some = span_pos s s.levels (omega (arith, valid.limits.base_from)) (omega (arith, valid.limits.ratio_from)) in
-      omega (arith, span_grows s level s.levels (omega (arith, valid.limits.ratio_from)) within, valid.positions_fit, more, last, some)
+      let last = span_less s.levels valid.limits.levels_from in
+      omega (arith, span_grows s level s.levels (omega (arith, valid.limits.ratio_from)) within, valid.positions_fit, more, last)
 
   -- a level has as many quotients as a span has events, fewer than twice as many, or 64
   pub quotients_few : (level : ℕ) → level ≤ s.levels → 2 ^ quotient_bits s level ≤ 64 + 2 * span s level
@@ -56,11 +67,9 @@ module _ (s : Numbers) (valid : IsValid s) where
             let power = ap (λ n. 2 ^ n) is in omega (arith, power)
       ]
 
-  pub span_half : (level : ℕ) → level ≤ s.levels → 2 * span s level ≤ 2 ^ 32
-  span_half level within =
-      let more = mul-le-mul_right (spans s s.levels) (let two : 1 ≤ s.bins - 1 = omega (arith, valid.limits.bins_from) in two) in
-      let last = span_of_spans s s.levels in
-      omega (arith, span_grows s level s.levels (omega (arith, valid.limits.ratio_from)) within, valid.positions_fit, more, last)
+  -- all slots of a frame, and so of a block, are counted by 32 bits
+  pub slots_fit : (version level : ℕ) → level ≤ s.levels → most_slots s version level < 2 ^ 32
+  slots_fit version level within = omega (arith, span_fits level within, mul-le-mul_right (span s level) (slots_each_few version))
 
   -- the blocks of a level have its quotients, and these and the remainders are the tails
   pub blocks_are : (level : ℕ) → level ≤ s.levels → 64 * block_count s level ≡ 2 ^ quotient_bits s level
@@ -74,64 +83,67 @@ module _ (s : Numbers) (valid : IsValid s) where
   tails_are level within =
       let q = quotient_bits s level in
       let most : q ≤ 32 = omega (arith, (quotient_bits_by_zeros s level valid within)) in
-      let sum : q + width s level ≡ 64 - s.cone_bits = omega (arith, most, valid.limits.cone_bits_to) in
+      let sum : q + width s level ≡ tail_bits s = omega (arith, most, valid.limits.cone_bits_to) in
       ap (λ n. n * 2 ^ width s level) (blocks_are level within) ∙ (sym (pow-add 2 q (width s level)) ∙ ap (λ n. 2 ^ n) sum)
 
-  -- each level has at most seventeen bytes an event, and twenty more
-  frame_len_within : (level : ℕ) → level ≤ s.levels → frame_len s level ≤ 20 + 17 * span s level
-  frame_len_within level within = let few = quotients_few level within in omega (arith, few)
+  -- each level has at most thirty-four bytes an item, and twenty more
+  frame_len_within : (version level : ℕ) → level ≤ s.levels → frame_len s version level ≤ 20 + 34 * span s level
+  frame_len_within version level within =
+      omega (arith, quotients_few level within, mul-le-mul_right (span s level) (slots_each_few version))
 
-  lens_by_spans : (level : ℕ) → level ≤ s.levels → frame_lens s level ≤ 20 * level + 17 * spans s level
-  lens_by_spans zero within = omega arith
-  lens_by_spans (suc level) within = let h = lens_by_spans level (omega (arith, within)) in let one = frame_len_within (suc level) within in omega (arith, h, one)
+  lens_by_spans : (version level : ℕ) → level ≤ s.levels → frame_lens s version level ≤ 20 * level + 34 * spans s level
+  lens_by_spans version zero within = omega arith
+  lens_by_spans version (suc level) within =
+      let h = lens_by_spans version level (omega (arith, within)) in let one = frame_len_within version (suc level) within in omega (arith, h, one)
 
-  all_lens : frame_lens s s.levels ≤ 2 ^ 37
-  all_lens = omega (arith, lens_by_spans s.levels (omega arith), all_spans, valid.limits.levels_to)
+  all_lens : (version : ℕ) → frame_lens s version s.levels ≤ 2 ^ 37
+  all_lens version = omega (arith, lens_by_spans version s.levels (omega arith), all_spans, valid.limits.levels_to)
 
-  pub all_places : (s.bins + 1) * frame_lens s s.levels < 2 ^ 42
-  all_places =
-      let more = mul-le-mul_right (frame_lens s s.levels) (let few : s.bins + 1 ≤ 17 = omega (arith, valid.limits.bins_to) in few) in
-      omega (arith, more, all_lens)
+  pub all_places : (version : ℕ) → (s.bins + 1) * frame_lens s version s.levels < 2 ^ 42
+  all_places version =
+      let more = mul-le-mul_right (frame_lens s version s.levels) (let few : s.bins + 1 ≤ 17 = omega (arith, valid.limits.bins_to) in few) in
+      omega (arith, more, all_lens version)
 
   -- the bytes of some levels
-  pub places_within : (level : ℕ) → level ≤ s.levels → (s.bins + 1) * frame_lens s level < 2 ^ 42
-  places_within level within = omega (arith, mul-le-mul_left (s.bins + 1) (frame_lens_grow s level s.levels within), all_places)
+  pub places_within : (version level : ℕ) → level ≤ s.levels → (s.bins + 1) * frame_lens s version level < 2 ^ 42
+  places_within version level within = omega (arith, mul-le-mul_left (s.bins + 1) (frame_lens_grow s version level s.levels within), all_places version)
 
-  pub lens_within : (level : ℕ) → level ≤ s.levels → frame_lens s level ≤ 2 ^ 37
-  lens_within level within = omega (arith, frame_lens_grow s level s.levels within, all_lens)
+  pub lens_within : (version level : ℕ) → level ≤ s.levels → frame_lens s version level ≤ 2 ^ 37
+  lens_within version level within = omega (arith, frame_lens_grow s version level s.levels within, all_lens version)
 
 -- a place ends with those of its level
-pub place_ends : (s : Numbers) (level frame : ℕ) → 1 ≤ level → frame ≤ s.bins → frame_place s level frame + frame_len s level ≤ (s.bins + 1) * frame_lens s level
-place_ends s level frame from within =
-    let more = mul-le-mul_right (frame_len s level) (let few : frame + 1 ≤ s.bins + 1 = omega (arith, within) in few) in
-    let sum = ap (λ n. (s.bins + 1) * n) (frame_lens-more s level from) in
+pub place_ends : (s : Numbers) (version level frame : ℕ) → 1 ≤ level → frame ≤ s.bins → frame_place s version level frame + frame_len s version level ≤ (s.bins + 1) * frame_lens s version level
+place_ends s version level frame from within =
+    let more = mul-le-mul_right (frame_len s version level) (let few : frame + 1 ≤ s.bins + 1 = omega (arith, within) in few) in
+    let sum = ap (λ n. (s.bins + 1) * n) (frame_lens-more s version level from) in
     omega (arith, more, sum)
 
 -- the places of a younger level stand before those of an older one
-younger_before : (s : Numbers) (level frame older other : ℕ) → 1 ≤ level → frame ≤ s.bins → level < older →
-    frame_place s level frame + frame_len s level ≤ frame_place s older other
-younger_before s level frame older other from within below =
-    let more = mul-le-mul_left (s.bins + 1) (frame_lens_grow s level (older - 1) (omega (arith, below))) in
-    omega (arith, place_ends s level frame from within, more)
+younger_before : (s : Numbers) (version level frame older other : ℕ) → 1 ≤ level → frame ≤ s.bins → level < older →
+    frame_place s version level frame + frame_len s version level ≤ frame_place s version older other
+younger_before s version level frame older other from within below =
+    let more = mul-le-mul_left (s.bins + 1) (frame_lens_grow s version level (older - 1) (omega (arith, below))) in
+    omega (arith, place_ends s version level frame from within, more)
 
 -- and a lower frame of a level before a higher one
-lower_before : (s : Numbers) (level frame other : ℕ) → frame < other → frame_place s level frame + frame_len s level ≤ frame_place s level other
-lower_before s level frame other below =
-    let more = mul-le-mul_right (frame_len s level) (let up : frame + 1 ≤ other = omega (arith, below) in up) in
+lower_before : (s : Numbers) (version level frame other : ℕ) → frame < other → frame_place s version level frame + frame_len s version level ≤ frame_place s version level other
+lower_before s version level frame other below =
+    let more = mul-le-mul_right (frame_len s version level) (let up : frame + 1 ≤ other = omega (arith, below) in up) in
     omega (arith, more)
 
-pub places_apart : (s : Numbers) (level frame other_level other : ℕ) → 1 ≤ level → frame ≤ s.bins → 1 ≤ other_level → other ≤ s.bins →
+pub places_apart : (s : Numbers) (version level frame other_level other : ℕ) → 1 ≤ level → frame ≤ s.bins → 1 ≤ other_level → other ≤ s.bins →
     (other_level ≢ level) ⊎ (other ≢ frame) →
-    (frame_place s other_level other + frame_len s other_level ≤ frame_place s level frame)
-    ⊎ (frame_place s level frame + frame_len s level ≤ frame_place s other_level other)
-places_apart s level frame other_level other from within other_from other_within differ = elim (cases_order other_level level) [
+    (frame_place s version other_level other + frame_len s version other_level ≤ frame_place s version level frame)
+    ⊎ (frame_place s version level frame + frame_len s version level ≤ frame_place s version other_level other)
+places_apart s version level frame other_level other from within other_from other_within differ = elim (cases_order other_level level) [
   | inl same ↦ elim (cases_order other frame) [
     | inl twice ↦ absurd (neither same twice differ)
-    | inr (inl lower) ↦ inl (subst (λ (n : ℕ). frame_place s n other + frame_len s n ≤ frame_place s level frame) (sym same) (lower_before s level other frame lower))
-    | inr (inr higher) ↦ inr (subst (λ (n : ℕ). frame_place s level frame + frame_len s level ≤ frame_place s n other) (sym same) (lower_before s level frame other higher))
+    | inr (inl lower) ↦ inl (subst (λ (n : ℕ). frame_place s version n other + frame_len s version n ≤ frame_place s version level frame) (sym same) (lower_before s version level other frame lower))
+    | inr (inr higher) ↦ inr (subst (λ (n : ℕ). frame_place s version level frame + frame_len s version level ≤ frame_place s version n other) (sym same)
+        (lower_before s version level frame other higher))
   ]
-  | inr (inl younger) ↦ inl (younger_before s other_level other level frame other_from other_within younger)
-  | inr (inr older) ↦ inr (younger_before s level frame other_level other from within older)
+  | inr (inl younger) ↦ inl (younger_before s version other_level other level frame other_from other_within younger)
+  | inr (inr older) ↦ inr (younger_before s version level frame other_level other from within older)
 ]
   where
     neither : other_level ≡ level → other ≡ frame → (other_level ≢ level) ⊎ (other ≢ frame) → ⊥
@@ -139,11 +151,11 @@ places_apart s level frame other_level other from within other_from other_within
     neither same twice (inr apart) = apart twice
 
 -- a level's quotients counted by a shift, which loses none, and so its blocks
-module _ (bits : ℕ) (least : 6 ≤ bits) (most : bits ≤ 32) where
+module _ (bits : ℕ) (least : 6 ≤ bits) (most : bits ≤ 30) where
   quotients_from : 2 ^ 6 ≤ 2 ^ bits
   quotients_from = pow-le-pow_right (omega arith) least
 
-  quotients_to : 2 ^ bits ≤ 2 ^ 32
+  quotients_to : 2 ^ bits ≤ 2 ^ 30
   quotients_to = pow-le-pow_right (omega arith) most
 
   pub shift_is : 1 * 2 ^ bits % 2 ^ 64 ≡ 2 ^ bits

@@ -8,6 +8,7 @@ use Rattle.lert_spec.{specs.declared.numbers.Numbers.Numbers, specs.declared.pie
 pub same_on : (a b c : FrameWriter) → SameFrame a b → SameFrame b c → SameFrame a c
 same_on a b c one two = record {
   settings = two.settings ∙ one.settings;
+  version = two.version ∙ one.version;
   level = two.level ∙ one.level;
   frame = two.frame ∙ one.frame;
   width = two.width ∙ one.width;
@@ -17,7 +18,7 @@ same_on a b c one two = record {
 }
 
 pub same_end : (a b : FrameWriter) → SameFrame a b → end_of b ≡ end_of a
-same_end a b same = λ i. same.place i + frame_len (same.settings i) (same.level i)
+same_end a b same = λ i. same.place i + frame_len (same.settings i) (same.version i) (same.level i)
 
 pub proceeds_none : {B : Type 0} (bays : Bays B) → ((bay : B) (image : Files) → bays.left_since bay (bays.moment bay) image → bays.leaves bay image) → {a b : FrameWriter} {x : B} {Failed : Type 0} →
     SameFrame a b → (Failed → ⊥) → Proceeds bays a b x x Failed
@@ -47,19 +48,20 @@ stays_none bays a x seen told later told_later at =
 
 module _ {B : Type 0} {bays : Bays B} {a b : FrameWriter} {x y : B} {Failed : Type 0} (one : Proceeds bays a b x y Failed) where
   -- the calls wrote into the frame's place
-  pub frame_writes : Writes bays (frame_place a.settings a.level a.frame) (frame_place a.settings a.level a.frame + frame_len a.settings a.level) x y Failed
-  frame_writes = subst (λ p. Writes bays p (p + frame_len a.settings a.level) x y Failed) a.growing.place_is one.writes
+  pub frame_writes : Writes bays (frame_place a.settings a.version a.level a.frame) (frame_place a.settings a.version a.level a.frame + frame_len a.settings a.version a.level) x y Failed
+  frame_writes = subst (λ p. Writes bays p (p + frame_len a.settings a.version a.level) x y Failed) a.growing.place_is one.writes
 
   pub frame_outside : (seen : Files) →
-      KeepsOutside bays x y seen FRAMES (frame_place a.settings a.level a.frame) (frame_place a.settings a.level a.frame + frame_len a.settings a.level)
+      KeepsOutside bays x y seen FRAMES (frame_place a.settings a.version a.level a.frame) (frame_place a.settings a.version a.level a.frame + frame_len a.settings a.version a.level)
   frame_outside seen =
-      let place = frame_place a.settings a.level a.frame in
-      within_outside bays place (place + frame_len a.settings a.level) (place + frame_len a.settings a.level) x y seen (omega arith) (omega arith) frame_writes.within
+      let place = frame_place a.settings a.version a.level a.frame in
+      within_outside bays place (place + frame_len a.settings a.version a.level) (place + frame_len a.settings a.version a.level) x y seen (omega arith) (omega arith) frame_writes.within
 
 -- the frame is the same one
-pub holds_same : (a b : FrameWriter) (file : List ℕ) → SameFrame a b → HoldsFrame b.settings b.level b.frame file b.put → HoldsFrame a.settings a.level a.frame file a.put
+pub holds_same : (a b : FrameWriter) (file : List ℕ) → SameFrame a b → HoldsFrame b.settings b.version b.level b.frame file b.put → HoldsFrame a.settings a.version a.level a.frame file a.put
 holds_same a b file same holds =
-    subst (λ (ps : List Piece). HoldsFrame a.settings a.level a.frame file ps) same.put
-    (subst (λ frame. HoldsFrame a.settings a.level frame file b.put) same.frame
-    (subst (λ level. HoldsFrame a.settings level b.frame file b.put) same.level
-    (subst (λ (s : Numbers). HoldsFrame s b.level b.frame file b.put) same.settings holds)))
+    subst (λ (ps : List Piece). HoldsFrame a.settings a.version a.level a.frame file ps) same.put
+    (subst (λ frame. HoldsFrame a.settings a.version a.level frame file b.put) same.frame
+    (subst (λ level. HoldsFrame a.settings a.version level b.frame file b.put) same.level
+    (subst (λ version. HoldsFrame a.settings version b.level b.frame file b.put) same.version
+    (subst (λ (s : Numbers). HoldsFrame s b.version b.level b.frame file b.put) same.settings holds))))

@@ -1,7 +1,7 @@
 -- A file in which other places than a frame's were written.
-use Rattle.std.{proofs.Common.{◌≡◌, ℕ, ◌+◌, ◌-◌, ◌≤◌, ◌⊎◌, min, List, length, take, drop, Some, refl, sym, ap, ◌∙◌, inl, inr, arith, length-drop, length-take}, proofs.lemmas.Bool.cases_lt}
+use Rattle.std.{proofs.Common.{◌≡◌, ℕ, ◌+◌, ◌-◌, ◌≤◌, min, List, length, take, drop, sym, ap, ◌∙◌, inl, inr, arith, length-drop, length-take}, proofs.lemmas.Bool.cases_lt}
 use Rattle.std.proofs.lemmas.List.{drop-drop}
-use Rattle.lert_bay.{specs.Files.{Files, Torn}, specs.Kept.Bays, specs.Settled.part, specs.declared.bay.TheConstants.FRAMES, proofs.Settling.{part_none, part_torn}}
+use Rattle.lert_bay.{specs.Settled.part, proofs.Settling.{part_none}}
 use Rattle.lert_frames.{specs.Apart.SamePlace, proofs.PartLaws.part_less}
 
 -- ---- what stands in the place

@@ -81,14 +81,14 @@ module _ (place end : ℕ) (old new : Decoder) (is : IsBetween place end old) wh
 
 -- ---- in a frame's place
 
-module _ (s : Numbers) (level place : ℕ) where
-  pub stands_as : (d : Decoder) → IsBetween place (place + frame_len s level) d → StandsIn s level place d
+module _ (s : Numbers) (version level place : ℕ) where
+  pub stands_as : (d : Decoder) → IsBetween place (place + frame_len s version level) d → StandsIn s version level place d
   unfolding StandsIn
   stands_as d is = is
 
-  pub between_of : (d : Decoder) → StandsIn s level place d → IsBetween place (place + frame_len s level) d
+  pub between_of : (d : Decoder) → StandsIn s version level place d → IsBetween place (place + frame_len s version level) d
   unfolding StandsIn
   between_of d is = is
 
-  pub stands_on : (old new : Decoder) → ((from end : ℕ) → IsBetween from end old → IsBetween from end new) → StandsIn s level place old → StandsIn s level place new
-  stands_on old new on is = stands_as new (on place (place + frame_len s level) (between_of old is))
+  pub stands_on : (old new : Decoder) → ((from end : ℕ) → IsBetween from end old → IsBetween from end new) → StandsIn s version level place old → StandsIn s version level place new
+  stands_on old new on is = stands_as new (on place (place + frame_len s version level) (between_of old is))

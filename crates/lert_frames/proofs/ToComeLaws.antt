@@ -3,17 +3,18 @@ use Rattle.std.{proofs.Common.{◌≡◌, ℕ, ◌+◌, ◌≤◌, List, [], ◌
 use Rattle.std.proofs.lemmas.List.{append-nil}
 use Rattle.lert_bay.{specs.declared.bay.TheConstants.FRAMES, specs.Files.Files}
 use Rattle.lert_blocks.{specs.Frame.blocks_len, specs.Walk.{Found, nothing}}
-use Rattle.lert_spec.{specs.declared.piece.Piece.Piece, specs.Table.total}
-use Rattle.lert_frames.{specs.Decoded.{decoder_found, decoder_end}, specs.Place.block_count, specs.Reading.{SumsUp, verdict}}
+use Rattle.lert_spec.{specs.declared.piece.Piece.Piece, specs.Table.{costs, total}}
+use Rattle.lert_frames.{specs.Decoded.{decoder_found, decoder_end}, specs.Place.block_count, specs.Reading.{IsReached, SumsUp, verdict}}
 use Rattle.lert_frames.{specs.ToCome.{known_or, left_of, pieces_of, ready_of, if_whole, told_of, Breaks, IsSameFrame, IsSameToCome, HandsOut, IsOver, IsWithin}, specs.Window.{IsRead, place_of}}
 use Rattle.lert_frames.{specs.declared.decoder.Decoder.Decoder, specs.declared.reader.FrameReader.FrameReader, specs.declared.reader.Sum.Sum, specs.declared.reader.Sum.TheVariants.{Left, Over}}
-use Rattle.lert_frames.proofs.ReadingLaws.{total-append}
+use Rattle.lert_frames.proofs.JudgedLaws.{costs-append, total-append}
 
 -- ---- steps in turn
 
 pub same_frame_on : (before between after : FrameReader) → IsSameFrame before between → IsSameFrame between after → IsSameFrame before after
 same_frame_on before between after one two = record {
   settings = two.settings ∙ one.settings;
+  version = two.version ∙ one.version;
   level = two.level ∙ one.level;
   place = two.place ∙ one.place;
   wide = two.wide ∙ one.wide;
@@ -71,7 +72,7 @@ whole_none (Some at) all pieces is = refl
 -- what is to come behind it
 module _ (before after : FrameReader) (piece : Option Piece) (hands : HandsOut before after piece) where
   pub handed_left : (file : List ℕ) → left_of after file ≡ left_of before file
-  handed_left file = λ i. known_or (hands.fault i) (verdict (hands.sum i) (hands.place i) (decoder_found (hands.decoder i) file))
+  handed_left file = λ i. known_or (hands.fault i) (verdict (hands.version i) (hands.sum i) (hands.place i) (decoder_found (hands.decoder i) file))
 
   pub handed_broken : (told : Option Files) (at : ℕ) → Breaks told after at ↔ Breaks told before at
   handed_broken told at = (λ breaks seen is. sym (handed_left (seen FRAMES)) ∙ breaks seen is, λ breaks seen is. handed_left (seen FRAMES) ∙ breaks seen is)
@@ -120,7 +121,7 @@ handed_over before after hands over =
     let is = over hands.given.0 in
     record {
       fault = hands.fault ∙ is.fault;
-      sum = hands.sum ∙ is.sum;
+      sum = subst IsReached (sym hands.sum) is.sum;
       found = λ file. ap (λ decoder. decoder_found decoder file) hands.decoder ∙ is.found file;
       end = λ file. subst (λ (d : Decoder). decoder_end d file ≤ d.window.at) (sym hands.decoder) (is.end file);
     }
@@ -145,15 +146,19 @@ told_next told before after (Some p) ps hands over is = told_first told before a
 
 -- ---- the counts of what was given
 
-sums_within : (wide decoded : ℕ) (sum : Sum) → SumsUp wide decoded sum → decoded ≤ wide
-sums_within wide decoded (Left n) is = omega (arith, is)
-sums_within wide decoded Over is = is
+sums_within : (version wide : ℕ) (decoded : List Piece) (sum : Sum) → SumsUp version wide decoded sum → costs version decoded ≤ wide
+sums_within version wide decoded (Left most due) is = omega (arith, is.0)
+sums_within version wide decoded Over is = is
 
-pub given_within : (r : FrameReader) → total r.gave ≤ r.wide
-given_within r = omega (arith, total-append r.gave (ready_of r), sums_within r.wide (total (r.gave ++ ready_of r)) r.sum r.reading.sums)
+pub given_within : (r : FrameReader) → costs r.version r.gave ≤ r.wide
+given_within r =
+    omega (arith, costs-append r.version r.gave (ready_of r), sums_within r.version r.wide (r.gave ++ ready_of r) r.sum r.reading.sums)
 
--- at the frame's end they add up to the bin's width
-pub given_all : (before after : FrameReader) → HandsOut before after None → IsOver after → total after.gave ≡ after.wide
+sums_reached : (version wide : ℕ) (decoded : List Piece) (sum : Sum) → SumsUp version wide decoded sum → IsReached sum → wide ≤ total decoded
+sums_reached version wide decoded (Left most due) is none = omega (arith, is.1, none)
+sums_reached version wide decoded Over is none = absurd none
+
+-- at the frame's end they reach the bin's width
+pub given_all : (before after : FrameReader) → HandsOut before after None → IsOver after → after.wide ≤ total after.gave
 given_all before after hands over =
-    let sums : SumsUp after.wide (total (after.gave ++ ready_of after)) (Left 0) = subst (SumsUp after.wide (total (after.gave ++ ready_of after))) over.sum after.reading.sums in
-    omega (arith, sums, total-append after.gave (ready_of after), ap total hands.given.1)
+    omega (arith, sums_reached after.version after.wide (after.gave ++ ready_of after) after.sum after.reading.sums over.sum, total-append after.gave (ready_of after), ap total hands.given.1)

@@ -1,5 +1,5 @@
 -- Writes into a range of the file of frames, one after another, are writes into it.
-use Rattle.std.{proofs.Common.{◌≡◌, ◌≢◌, ℕ, ◌+◌, ◌-◌, ◌≤◌, List, length, Option, Some, refl, sym, ◌∙◌, ◌⊎◌, subst, inl, inr, arith}, proofs.lemmas.Bool.cases_lt, proofs.lemmas.List.take_all}
+use Rattle.std.{proofs.Common.{◌≡◌, ℕ, ◌+◌, ◌-◌, ◌≤◌, List, length, Option, Some, refl, sym, ◌∙◌, ◌⊎◌, subst, inl, inr, arith}, proofs.lemmas.Bool.cases_lt, proofs.lemmas.List.take_all}
 use Rattle.lert_bay.{specs.Files.{Files, Turns, Changes, Holds, IsOutside, Torn, LeftByFailure}, specs.Images.ComesByWrite, specs.Kept.{Bays, KeepsBay, OnlyReads}, specs.Settled.part}
 use Rattle.lert_bay.{specs.declared.bay.TheConstants.FRAMES, proofs.Settling.part_torn, proofs.Tearing.{comes_same, left_same, left_by_part}}
 use Rattle.lert_frames.{specs.Kept.{Wrote, WritesWithin, KeepsOutside}, proofs.WriteLaws.{changes_on, changes_weaker, turns_on, turns_weaker, kept_outside}}

@@ -1,9 +1,9 @@
 -- Several writes one behind the other are one write of all their bytes.
 use Rattle.std.proofs.Common.{◌≡◌, ◌≢◌, ℕ, ◌+◌, ◌-◌, ◌<◌, ◌≤◌, List, ◌++◌, length, take, drop, get_or, Option, Some, None, Result, replicate, refl, sym, ap, ◌∙◌, ◌⊎◌, subst, inl, inr, arith}
-use Rattle.std.{proofs.Common.length-append, specs.Prelude.{OnOk, OnErr, Ok, Err, IsErrOf}, proofs.lemmas.Option.none-some, proofs.lemmas.Bool.{cases_lt, cases_eq}}
+use Rattle.std.{proofs.Common.length-append, specs.Prelude.{OnOk, OnErr, Ok, Err, IsErrOf}, proofs.lemmas.Option.none-some, proofs.lemmas.Bool.{cases_eq}}
 use Rattle.std.proofs.lemmas.List.{get_or_append_left, get_or-append_right, ext_get_or, length-take-le}
-use Rattle.lert_bay.{specs.Files.{Files, Turns, Changes, Holds, padded, IsOutside, Torn, LeftByFailure}, specs.Images.{ComesByWrite, Follow, Elapses}, specs.Kept.{Bays, KeepsBay}}
-use Rattle.lert_bay.{specs.Settled.part, proofs.Laid.{length_held, elsewhere_held}, proofs.KeptLaws.IsLawful, proofs.Settling.{part_torn, part_at, length_part}}
+use Rattle.lert_bay.{specs.Files.{Files, Turns, Changes, Holds, padded, Torn}, specs.Images.{Follow, Elapses}, specs.Kept.{Bays}}
+use Rattle.lert_bay.{specs.Settled.part, proofs.Laid.{length_held}, proofs.KeptLaws.IsLawful, proofs.Settling.{part_torn, part_at, length_part}}
 use Rattle.lert_bay.proofs.Tearing.{comes_same}
 use Rattle.lert_frames.specs.Kept.{Wrote, KeepsOutside}
 use lib.ListN.{length-replicate}

@@ -11,7 +11,7 @@ use Rattle.lert_frames.{specs.declared.long.Long.Long, specs.declared.outlet.Out
 use Rattle.lert_frames.{specs.Place.{block_count, frame_place, tail_limit}, specs.Spilt.{IsSpilt, IsBehind}, proofs.GrowingLaws.{not_long, same_long}, proofs.OutletLaws.out_whole}
 use Rattle.lert_frames.proofs.PlaceLaws.{tails_are}
 use Rattle.lert_spec.{specs.declared.numbers.Numbers.Numbers, specs.declared.piece.Piece.Piece, specs.Edges.width, specs.Limits.IsValid, proofs.LimitLaws.quotient_bits_by_zeros}
-use Rattle.lert_spec.specs.Table.{AscendsFrom, AreGiven, total}
+use Rattle.lert_spec.specs.Table.{AscendsFrom, AreGiven, cost, costs, total}
 use Rattle.lert_counter.specs.Group.{IsCount}
 
 -- ---- one piece more
@@ -151,12 +151,12 @@ behind_take long place text width number limit pieces p file ends outlet old new
 
 -- ---- the whole frame
 
-pub holds_frame : (s : Numbers) (level frame wide place number : ℕ) (put : List Piece) (file : List ℕ) → wide ≡ width s level → place ≡ frame_place s level frame →
+pub holds_frame : (s : Numbers) (version level frame wide place number : ℕ) (put : List Piece) (file : List ℕ) → wide ≡ width s level → place ≡ frame_place s version level frame →
     number + 1 ≡ block_count s level →
     part file place (place + length (blocks_text wide 0 number put ++ block_text wide number (pieces_in wide number put))) ≡ blocks_text wide 0 number put ++ block_text wide number
     (pieces_in wide number put) →
-    HoldsFrame s level frame file put
-holds_frame s level frame wide place number put file width_is place_is count is =
+    HoldsFrame s version level frame file put
+holds_frame s version level frame wide place number put file width_is place_is count is =
     let whole : blocks_text wide 0 number put ++ block_text wide number (pieces_in wide number put) ≡ frame_text s level put =
     sym (blocks_text-next wide number put) ∙ (ap (λ n. blocks_text wide 0 n put) count ∙ ap (λ w. blocks_text w 0 (block_count s level) put) width_is) in
     subst (λ at. part file at (at + length (frame_text s level put)) ≡ frame_text s level put) place_is
@@ -192,6 +192,10 @@ last_count limit ps p given = (
 pub total_push : (ps : List Piece) (p : Piece) → total (ps ++ p ∷ []) ≡ total ps + p.count
 total_push [] p = omega arith
 total_push (q ∷ qs) p = omega (arith, total_push qs p)
+
+pub costs_push : (version : ℕ) (ps : List Piece) (p : Piece) → costs version (ps ++ p ∷ []) ≡ costs version ps + cost version p.count
+costs_push version [] p = omega arith
+costs_push version (q ∷ qs) p = omega (arith, costs_push version qs p)
 
 pub width_from : (s : Numbers) (level wide : ℕ) → IsValid s → level ≤ s.levels → wide ≡ width s level → (8 ≤ wide) × (wide ≤ 58)
 width_from s level wide valid within is =

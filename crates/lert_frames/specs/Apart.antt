@@ -12,4 +12,4 @@ pub record SamePlace (place len : ℕ) (old new : List ℕ) : Type 0 where
 
 -- the file has all of the frame's place, or the frame leaves its text nowhere from where the reader stands
 abbrev pub IsSure : FrameReader → List ℕ → Type 0
-IsSure r file = (r.place + frame_len r.settings r.level ≤ length file) ⊎ (left_of r file ≡ None)
+IsSure r file = (r.place + frame_len r.settings r.version r.level ≤ length file) ⊎ (left_of r file ≡ None)

@@ -6,10 +6,9 @@ use Rattle.lert_blocks.specs.Frame.{blocks_len}
 use Rattle.lert_blocks.specs.Walk.{nothing}
 use Rattle.lert_frames.specs.Decoded.{decoder_found, decoder_end}
 use Rattle.lert_frames.specs.Place.{block_count}
-use Rattle.lert_frames.specs.Reading.{verdict}
+use Rattle.lert_frames.specs.Reading.{verdict, IsReached}
 use Rattle.lert_frames.specs.Window.{IsRead, place_of}
 use Rattle.lert_frames.specs.declared.reader.FrameReader.{FrameReader}
-use Rattle.lert_frames.specs.declared.reader.Sum.TheVariants.{Left}
 use Rattle.lert_spec.specs.declared.piece.Piece.{Piece}
 
 -- where the frame leaves its text, from where the reader stands
@@ -18,7 +17,7 @@ known_or (Some at) later = Some at
 known_or None later = later
 
 abbrev pub left_of : FrameReader → List ℕ → Option ℕ
-left_of r file = known_or r.fault (verdict r.sum r.place (decoder_found r.decoder file))
+left_of r file = known_or r.fault (verdict r.version r.sum r.place (decoder_found r.decoder file))
 
 -- the pieces that are decoded and weren't given
 abbrev pub ready_of : FrameReader → List Piece
@@ -46,6 +45,7 @@ Breaks told r at = (seen : Files) → told ≡ Some seen → left_of r (seen FRA
 -- the frame is the same, and nothing was given
 pub record IsSameFrame (before after : FrameReader) : Type 0 where
   pub settings : after.settings ≡ before.settings
+  pub version : after.version ≡ before.version
   pub level : after.level ≡ before.level
   pub place : after.place ≡ before.place
   pub wide : after.wide ≡ before.wide
@@ -59,6 +59,7 @@ pub record IsSameToCome (before after : FrameReader) (file : List ℕ) : Type 0 
 -- the first piece that was ready is given, if one was
 pub record HandsOut (before after : FrameReader) (piece : Option Piece) : Type 0 where
   pub settings : after.settings ≡ before.settings
+  pub version : after.version ≡ before.version
   pub level : after.level ≡ before.level
   pub place : after.place ≡ before.place
   pub wide : after.wide ≡ before.wide
@@ -72,7 +73,7 @@ pub record HandsOut (before after : FrameReader) (piece : Option Piece) : Type 0
 -- the frame is at its end, whatever the file says there
 pub record IsOver (r : FrameReader) : Type 0 where
   pub fault : r.fault ≡ None
-  pub sum : r.sum ≡ Left 0
+  pub sum : IsReached r.sum
   pub found : (file : List ℕ) → decoder_found r.decoder file ≡ nothing
   pub end : (file : List ℕ) → decoder_end r.decoder file ≤ r.decoder.window.at
 

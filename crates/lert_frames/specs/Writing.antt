@@ -18,7 +18,7 @@ text_before w = blocks_text w.width 0 w.number w.put
 
 -- the place behind that of the frame
 abbrev pub end_of : FrameWriter → ℕ
-end_of w = w.place + frame_len w.settings w.level
+end_of w = w.place + frame_len w.settings w.version w.level
 
 -- what was put stands in the file and in the buffers: the blocks before the present one, and of that one the pieces so far
 pub record IsAt (w : FrameWriter) (file : List ℕ) : Type 0 where
@@ -33,6 +33,7 @@ pub record IsWriting (w : FrameWriter) (file : List ℕ) : Type 0 where
 -- the same frame is written
 pub record SameFrame (old new : FrameWriter) : Type 0 where
   pub settings : new.settings ≡ old.settings
+  pub version : new.version ≡ old.version
   pub level : new.level ≡ old.level
   pub frame : new.frame ≡ old.frame
   pub width : new.width ≡ old.width
@@ -51,4 +52,4 @@ Stays bays old new before after = IfTold (bays.files before) (λ seen. IfTold (b
 -- all that was put stands in the file
 abbrev pub EndsFrame : {B : Type 0} → Bays B → FrameWriter → B → B → Type 0
 EndsFrame bays old before after =
-    IfTold (bays.files before) (λ seen. IfTold (bays.files after) (λ later. IsAt old (seen FRAMES) → HoldsFrame old.settings old.level old.frame (later FRAMES) old.put))
+    IfTold (bays.files before) (λ seen. IfTold (bays.files after) (λ later. IsAt old (seen FRAMES) → HoldsFrame old.settings old.version old.level old.frame (later FRAMES) old.put))

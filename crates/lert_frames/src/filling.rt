@@ -5,10 +5,11 @@ ghost use Rattle.lert_bay.specs.declared.bay.TheConstants.{FRAMES};
 ghost use Rattle.lert_bay.specs.Files.{IfTold};
 ghost use Rattle.lert_bay.specs.Kept.{OnlyReads};
 ghost use Rattle.lert_frames.specs.Decoded.{work_of};
-ghost use Rattle.lert_frames.specs.Reading.{sum_less, pieces_kept};
+ghost use Rattle.lert_frames.specs.Reading.{sum_less, pieces_kept, IsReached};
 ghost use Rattle.lert_frames.specs.ToCome.{left_of, ready_of, IsOver, IsSameFrame, IsSameToCome, IsWithin};
-ghost use Rattle.lert_spec.specs.Table.{total};
+ghost use Rattle.lert_spec.specs.Table.{costs, total};
 
+use crate::place::cost;
 use crate::reader::{FrameReader, Sum};
 use lert_base::{Piece, PieceFault};
 use lert_bay::Bay;
@@ -80,7 +81,7 @@ impl FrameReader {
         let before = self.pieces.len();
         match self.decoder.step(bay, &mut self.pieces) {
             Ok(()) => {
-                self.sum = settle(self.sum, &mut self.pieces, before);
+                self.sum = settle(self.version, self.sum, &mut self.pieces, before);
                 Ok(())
             }
             Err(fault) => {
@@ -105,7 +106,7 @@ impl FrameReader {
         if !self.decoder.is_done() {
             return Ok(());
         }
-        if self.sum == Sum::Left(0) {
+        if is_reached(self.sum) {
             return Ok(());
         }
         self.fault = Some(self.place);
@@ -124,16 +125,27 @@ fn place_in(fault: PieceFault) -> Option<u64>
     }
 }
 
-// What is left of a sum behind the pieces from a place on. Where they are more than that, they aren't kept.
-fn settle(sum: Sum, pieces: &mut Vec<Piece>, from: usize) -> Sum
+// Whether nothing is due any more.
+fn is_reached(sum: Sum) -> bool
+    ensures yes { IsTrue result → IsReached sum }
+    ensures no { IsFalse result → ¬ IsReached sum }
+{
+    match sum {
+        Sum::Left { due, .. } => due == 0,
+        Sum::Over => false,
+    }
+}
+
+// What is left of a sum behind the pieces from a place on. Where they cost more than that, they aren't kept.
+fn settle(version: u8, sum: Sum, pieces: &mut Vec<Piece>, from: usize) -> Sum
     requires from { from ≤ length pieces.old.items }
     requires few { length pieces.old.items ≤ from + 64 }
     requires counts { All (λ piece. piece.count ≤ 2 ^ 47) (drop from pieces.old.items) }
-    ensures sum { result ≡ sum_less sum (drop from pieces.old.items) }
+    ensures sum { result ≡ sum_less version sum (drop from pieces.old.items) }
     ensures kept { pieces.new.items ≡ pieces_kept result (take from pieces.old.items) (drop from pieces.old.items) }
     ensures capacity { vec_capacity pieces.new ≡ vec_capacity pieces.old }
 {
-    let left = less(sum, &pieces[from..]);
+    let left = less(version, sum, &pieces[from..]);
     if let Sum::Over = left {
         pieces.truncate(from);
     }
@@ -141,30 +153,43 @@ fn settle(sum: Sum, pieces: &mut Vec<Piece>, from: usize) -> Sum
 }
 
 // What is left of a sum behind pieces.
-fn less(sum: Sum, pieces: &[Piece]) -> Sum
+fn less(version: u8, sum: Sum, pieces: &[Piece]) -> Sum
     requires few { length pieces.now ≤ 64 }
     requires counts { All (λ piece. piece.count ≤ 2 ^ 47) pieces.now }
-    ensures { result ≡ sum_less sum pieces.now }
+    ensures { result ≡ sum_less version sum pieces.now }
 {
-    let Sum::Left(left) = sum else {
+    let Sum::Left { most, due } = sum else {
         return Sum::Over;
     };
-    let more = count(pieces);
-    if left < more {
+    let more = add_up(version, pieces);
+    if most < more.costs {
         return Sum::Over;
     }
-    Sum::Left(left - more)
+    Sum::Left {
+        most: most - more.costs,
+        due: due.saturating_sub(more.counts),
+    }
 }
 
-// The sum of the counts of a step's pieces.
-fn count(pieces: &[Piece]) -> u64
+// What pieces cost together, and what their counts add up to.
+#[derive(Clone, Copy)]
+struct Sums {
+    costs: u64,
+    counts: u64,
+}
+
+// Those of a step's pieces.
+fn add_up(version: u8, pieces: &[Piece]) -> Sums
     requires few { length pieces.now ≤ 64 }
     requires counts { All (λ piece. piece.count ≤ 2 ^ 47) pieces.now }
-    ensures { result ≡ total pieces.now }
+    ensures costs { result.costs ≡ costs version pieces.now }
+    ensures counts { result.counts ≡ total pieces.now }
 {
-    let mut sum = 0;
+    let mut costs = 0;
+    let mut counts = 0;
     for piece in pieces {
-        sum += piece.count;
+        costs += cost(version, piece.count);
+        counts += piece.count;
     }
-    sum
+    Sums { costs, counts }
 }

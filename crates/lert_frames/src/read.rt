@@ -7,16 +7,16 @@ ghost use Rattle.lert_bay.specs.Kept.{OnlyReads};
 ghost use Rattle.lert_blocks.specs.Frame.{blocks_len};
 ghost use Rattle.lert_frames.specs.Decoded.{decoder_end, decoder_found, decoder_floor, decoder_limit};
 ghost use Rattle.lert_frames.specs.Frame.{HoldsFrame, IsBin, frame_found, frame_left, frame_pieces};
-ghost use Rattle.lert_frames.specs.Place.{block_count, frame_place, tail_limit};
+ghost use Rattle.lert_frames.specs.Place.{block_count, frame_place, tail_limit, IsVersion};
 ghost use Rattle.lert_frames.specs.Reading.{StandsIn};
 ghost use Rattle.lert_frames.specs.ToCome.{left_of, pieces_of, IsOver, IsWithin, HandsOut};
 ghost use Rattle.lert_frames.specs.Window.{IsRead, place_of};
 ghost use Rattle.lert_spec.specs.Edges.{span};
 ghost use Rattle.lert_spec.specs.Limits.{IsValid};
-ghost use Rattle.lert_spec.specs.Table.{total};
+ghost use Rattle.lert_spec.specs.Table.{costs, total};
 
 use crate::decoder::Decoder;
-use crate::place::{block_count, frame_place};
+use crate::place::{FIRST, block_count, frame_place, most_slots};
 use crate::reader::{FrameReader, Sum};
 use lert_base::{Piece, PieceFault, Pieces, Settings};
 use lert_bay::Bay;
@@ -36,13 +36,14 @@ impl FrameReader {
         ensures level { IfOk result (λ r. r.level ≡ level) }
     {
         let mut decoder = Decoder::new(alloc)?;
-        let place = begin(&mut decoder, settings, level, 0);
+        let place = begin(&mut decoder, settings, FIRST, level, 0);
         Ok(FrameReader {
             settings: *settings,
+            version: FIRST,
             level,
             place,
             wide: 0,
-            sum: Sum::Left(0),
+            sum: Sum::Left { most: 0, due: 0 },
             decoder,
             pieces: Vec::with_capacity(alloc, ROOM)?,
             given: 0,
@@ -51,65 +52,83 @@ impl FrameReader {
         })
     }
 
-    /// Begins a frame of the level, that of a bin of this width. It reads nothing.
-    pub fn start(&mut self, frame: u32, width: u64)
+    /// Begins a frame of the level and of this version, 1 or 2, that of a bin of this width. It reads nothing.
+    pub fn start(&mut self, version: u8, frame: u32, width: u64)
+        requires version { IsVersion version }
         requires frame { frame ≤ self.old.settings.bins }
         requires some { 1 ≤ width }
         requires width { width ≤ span self.old.settings self.old.level }
-        ensures left { (file : List ℕ) → left_of self.new file ≡ frame_left self.new.settings self.new.level frame width file }
-        ensures pieces { (file : List ℕ) → pieces_of self.new file ≡ frame_pieces self.new.settings self.new.level frame file }
+        ensures left { (file : List ℕ) → left_of self.new file ≡ frame_left self.new.settings version self.new.level frame width file }
+        ensures pieces { (file : List ℕ) → pieces_of self.new file ≡ frame_pieces self.new.settings version self.new.level frame file }
         ensures within { (file : List ℕ) → IsWithin self.new file }
-        ensures place { self.new.place ≡ frame_place self.new.settings self.new.level frame }
+        ensures place { self.new.place ≡ frame_place self.new.settings version self.new.level frame }
         ensures gave { self.new.gave ≡ [] }
         ensures wide { self.new.wide ≡ width }
         ensures settings { self.new.settings ≡ self.old.settings }
+        ensures version { self.new.version ≡ version }
         ensures level { self.new.level ≡ self.old.level }
     {
-        self.start_at(self.level, frame, width);
+        self.start_at(version, self.level, frame, width);
     }
 
-    /// Begins a frame of any level, that of a bin of this width: a reader of that level from then on. It reads nothing.
-    pub fn start_at(&mut self, level: u32, frame: u32, width: u64)
+    /// Begins a frame of any level and of this version, 1 or 2, that of a bin of this width: a reader of that level from
+    /// then on. It reads nothing.
+    pub fn start_at(&mut self, version: u8, level: u32, frame: u32, width: u64)
+        requires version { IsVersion version }
         requires first { 1 ≤ level }
         requires last { level ≤ self.old.settings.levels }
         requires frame { frame ≤ self.old.settings.bins }
         requires some { 1 ≤ width }
         requires width { width ≤ span self.old.settings level }
-        ensures left { (file : List ℕ) → left_of self.new file ≡ frame_left self.new.settings self.new.level frame width file }
-        ensures pieces { (file : List ℕ) → pieces_of self.new file ≡ frame_pieces self.new.settings self.new.level frame file }
+        ensures left { (file : List ℕ) → left_of self.new file ≡ frame_left self.new.settings version self.new.level frame width file }
+        ensures pieces { (file : List ℕ) → pieces_of self.new file ≡ frame_pieces self.new.settings version self.new.level frame file }
         ensures within { (file : List ℕ) → IsWithin self.new file }
-        ensures place { self.new.place ≡ frame_place self.new.settings self.new.level frame }
+        ensures place { self.new.place ≡ frame_place self.new.settings version self.new.level frame }
         ensures gave { self.new.gave ≡ [] }
         ensures wide { self.new.wide ≡ width }
         ensures settings { self.new.settings ≡ self.old.settings }
+        ensures version { self.new.version ≡ version }
         ensures level { self.new.level ≡ level }
     {
+        self.version = version;
         self.level = level;
-        self.place = begin(&mut self.decoder, &self.settings, level, frame);
+        self.place = begin(&mut self.decoder, &self.settings, version, level, frame);
         self.wide = width;
-        self.sum = Sum::Left(width);
+        self.sum = Sum::Left {
+            most: width,
+            due: width,
+        };
         self.pieces.clear();
         self.given = 0;
         self.fault = None;
         self.gave = Seen::new();
     }
 
-    /// Reads a frame of the level, that of a bin of this width, to its end, and lets its pieces go.
-    pub fn check<B: Bay>(&mut self, bay: &mut B, frame: u32, width: u64) -> Result<(), PieceFault>
+    /// Reads a frame of the level and of this version, 1 or 2, that of a bin of this width, to its end, and lets its pieces
+    /// go.
+    pub fn check<B: Bay>(
+        &mut self,
+        bay: &mut B,
+        version: u8,
+        frame: u32,
+        width: u64,
+    ) -> Result<(), PieceFault>
+        requires version { IsVersion version }
         requires frame { frame ≤ self.old.settings.bins }
         requires some { 1 ≤ width }
         requires width { width ≤ span self.old.settings self.old.level }
-        ensures whole { IfTold (B.files bay.old) (λ seen. OnOk result (frame_left self.old.settings self.old.level frame width (seen FRAMES) ≡ None)) }
-        ensures bin { IfTold (B.files bay.old) (λ seen. OnOk result (IsBin (tail_limit self.old.settings) width (frame_pieces self.old.settings self.old.level frame (seen FRAMES)))) }
-        ensures stands { IfTold (B.files bay.old) (λ seen. OnOk result (HoldsFrame self.old.settings self.old.level frame (seen FRAMES)
-            (frame_pieces self.old.settings self.old.level frame (seen FRAMES)))) }
+        ensures whole { IfTold (B.files bay.old) (λ seen. OnOk result (frame_left self.old.settings version self.old.level frame width (seen FRAMES) ≡ None)) }
+        ensures bin { IfTold (B.files bay.old) (λ seen. OnOk result (IsBin version (tail_limit self.old.settings) width (frame_pieces self.old.settings version self.old.level frame (seen FRAMES)))) }
+        ensures stands { IfTold (B.files bay.old) (λ seen. OnOk result (HoldsFrame self.old.settings version self.old.level frame (seen FRAMES)
+            (frame_pieces self.old.settings version self.old.level frame (seen FRAMES)))) }
         ensures malformed { IfTold (B.files bay.old) (λ seen. (at : ℕ) → IsErrOf result (PieceFault.Malformed at) →
-            frame_left self.old.settings self.old.level frame width (seen FRAMES) ≡ Some at) }
+            frame_left self.old.settings version self.old.level frame width (seen FRAMES) ≡ Some at) }
         ensures settings { self.new.settings ≡ self.old.settings }
+        ensures version { self.new.version ≡ version }
         ensures level { self.new.level ≡ self.old.level }
         ensures only_reads { OnlyReads B.Bay bay.old bay.new (IsErrOf result PieceFault.Failed) }
     {
-        self.start(frame, width);
+        self.start(version, frame, width);
         while let Some(_piece) = self.next(bay)? {}
         Ok(())
     }
@@ -129,8 +148,8 @@ impl FrameReader {
     }
 }
 
-// What is to come is what the file says from where the reader stands; its counts add up to the bin's width, whether the
-// bay tells its files or not.
+// What is to come is what the file says from where the reader stands; its counts cost no more than the bin's width and
+// reach it, whether the bay tells its files or not.
 impl<B: Bay> Pieces<B> for FrameReader {
     ghost use Rattle.std.specs.Prelude.{Err, option_to_list};
     ghost use Rattle.std.proofs.Common.{ap, ◌∙◌};
@@ -190,11 +209,13 @@ impl<B: Bay> Pieces<B> for FrameReader {
         ensures mark { B.mark ctx.new ≡ B.mark ctx.old }
         ensures keeps { OnlyReads B.Bay ctx.old ctx.new ⊥ }
 
-        // The counts of the pieces that were given add up to the bin's width at the end, and to no more before.
-        ensures sum { OnOk result (total self.new.gave ≤ self.new.wide) }
-        ensures all { result ≡ Ok None → total self.new.gave ≡ self.new.wide }
+        // The counts of the pieces that were given cost no more than the bin's width, and reach it at the end. With version 1
+        // they add up to it then.
+        ensures sum { OnOk result (costs self.new.version self.new.gave ≤ self.new.wide) }
+        ensures all { result ≡ Ok None → self.new.wide ≤ total self.new.gave }
 
         ensures settings { self.new.settings ≡ self.old.settings }
+        ensures version { self.new.version ≡ self.old.version }
         ensures level { self.new.level ≡ self.old.level }
         ensures place { self.new.place ≡ self.old.place }
         ensures wide { self.new.wide ≡ self.old.wide }
@@ -213,24 +234,25 @@ impl<B: Bay> Pieces<B> for FrameReader {
 }
 
 // Begins a frame of a level, and answers its place.
-fn begin(decoder: &mut Decoder, settings: &Settings, level: u32, frame: u32) -> u64
+fn begin(decoder: &mut Decoder, settings: &Settings, version: u8, level: u32, frame: u32) -> u64
+    requires version { IsVersion version }
     requires first { 1 ≤ level }
     requires last { level ≤ settings.now.levels }
     requires frame { frame ≤ settings.now.bins }
     ensures valid { IsValid settings.now }
-    ensures place { result ≡ frame_place settings.now level frame }
-    ensures found { (file : List ℕ) → decoder_found decoder.new file ≡ frame_found settings.now level frame file }
+    ensures place { result ≡ frame_place settings.now version level frame }
+    ensures found { (file : List ℕ) → decoder_found decoder.new file ≡ frame_found settings.now version level frame file }
     ensures floor { decoder_floor decoder.new ≡ 0 }
     ensures limit { decoder_limit decoder.new ≡ tail_limit settings.now }
     ensures read { (file : List ℕ) → IsRead decoder.new.window result file }
     ensures from { place_of decoder.new.window ≡ result }
-    ensures stands { StandsIn settings.now level result decoder.new }
+    ensures stands { StandsIn settings.now version level result decoder.new }
     ensures end { (file : List ℕ) → decoder_end decoder.new file ≡ result + blocks_len (block_count settings.now level) (drop result file) }
 {
     let _valid = settings.numbers();
-    let place = frame_place(settings, level, frame);
+    let place = frame_place(settings, version, level, frame);
     let width = settings.width(level);
-    let most = 2 * settings.span(level);
+    let most = most_slots(settings, version, level);
     decoder.start(width, place, block_count(settings, level), most);
     place
 }

@@ -7,12 +7,12 @@ use crate::decoder::Decoder;
 use lert_base::{Piece, Settings};
 use lert_io::Seen;
 
-/// What the counts to come of a frame add up to.
+/// What the counts to come of a frame may cost, and what they have to reach.
 #[derive(Clone, Copy, Debug, PartialEq, Eq)]
 pub enum Sum {
-    /// So much is left of the bin's width.
-    Left(u64),
-    /// More came than that.
+    /// Of the bin's width so much is left by the costs, and so much by the counts, or nothing where these are more.
+    Left { most: u64, due: u64 },
+    /// They cost more than the width.
     Over,
 }
 
@@ -24,11 +24,12 @@ pub enum Sum {
 #[derive(Drop)]
 pub struct FrameReader {
     pub(crate) settings: Settings,
+    pub(crate) version: u8,
     pub(crate) level: u32,
     // The frame's place, and the width of its bin.
     pub(crate) place: u64,
     pub(crate) wide: u64,
-    // What the counts of the pieces that aren't decoded add up to.
+    // What the counts of the pieces that aren't decoded may cost and have to reach.
     pub(crate) sum: Sum,
     pub(crate) decoder: Decoder,
     // Those that are decoded, of which the first were given.
@@ -37,5 +38,5 @@ pub struct FrameReader {
     // Where the frame leaves its text, once that was found.
     pub(crate) fault: Option<u64>,
     pub(crate) gave: Seen<Piece>,
-    ghost reading: { IsReading settings level place wide sum decoder pieces.items (vec_capacity pieces) given gave } by { reading_prop settings level place wide sum decoder pieces.items (vec_capacity pieces) given gave },
+    ghost reading: { IsReading settings version level place wide sum decoder pieces.items (vec_capacity pieces) given gave } by { reading_prop settings version level place wide sum decoder pieces.items (vec_capacity pieces) given gave },
 }

@@ -10,16 +10,16 @@ ghost use Rattle.lert_frames.specs.Frame.{HoldsFrame};
 ghost use Rattle.lert_frames.specs.Growing.{IsGrowing, IsHolding};
 ghost use Rattle.lert_frames.specs.Kept.{KeepsOutside, WritesWithin};
 ghost use Rattle.lert_frames.specs.Outlet.{IsOut, next_place, size_of};
-ghost use Rattle.lert_frames.specs.Place.{block_count, frame_len, frame_place, tail_limit};
+ghost use Rattle.lert_frames.specs.Place.{block_count, frame_len, frame_place, tail_limit, IsVersion};
 ghost use Rattle.lert_spec.specs.declared.piece.Piece.{Piece};
 ghost use Rattle.lert_spec.proofs.GivenLaws.{given_prop};
 ghost use Rattle.lert_spec.specs.Edges.{span};
-ghost use Rattle.lert_spec.specs.Table.{total, AreGiven};
+ghost use Rattle.lert_spec.specs.Table.{costs, AreGiven};
 
 use crate::closing::{close, close_last};
 use crate::long::{Long, begin_long, let_go};
 use crate::outlet::Outlet;
-use crate::place::{block_count, frame_place};
+use crate::place::{FIRST, block_count, cost, frame_place, slots_each};
 use lert_base::{Piece, Settings};
 use lert_bay::Bay;
 use lert_blocks::Block;
@@ -38,9 +38,10 @@ const ENDS_BYTES: usize = 512;
 #[derive(Drop)]
 pub struct FrameWriter {
     settings: Settings,
+    version: u8,
     level: u32,
     frame: u32,
-    // The bits of a remainder, the frame's place, the present block, and how many events of the bin are left.
+    // The bits of a remainder, the frame's place, the present block, and how much more what is put may cost.
     width: u32,
     place: u64,
     number: u64,
@@ -52,15 +53,15 @@ pub struct FrameWriter {
     block: Block,
     long: Option<Long>,
     put: Seen<Piece>,
-    ghost growing: { IsGrowing settings level frame width place },
-    ghost holding: { IsHolding settings level place number left outlet ends block.len long put },
+    ghost growing: { IsGrowing settings version level frame width place },
+    ghost holding: { IsHolding settings version level place number left outlet ends block.len long put },
     ghost given: { AreGiven (tail_limit settings) put } by { given_prop (tail_limit settings) put },
 }
 
 impl FrameWriter {
     ghost use Rattle.lert_frames.specs.Writing.{IsAt, IsWriting, Proceeds, Stays, EndsFrame};
 
-    /// A writer that begins a frame of a level, as by `start`. Its only error is want of memory.
+    /// A writer that begins a frame of version 1 of a level, as by `start`. Its only error is want of memory.
     pub fn new(
         alloc: Global,
         settings: &Settings,
@@ -74,13 +75,14 @@ impl FrameWriter {
         ensures put { IfOk result (λ w. w.put ≡ []) }
         ensures frame { IfOk result (λ w. w.frame ≡ frame) }
         ensures settings { IfOk result (λ w. w.settings ≡ settings.now) }
+        ensures version { IfOk result (λ w. w.version ≡ 1) }
         ensures level { IfOk result (λ w. w.level ≡ level) }
     {
         let outlet = Outlet::new(alloc, TEXT_BYTES)?;
         let ends = Outlet::new(alloc, ENDS_BYTES)?;
         let block = Block::new(alloc)?;
         let mut writer = FrameWriter::of(settings, level, outlet, ends, block);
-        writer.start(frame);
+        writer.start(FIRST, frame);
         Ok(writer)
     }
 
@@ -100,10 +102,11 @@ impl FrameWriter {
         ensures level { result.level ≡ level }
     {
         let _valid = settings.numbers();
-        let place = frame_place(settings, level, 0);
+        let place = frame_place(settings, FIRST, level, 0);
         restart(&mut outlet, &mut block, place);
         FrameWriter {
             settings: *settings,
+            version: FIRST,
             level,
             frame: 0,
             width: settings.width(level),
@@ -118,17 +121,20 @@ impl FrameWriter {
         }
     }
 
-    /// Begins a frame, to which nothing is put yet. It writes nothing.
-    pub fn start(&mut self, frame: u32)
-        requires { frame ≤ self.old.settings.bins }
+    /// Begins a frame of this version, 1 or 2, to which nothing is put yet. It writes nothing.
+    pub fn start(&mut self, version: u8, frame: u32)
+        requires version { IsVersion version }
+        requires frame { frame ≤ self.old.settings.bins }
         ensures writing { (file : List ℕ) → IsWriting self.new file }
         ensures put { self.new.put ≡ [] }
         ensures frame { self.new.frame ≡ frame }
         ensures settings { self.new.settings ≡ self.old.settings }
+        ensures version { self.new.version ≡ version }
         ensures level { self.new.level ≡ self.old.level }
     {
+        self.version = version;
         self.frame = frame;
-        self.place = frame_place(&self.settings, self.level, frame);
+        self.place = frame_place(&self.settings, version, self.level, frame);
         self.number = 0;
         self.left = self.settings.span(self.level);
         restart(&mut self.outlet, &mut self.block, self.place);
@@ -136,26 +142,27 @@ impl FrameWriter {
         self.put = Seen::new();
     }
 
-    /// Puts a piece behind those so far.
+    /// Puts a piece behind those so far. All together cost no more than a bin of the level is wide.
     #[inline]
     pub fn put<B: Bay>(&mut self, bay: &mut B, piece: Piece) -> Result<(), Failed>
         requires given { AreGiven (tail_limit self.old.settings) (self.old.put ++ piece ∷ []) }
-        requires fits { total (self.old.put ++ piece ∷ []) ≤ span self.old.settings self.old.level }
+        requires fits { costs self.old.version (self.old.put ++ piece ∷ []) ≤ span self.old.settings self.old.level }
         ensures put { OnOk result (self.new.put ≡ self.old.put ++ piece ∷ []) }
         ensures writing { OnOk result (IfTold (B.files bay.old) (λ seen. IsWriting self.old (seen FRAMES) →
             IfTold (B.files bay.new) (λ after. IsWriting self.new (after FRAMES)))) }
         ensures failed { OnErr result (self.new.put ≡ self.old.put) }
         ensures settings { self.new.settings ≡ self.old.settings }
+        ensures version { self.new.version ≡ self.old.version }
         ensures level { self.new.level ≡ self.old.level }
         ensures frame { self.new.frame ≡ self.old.frame }
 
         // Nothing but the frame's place is written, whatever it answers.
         ensures within { WritesWithin B.Bay
-            (frame_place self.old.settings self.old.level self.old.frame)
-            (frame_place self.old.settings self.old.level self.old.frame + frame_len self.old.settings self.old.level) bay.old bay.new }
+            (frame_place self.old.settings self.old.version self.old.level self.old.frame)
+            (frame_place self.old.settings self.old.version self.old.level self.old.frame + frame_len self.old.settings self.old.version self.old.level) bay.old bay.new }
         ensures outside { IfTold (B.files bay.old) (λ seen. KeepsOutside B.Bay bay.old bay.new seen FRAMES
-            (frame_place self.old.settings self.old.level self.old.frame)
-            (frame_place self.old.settings self.old.level self.old.frame + frame_len self.old.settings self.old.level)) }
+            (frame_place self.old.settings self.old.version self.old.level self.old.frame)
+            (frame_place self.old.settings self.old.version self.old.level self.old.frame + frame_len self.old.settings self.old.version self.old.level)) }
         ensures kept { KeepsBay B.Bay bay.old bay.new (IsErr result) }
     {
         self.ready(bay, piece)?;
@@ -166,18 +173,19 @@ impl FrameWriter {
     /// Ends the frame: all that was put stands in the file then. `start` begins the next one.
     pub fn end<B: Bay>(&mut self, bay: &mut B) -> Result<(), Failed>
         ensures stands { OnOk result (IfTold (B.files bay.old) (λ seen. IsWriting self.old (seen FRAMES) →
-            IfTold (B.files bay.new) (λ after. HoldsFrame self.old.settings self.old.level self.old.frame (after FRAMES) self.old.put))) }
+            IfTold (B.files bay.new) (λ after. HoldsFrame self.old.settings self.old.version self.old.level self.old.frame (after FRAMES) self.old.put))) }
         ensures settings { self.new.settings ≡ self.old.settings }
+        ensures version { self.new.version ≡ self.old.version }
         ensures level { self.new.level ≡ self.old.level }
         ensures frame { self.new.frame ≡ self.old.frame }
 
         // Nothing but the frame's place is written, whatever it answers.
         ensures within { WritesWithin B.Bay
-            (frame_place self.old.settings self.old.level self.old.frame)
-            (frame_place self.old.settings self.old.level self.old.frame + frame_len self.old.settings self.old.level) bay.old bay.new }
+            (frame_place self.old.settings self.old.version self.old.level self.old.frame)
+            (frame_place self.old.settings self.old.version self.old.level self.old.frame + frame_len self.old.settings self.old.version self.old.level) bay.old bay.new }
         ensures outside { IfTold (B.files bay.old) (λ seen. KeepsOutside B.Bay bay.old bay.new seen FRAMES
-            (frame_place self.old.settings self.old.level self.old.frame)
-            (frame_place self.old.settings self.old.level self.old.frame + frame_len self.old.settings self.old.level)) }
+            (frame_place self.old.settings self.old.version self.old.level self.old.frame)
+            (frame_place self.old.settings self.old.version self.old.level self.old.frame + frame_len self.old.settings self.old.version self.old.level)) }
         ensures kept { KeepsBay B.Bay bay.old bay.new (IsErr result) }
     {
         self.reach(bay, self.last_block())?;
@@ -208,16 +216,18 @@ impl FrameWriter {
     #[inline]
     fn take(&mut self, piece: Piece)
         requires given { AreGiven (tail_limit self.old.settings) (self.old.put ++ piece ∷ []) }
-        requires fits { total (self.old.put ++ piece ∷ []) ≤ span self.old.settings self.old.level }
+        requires fits { costs self.old.version (self.old.put ++ piece ∷ []) ≤ span self.old.settings self.old.level }
         requires room { self.old.block.len + 9 ≤ 512 }
         ensures put { self.new.put ≡ self.old.put ++ piece ∷ [] }
         ensures writing { (file : List ℕ) → quotient_of self.old.width piece / 64 ≡ self.old.number → IsAt self.old file → IsWriting self.new file }
         ensures settings { self.new.settings ≡ self.old.settings }
+        ensures version { self.new.version ≡ self.old.version }
         ensures level { self.new.level ≡ self.old.level }
         ensures frame { self.new.frame ≡ self.old.frame }
     {
         self.block.put(self.width, piece);
-        self.left -= piece.count;
+        let spent = cost(self.version, piece.count);
+        self.left -= spent;
         self.put.push(&piece);
     }
 
@@ -323,7 +333,8 @@ impl FrameWriter {
             return Ok(long);
         }
         self.outlet.flush(bay)?;
-        let most = self.block.slots().len() as u64 + 2 * self.left;
+        let each = slots_each(self.version);
+        let most = self.block.slots().len() as u64 + each * self.left;
         let long = begin_long(&mut self.outlet, &mut self.ends, most);
         self.long = Some(long);
         Ok(long)

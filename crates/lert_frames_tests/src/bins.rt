@@ -1,7 +1,7 @@
 //! Settings, pieces and frames of them, as the tests share them.
 
 ghost use Rattle.std.specs.Prelude.{◌≡◌, ◌≤◌, ◌^◌, [], IfOk};
-ghost use Rattle.lert_frames.specs.Place.{tail_limit};
+ghost use Rattle.lert_frames.specs.Place.{tail_limit, IsVersion};
 ghost use Rattle.lert_spec.specs.Edges.{span};
 ghost use Rattle.lert_spec.specs.Table.{total, AreGiven};
 
@@ -97,6 +97,14 @@ pub fn pieces_of(
     Ok(pieces)
 }
 
+/// A version that files may have.
+pub fn version_of(rt: &impl Abort, version: u8) -> u8
+    ensures { IsVersion result }
+{
+    assert!(rt; 1 <= version && version <= 2);
+    version
+}
+
 /// A width that a bin of level 1 may have.
 pub fn bounded(rt: &impl Abort, settings: &Settings, width: u64) -> u64
     requires { 1 ≤ settings.now.levels }
@@ -116,7 +124,7 @@ pub fn width_of(pieces: &[Piece]) -> u64 {
     width
 }
 
-/// Puts pieces into a frame that a writer began, and ends it.
+/// Puts pieces into a frame that a writer began, and ends it. Their counts cost no more than they add up to.
 pub fn write(writer: &mut FrameWriter, bay: &mut MemBay, pieces: &[Piece]) -> Result<(), Failed>
     requires none { writer.old.put ≡ [] }
     requires given { AreGiven (tail_limit writer.old.settings) pieces.now }
@@ -136,10 +144,12 @@ pub fn write_frame(
     alloc: Global,
     bay: &mut MemBay,
     settings: &Settings,
+    version: u8,
     level: u32,
     frame: u32,
     pieces: &[Piece],
 )
+    requires version { IsVersion version }
     requires first { 1 ≤ level }
     requires last { level ≤ settings.now.levels }
     requires frame { frame ≤ settings.now.bins }
@@ -147,17 +157,24 @@ pub fn write_frame(
     requires fits { total pieces.now ≤ span settings.now level }
 {
     let mut writer = FrameWriter::new(alloc, settings, level, frame).expect(rt, "memory");
+    writer.start(version, frame);
     write(&mut writer, bay, pieces).expect(rt, "no fault");
 }
 
 /// How a check of frame 0 answers.
-pub fn check(reader: &mut FrameReader, bay: &mut MemBay, width: u64) -> Result<(), PieceFault>
+pub fn check(
+    reader: &mut FrameReader,
+    bay: &mut MemBay,
+    version: u8,
+    width: u64,
+) -> Result<(), PieceFault>
+    requires version { IsVersion version }
     requires some { 1 ≤ width }
     requires width { width ≤ span reader.old.settings reader.old.level }
     ensures settings { reader.new.settings ≡ reader.old.settings }
     ensures level { reader.new.level ≡ reader.old.level }
 {
-    reader.check(bay, 0, width)
+    reader.check(bay, version, 0, width)
 }
 
 // What a reader gives next.
@@ -201,18 +218,25 @@ pub fn checked(
     rt: &impl Abort,
     alloc: Global,
     numbers: Numbers,
+    version: u8,
     bytes: &[u8],
     width: u64,
 ) -> Result<(), PieceFault>
+    requires version { IsVersion version }
     requires levels { 1 ≤ numbers.levels }
 {
     let settings = settings_of(rt, numbers);
     let width = bounded(rt, &settings, width);
     let mut bay = bay_of(rt, alloc, bytes);
-    check(&mut reader_of(rt, alloc, &settings), &mut bay, width)
+    check(
+        &mut reader_of(rt, alloc, &settings),
+        &mut bay,
+        version,
+        width,
+    )
 }
 
-/// The file of frame 0 of level 1 alone. The frame's text stands at its front; behind it may stand slots that were
+/// The file of frame 0 of level 1 alone, in version 1. The frame's text stands at its front; behind it may stand slots that were
 /// moved.
 pub fn text_of(rt: &impl Abort, alloc: Global, numbers: Numbers, pieces: &[Piece]) -> Vec<u8>
     requires levels { 1 ≤ numbers.levels }
@@ -220,6 +244,15 @@ pub fn text_of(rt: &impl Abort, alloc: Global, numbers: Numbers, pieces: &[Piece
     requires fits { total pieces.now ≤ span numbers 1 }
 {
     let mut bay = empty_bay(rt, alloc);
-    write_frame(rt, alloc, &mut bay, &settings_of(rt, numbers), 1, 0, pieces);
+    write_frame(
+        rt,
+        alloc,
+        &mut bay,
+        &settings_of(rt, numbers),
+        1,
+        1,
+        0,
+        pieces,
+    );
     Vec::from_slice(alloc, bay.bytes(FRAMES)).expect(rt, "memory")
 }

@@ -18,12 +18,12 @@ const COUNTS: [u64; 7] = [1, 2, 3, 255, 256, 257, 65_536];
 
 // The first length at which the text that is cut there isn't left, or that of the whole text where it isn't read.
 fn first_untold(rt: &impl Abort, alloc: Global, text: &[u8], width: u64) -> Option<usize> {
-    if checked(rt, alloc, WIDE, text, width) != Ok(()) {
+    if checked(rt, alloc, WIDE, 1, text, width) != Ok(()) {
         return Some(text.len());
     }
     for len in LENS {
         let fault = PieceFault::Malformed { at: len as u64 };
-        if len > text.len() || checked(rt, alloc, WIDE, &text[..len], width) != Err(fault) {
+        if len > text.len() || checked(rt, alloc, WIDE, 1, &text[..len], width) != Err(fault) {
             return Some(len);
         }
     }

@@ -44,15 +44,15 @@ fn written_beside(
     requires given { AreGiven (2 ^ 64) pieces.now }
     requires fits { total pieces.now ≤ 8192 }
 {
-    let beside = frame_place(&settings_of(rt, MIDDLE), 1, 1) as usize;
+    let beside = frame_place(&settings_of(rt, MIDDLE), 1, 1, 1) as usize;
     let before = Vec::from_slice(alloc, bay.bytes(FRAMES)).expect(rt, "memory");
     bay.fail_at(call);
-    writer.start(0);
+    writer.start(1, 0);
     if write(writer, bay, pieces).is_ok() {
         return None;
     }
     let is_kept = are_same_from(bay.bytes(FRAMES), &before, beside);
-    writer.start(0);
+    writer.start(1, 0);
     write(writer, bay, pieces).expect(rt, "no fault");
     let is_whole = bay
         .bytes(FRAMES)
@@ -115,8 +115,8 @@ fn fails_once(
     let mut bay = bay_of(rt, alloc, bytes);
     let mut reader = reader_of(rt, alloc, &settings);
     bay.fail_at(call);
-    let first = check(&mut reader, &mut bay, width);
-    first == Err(PieceFault::Failed) && check(&mut reader, &mut bay, width) == answer
+    let first = check(&mut reader, &mut bay, 1, width);
+    first == Err(PieceFault::Failed) && check(&mut reader, &mut bay, 1, width) == answer
 }
 
 // How many calls of a check that answers so are answered by `Failed`, one after the other, with the right answer
@@ -142,7 +142,7 @@ fn come_though(rt: &impl Abort, alloc: Global, bytes: &[u8], pieces: &[Piece], c
     let width = bounded(rt, &settings, width_of(pieces));
     let mut bay = bay_of(rt, alloc, bytes);
     let mut reader = reader_of(rt, alloc, &settings);
-    reader.start(0, width);
+    reader.start(1, 0, width);
     bay.fail_at(call);
     come_all(&mut reader, &mut bay, pieces, true)
 }

@@ -1,20 +1,21 @@
 //! The bytes of a small frame, each place at which a file leaves it, and which pieces come back.
 
-ghost use Rattle.std.specs.Prelude.{◌≤◌, ◌^◌};
+ghost use Rattle.std.specs.Prelude.{◌≡◌, ◌≤◌, ◌^◌};
+ghost use Rattle.lert_frames.specs.Place.{IsVersion};
 ghost use Rattle.lert_spec.specs.Table.{total, AreGiven};
 
 use crate::bins::{
     SMALL, WIDE, bounded, checked, come_all, empty_bay, pieces_of, reader_of, settings_of,
     width_of, write_frame,
 };
-use lert_base::{Piece, PieceFault};
+use lert_base::{Piece, PieceFault, Settings};
 use lert_bay::FRAMES;
 use lert_frames::frame_place;
 use std::alloc::Global;
 use std::process::Abort;
 
 // The text of one tail twice, whose quotient is 45.
-const ONE: [u8; 36] =
+pub const ONE: [u8; 36] =
     *b"\0\0\0\0\0\x20\0\0\x02\0\0\0\x02\0\0\0\0\0\0\0\x2c\xcb\xc2\x34\xfc\xbc\x56\0\x2c\xcb\xc2\x34\xfc\xbc\x56\0";
 
 // A block whose quotient 45 has a run of the slots 5, 5, 3, 7, 9, 11 and 13.
@@ -54,24 +55,35 @@ const BROKEN: [(usize, u8, u64, u64); 15] = [
     (30, 0xc2, 1, 0),
 ];
 
+// The places of frame 1 of level 1, and of frames 0 and 1 of level 2.
+fn places_of(settings: &Settings, version: u8) -> [u64; 3]
+    requires version { IsVersion version }
+    requires levels { settings.now.levels ≡ 2 }
+    requires bins { settings.now.bins ≡ 3 }
+{
+    [
+        frame_place(settings, version, 1, 1),
+        frame_place(settings, version, 2, 0),
+        frame_place(settings, version, 2, 1),
+    ]
+}
+
 #[test]
 fn frames_stand_at_their_places(rt: HostRuntime) {
     let settings = settings_of(&rt, SMALL);
-    let places = [
-        frame_place(&settings, 1, 1),
-        frame_place(&settings, 2, 0),
-        frame_place(&settings, 2, 1),
-    ];
-    assert_eq!(rt; places, [148, 592, 868]);
+    let first = places_of(&settings, 1);
+    let second = places_of(&settings, 2);
+    assert_eq!(rt; first, [148, 592, 868]);
+    assert_eq!(rt; second, [276, 1_104, 1_644]);
 }
 
 // Whether frame 1 of level 1 is written as that text, and read.
 fn is_read(rt: &impl Abort, alloc: Global) -> bool {
     let settings = settings_of(rt, SMALL);
     let mut bay = empty_bay(rt, alloc);
-    write_frame(rt, alloc, &mut bay, &settings, 1, 1, &[TWICE]);
+    write_frame(rt, alloc, &mut bay, &settings, 1, 1, 1, &[TWICE]);
     let mut reader = reader_of(rt, alloc, &settings);
-    reader.start(1, 2);
+    reader.start(1, 1, 2);
     bay.bytes(FRAMES).len() == 184
         && bay.bytes(FRAMES).ends_with(&ONE)
         && come_all(&mut reader, &mut bay, &[TWICE], false)
@@ -86,9 +98,9 @@ fn a_frame_is_written_and_read(rt: HostRuntime) {
 fn is_read_from_another_level(rt: &impl Abort, alloc: Global) -> bool {
     let settings = settings_of(rt, SMALL);
     let mut bay = empty_bay(rt, alloc);
-    write_frame(rt, alloc, &mut bay, &settings, 2, 1, &[TWICE]);
+    write_frame(rt, alloc, &mut bay, &settings, 1, 2, 1, &[TWICE]);
     let mut reader = reader_of(rt, alloc, &settings);
-    reader.start_at(2, 1, 2);
+    reader.start_at(1, 2, 1, 2);
     come_all(&mut reader, &mut bay, &[TWICE], false)
 }
 
@@ -99,7 +111,7 @@ fn a_reader_goes_to_another_level(rt: HostRuntime) {
 
 // The place at which a file of these bytes leaves the frame of a bin of this width.
 fn left_at(rt: &impl Abort, alloc: Global, bytes: &[u8], width: u64) -> Option<u64> {
-    match checked(rt, alloc, SMALL, bytes, width) {
+    match checked(rt, alloc, SMALL, 1, bytes, width) {
         Ok(()) => None,
         Err(PieceFault::Malformed { at }) => Some(at),
         Err(PieceFault::Failed) => panic!(rt; "no call fails"),
@@ -150,9 +162,9 @@ fn come_back(rt: &impl Abort, alloc: Global, pieces: &[Piece]) -> bool
     let settings = settings_of(rt, WIDE);
     let width = bounded(rt, &settings, width_of(pieces));
     let mut bay = empty_bay(rt, alloc);
-    write_frame(rt, alloc, &mut bay, &settings, 1, 2, pieces);
+    write_frame(rt, alloc, &mut bay, &settings, 1, 1, 2, pieces);
     let mut reader = reader_of(rt, alloc, &settings);
-    reader.start(2, width);
+    reader.start(1, 2, width);
     come_all(&mut reader, &mut bay, pieces, false)
 }
 

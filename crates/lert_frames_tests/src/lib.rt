@@ -14,3 +14,5 @@ mod cuts;
 mod faults;
 #[cfg(test)]
 mod frames;
+#[cfg(test)]
+mod versions;

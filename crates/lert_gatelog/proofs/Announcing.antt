@@ -1,11 +1,7 @@
 -- What the bytes that were read at a gate say of the record there, exit by exit.
-use Rattle.std.proofs.Common.{◌≡◌, ◌≢◌, ℕ, ◌+◌, ◌<◌, List, length, drop, get_or, Some, None, Result, Ok, Err, sym, ap, ◌∙◌, subst, inl, inr, arith}
-use Rattle.std.proofs.lemmas.List.{get_or-take, get_or-drop}
+use Rattle.std.proofs.{Common.{◌≡◌, ◌≢◌, ℕ, ◌+◌, ◌<◌, List, length, drop, get_or, Some, None, Result, Ok, Err, sym, ap, ◌∙◌, subst, inl, inr, arith}, lemmas.List.{get_or-take, get_or-drop}}
 use Rattle.lert_bay.specs.Files.{CopiesFrom}
-use Rattle.lert_gatelog.specs.Gated.{IsAnnounced, No_gate, Cut_length}
-use Rattle.lert_gatelog.specs.Looked.{Looked}
-use Rattle.lert_gatelog.specs.declared.fault.LogFault.{LogFault}
-use Rattle.lert_gatelog.specs.declared.fault.LogFault.TheVariants.{Failed, Malformed}
+use Rattle.lert_gatelog.specs.{Gated.{IsAnnounced, No_gate, Cut_length}, Looked.Looked, declared.fault.LogFault.LogFault, declared.fault.LogFault.TheVariants.{Failed, Malformed}}
 
 -- a fault is one of a call or of a place
 pub malformed_no_fail : {T : Type 0} (at : ℕ) → ◌≡◌ {A = Result T LogFault} (Err (Malformed at)) (Err Failed) → ⊥

@@ -1,16 +1,8 @@
 -- The two writes of an append, each with its sync: the record behind the closed gate, then the gate.
-use Rattle.std.proofs.Common.{◌≡◌, ℕ, ◌+◌, ◌<◌, List, [], ◌∷◌, ◌++◌, Result, Ok, length, get_or, refl, sym, ap, ◌∙◌, ◌⊎◌, subst, inl, inr}
-use Rattle.std.proofs.Common.{arith}
-use Rattle.std.proofs.lemmas.Bool.{cases_eq}
-use Rattle.lert_bay.specs.Files.{Files, IfTold, Changes, Torn}
-use Rattle.lert_bay.specs.Kept.{Bays}
-use Rattle.lert_bay.specs.Settled.{part}
-use Rattle.lert_bay.proofs.KeptLaws.{IsLawful}
-use Rattle.lert_bay.proofs.Settling.{part_same, part_torn}
-use Rattle.lert_bay.proofs.Tearing.{torn_held}
-use Rattle.lert_gatelog.specs.Gated.{Log, IsGated, IsClosed, IsAppendix, appendix, next_gate}
-use Rattle.lert_gatelog.specs.Kept.{IsWithOrWithout, IsWhollySettled, InEach, KeepsOthers, KeepsBefore}
-use Rattle.lert_gatelog.specs.Written.{WritesDurably}
+use Rattle.std.proofs.{Common.{◌≡◌, ℕ, ◌+◌, ◌<◌, List, [], ◌∷◌, ◌++◌, Result, Ok, length, get_or, refl, sym, ap, ◌∙◌, ◌⊎◌, subst, inl, inr, arith}, lemmas.Bool.cases_eq}
+use Rattle.lert_bay.specs.{Files.{Files, IfTold, Changes, Torn}, Kept.Bays, Settled.part}
+use Rattle.lert_bay.proofs.{KeptLaws.IsLawful, Settling.{part_same, part_torn}, Tearing.torn_held}
+use Rattle.lert_gatelog.specs.{Gated.{Log, IsGated, IsClosed, IsAppendix, appendix, next_gate}, Kept.{IsWithOrWithout, IsWhollySettled, InEach, KeepsOthers, KeepsBefore}, Written.WritesDurably}
 use Rattle.lert_gatelog.proofs.GatedLaws.{Agree, torn_agrees, records_kept, records_more, part_within, closed_behind, closed_there, open_there, held_part, gate_held, length_appendix}
 
 -- ---- what a moment of an append leaves of the file's bytes

@@ -2,9 +2,7 @@
 use Rattle.std.proofs.Common.{◌≡◌, ℕ, ◌+◌, ◌≤◌, Option, Some, None, Result, Ok, Err, subst, arith}
 use Rattle.lert_bay.specs.Handed.{ReadsUpTo}
 use Rattle.lert_bay.proofs.HandedLaws.{up_to_on}
-use Rattle.lert_gatelog.specs.Cost.{read_cost}
-use Rattle.lert_gatelog.specs.declared.fault.LogFault.{LogFault}
-use Rattle.lert_gatelog.specs.declared.fault.LogFault.TheVariants.{Failed, Malformed}
+use Rattle.lert_gatelog.specs.{Cost.read_cost, declared.fault.LogFault.LogFault, declared.fault.LogFault.TheVariants.{Failed, Malformed}}
 
 -- whatever the answer, a look at the gate is paid
 pub least_cost : (most : ℕ) (result : Result (Option ℕ) LogFault) → 5 ≤ read_cost most result

@@ -1,6 +1,5 @@
 -- The bytes at a gate are an open record, a closed gate or a place at which they leave the format: only one of these.
-use Rattle.std.proofs.Common.{◌≡◌, ℕ, ◌+◌, ◌≤◌, List, [], ◌∷◌, length, get_or, refl, sym, subst, ap, ap₂, ◌∙◌, inl, inr, arith}
-use Rattle.std.proofs.lemmas.List.{get_or_past}
+use Rattle.std.proofs.{Common.{◌≡◌, ℕ, ◌+◌, ◌≤◌, List, [], ◌∷◌, length, get_or, refl, sym, subst, ap, ap₂, ◌∙◌, inl, inr, arith}, lemmas.List.get_or_past}
 use Rattle.lert_bay.specs.Settled.{part}
 use Rattle.lert_gatelog.specs.Gated.{next_gate, IsOpen, IsClosed, Records, IsGated, IsCutShort, No_gate, Cut_length, Cut_payload, IsMiscounted, BreaksAt}
 use Rattle.lert_gatelog.proofs.GatedLaws.{part_within}

@@ -1,10 +1,8 @@
 -- What a header's text is, and what the bytes at a gate say.
-use Rattle.std.proofs.Common.{◌≡◌, ℕ, ◌+◌, ◌<◌, ◌≤◌, List, [], ◌∷◌, ◌++◌, length, take, drop, get_or, refl, sym, ap, ◌∙◌, subst, inl, arith, length-append}
-use Rattle.std.proofs.Common.{length-drop, append-nil, append_assoc}
+use Rattle.std.proofs.Common.{◌≡◌, ℕ, ◌+◌, ◌<◌, ◌≤◌, List, [], ◌∷◌, ◌++◌, length, take, drop, get_or, refl, sym, ap, ◌∙◌, subst, inl, arith, length-append, length-drop, append-nil, append_assoc}
 use Rattle.std.proofs.lemmas.List.{get_or_at, drop_more, drop_all, take_at, take_all, drop-take}
 use Rattle.byteorder.specs.Endian.{little_number}
-use Rattle.lert_bay.specs.Files.{Holds, CopiesFrom}
-use Rattle.lert_bay.specs.Settled.{part}
+use Rattle.lert_bay.specs.{Files.{Holds, CopiesFrom}, Settled.part}
 use Rattle.lert_gatelog.specs.Gated.{IsAnnounced, IsOpen, IsClosed, BreaksAt, Cut_payload, next_gate}
 use Rattle.lert_gatelog.proofs.GatedLaws.{part_of_part, byte_of_part}
 

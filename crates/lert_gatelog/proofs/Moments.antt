@@ -1,13 +1,8 @@
 -- What a write and its sync make of a bay: what each image of each moment comes from.
-use Rattle.std.proofs.Common.{◌≡◌, ℕ, ◌+◌, List, [], ◌∷◌, Option, Some, Result, Ok, Err, OnOk, OnErr, IsErr, length, sym, ◌∙◌, subst, inl, inr, arith}
-use Rattle.std.proofs.lemmas.List.{take_all}
-use Rattle.lert_bay.specs.Files.{Files, IfTold, Changes, Turns, Torn, Holds, LeftByFailure}
-use Rattle.lert_bay.specs.Images.{ComesByWrite, Elapses, Follow, Settles, KeepsImages}
-use Rattle.lert_bay.specs.Kept.{Bays, KeepsBay}
-use Rattle.lert_bay.proofs.KeptLaws.{IsLawful, keeps_on}
-use Rattle.lert_bay.proofs.Tearing.{comes_same, left_by_part}
-use Rattle.lert_gatelog.specs.Kept.{IsAppended}
-use Rattle.lert_gatelog.specs.Written.{WritesDurably}
+use Rattle.std.proofs.{Common.{◌≡◌, ℕ, ◌+◌, List, [], ◌∷◌, Option, Some, Result, Ok, Err, OnOk, OnErr, IsErr, length, sym, ◌∙◌, subst, inl, inr, arith}, lemmas.List.take_all}
+use Rattle.lert_bay.specs.{Files.{Files, IfTold, Changes, Turns, Torn, Holds, LeftByFailure}, Images.{ComesByWrite, Elapses, Follow, Settles, KeepsImages}, Kept.{Bays, KeepsBay}}
+use Rattle.lert_bay.proofs.{KeptLaws.{IsLawful, keeps_on}, Tearing.{comes_same, left_by_part}}
+use Rattle.lert_gatelog.specs.{Kept.IsAppended, Written.WritesDurably}
 
 -- a sync leaves images of before, whatever it answers
 pub was_before : {T E : Type 0} (result : Result T E) (file : ℕ) (seen : List ℕ) (before after : Files → Type 0) → OnOk result (Settles file seen before after) →

@@ -2,9 +2,7 @@
 use Rattle.std.proofs.Common.{◌≡◌, ℕ, ◌+◌, ◌<◌, ◌≤◌, List, length, take, Option, Result, ◌∙◌, arith, length-take}
 use Rattle.std.specs.Prelude.{IsErr}
 use Rattle.lert_io.specs.Fault.{HasCause}
-use Rattle.lert_bay.specs.Files.{Files, Changes, Turns}
-use Rattle.lert_bay.specs.Images.{Elapses, KeepsImages}
-use Rattle.lert_bay.specs.Kept.{Bays, ReadsBay}
+use Rattle.lert_bay.specs.{Files.{Files, Changes, Turns}, Images.{Elapses, KeepsImages}, Kept.{Bays, ReadsBay}}
 use Rattle.lert_bay.proofs.KeptLaws.{IsLawful, reading_call}
 use Rattle.lert_gatelog.specs.Kept.{OthersStay}
 

@@ -1,8 +1,7 @@
 -- What the calls of a log keep of a bay.
 use Rattle.std.specs.Prelude.{◌≡◌, ◌≢◌, ℕ, ◌+◌, ◌≤◌, List, [], ◌∷◌, ◌++◌, length}
 use Rattle.std.proofs.Common.{◌⊎◌}
-use Rattle.lert_bay.specs.Files.{Files, Holds}
-use Rattle.lert_bay.specs.Settled.{Keeps, IsSettled}
+use Rattle.lert_bay.specs.{Files.{Files, Holds}, Settled.{Keeps, IsSettled}}
 use Rattle.lert_gatelog.specs.Gated.{IsGated, next_gate}
 
 -- what holds of a file in each of these images

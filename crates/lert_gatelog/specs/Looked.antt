@@ -1,7 +1,6 @@
 -- What a look at a gate answers.
 use Rattle.std.specs.Prelude.{ℕ, List, Option, Result, IfOk, IfSome, IfNone, IsErrOf}
-use Rattle.lert_gatelog.specs.Gated.{IsAnnounced, IsClosed, BreaksAt}
-use Rattle.lert_gatelog.specs.declared.fault.LogFault.{LogFault}
+use Rattle.lert_gatelog.specs.{Gated.{IsAnnounced, IsClosed, BreaksAt}, declared.fault.LogFault.LogFault}
 
 -- the length of a payload where an open gate announces one, none at a closed gate, and else the place at which the record
 -- leaves the format

@@ -1,8 +1,6 @@
 -- What a write and its sync make of a bay.
 use Rattle.std.specs.Prelude.{◌≡◌, ℕ, List, length, Result, OnOk, IsErr}
-use Rattle.lert_bay.specs.Files.{Files, IfTold, Turns, Changes, Holds, LeftByFailure}
-use Rattle.lert_bay.specs.Images.{ComesByWrite}
-use Rattle.lert_bay.specs.Kept.{Bays, KeepsBay}
+use Rattle.lert_bay.specs.{Files.{Files, IfTold, Turns, Changes, Holds, LeftByFailure}, Images.ComesByWrite, Kept.{Bays, KeepsBay}}
 
 -- Bytes were written into a file at a place, and the file was synced. After an error any bytes stand in their range. Each image
 -- of each moment comes by the write from one at the start, and after Ok each image has the file as a read gives it.

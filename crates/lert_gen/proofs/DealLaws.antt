@@ -1,14 +1,9 @@
 -- The keys of each fourth event are those that one of four traces gets.
 use Rattle.std.proofs.Common.{◌≡◌, ℕ, zero, suc, ◌+◌, ◌-◌, ◌*◌, ◌/◌, ◌%◌, ◌<◌, Bool, true, false, eqb, cond, List, [], ◌∷◌, ◌++◌, map, refl, ap, sym, ◌∙◌, arith, append-nil, append_assoc}
-use Rattle.std.specs.Prelude.{filter}
-use Rattle.std.specs.List.{flat_map, range_with_len}
-use Rattle.std.proofs.lemmas.Bool.{eqb-false, eqb-true}
-use Rattle.std.proofs.lemmas.List.{map-append}
-use Rattle.std.proofs.lemmas.List.Elements.{filter-append}
-use Rattle.std.proofs.lemmas.List.Concat.{flat_map-append}
-use Rattle.std.proofs.lemmas.List.FromFn.{map-range_with_len_more}
+use Rattle.std.proofs.{lemmas.Bool.{eqb-false, eqb-true}, lemmas.List.map-append, lemmas.List.Elements.filter-append, lemmas.List.Concat.flat_map-append, lemmas.List.FromFn.map-range_with_len_more}
+use Rattle.std.specs.{Prelude.filter, List.{flat_map, range_with_len}}
 use Rattle.byteorder.specs.Endian.{little_bytes}
-use Rattle.lert_spec.specs.Trace.{trace_header}
+use Rattle.lert_trace.specs.Trace.{trace_header}
 use Rattle.lert_gen.specs.Generated.{dealt, key_at, trace_of}
 use Rattle.lert_gen.proofs.Blocks.{range-split}
 

@@ -5,8 +5,9 @@ use Rattle.std.proofs.Math.Seq.{drop-append_seam}
 use Rattle.std.specs.List.{flat_map, range_with_len}
 use Rattle.byteorder.specs.Endian.{little_bytes, little_from}
 use Rattle.byteorder.specs.Numbers.{length-bytes_low_first, little_number-reads_back}
-use Rattle.lert_spec.specs.Trace.{agreed, key_at, left, trace_header, whole, whole_len}
-use Rattle.lert_spec.proofs.TraceLaws.{little_from-drop}
+use Rattle.lert_spec.specs.Agreed.{agreed}
+use Rattle.lert_trace.specs.Trace.{key_at, left, trace_header, whole, whole_len}
+use Rattle.lert_spec.proofs.TextLaws.{little_from-drop}
 use Rattle.lert_spec.specs.Mix.{mix}
 use Rattle.lert_spec.proofs.LookLaws.{AreKeys}
 use Rattle.lert_spec.proofs.MixLaws.{mix_below}
@@ -58,7 +59,7 @@ pub generated_below : (seed event : ℕ) → generated_key seed event < 2 ^ 64
 unfolding generated_key
 generated_below seed event =
     let v = mix ((seed + event) % 2 ^ 64) in
-    of_mixed_below (eqb (v % 2) 0) v (mix_below ((seed + event) % 2 ^ 64) (omega arith))
+    of_mixed_below (eqb (v % 2) 0) v (mix_below ((seed + event) % 2 ^ 64))
 
 pub AreKeys-generated : (seed : ℕ) (events : List ℕ) → AreKeys (map (generated_key seed) events)
 AreKeys-generated seed [] = tt

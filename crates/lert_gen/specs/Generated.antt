@@ -1,9 +1,8 @@
 -- Generated keys, and traces of keys.
-use Rattle.std.specs.Prelude.{ℕ, ◌+◌, ◌-◌, ◌/◌, ◌%◌, ◌^◌, ◌==◌, List, ◌++◌, filter, flat_map, map, if◌then◌else◌}
-use Rattle.std.specs.List.{range_with_len}
+use Rattle.std.specs.{Prelude.{ℕ, ◌+◌, ◌-◌, ◌/◌, ◌%◌, ◌^◌, ◌==◌, List, ◌++◌, filter, flat_map, map, if◌then◌else◌}, List.range_with_len}
 use Rattle.byteorder.specs.Endian.{little_bytes}
 use Rattle.lert_spec.specs.Mix.{mix}
-use Rattle.lert_spec.specs.Trace.{trace_header}
+use Rattle.lert_trace.specs.Trace.{trace_header}
 
 -- a mixed value as a key: one of a thousand where it is even, else itself
 abbrev pub key_of_mixed : ℕ → ℕ

@@ -6,7 +6,7 @@ ghost use Rattle.byteorder.specs.Endian.{little_bytes};
 ghost use Rattle.lert_gen.specs.Generated.{generated, key_at, trace_of};
 ghost use Rattle.lert_gen.specs.Writing.{Appends};
 ghost use Rattle.lert_io.specs.Fault.{HasCause};
-ghost use Rattle.lert_spec.specs.Trace.{trace_header};
+ghost use Rattle.lert_trace.specs.Trace.{trace_header};
 
 use crate::key::key_at;
 use lert_io::{Failed, Sink, write_all};

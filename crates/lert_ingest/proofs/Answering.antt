@@ -3,7 +3,8 @@ use Rattle.std.proofs.{Common.{◌≡◌, ◌⊎◌, ℕ, ◌%◌, ◌^◌, ◌<
 use Rattle.std.proofs.lemmas.Option.{get_or_from_slice_get, none-some, same_Some, slice_get_within}
 use Rattle.std.specs.Prelude.{All}
 use Rattle.lert_base.specs.declared.cone_fault.ConeFault.{ConeFault}
-use Rattle.lert_spec.specs.{Edges.capacity, Trace.{left, whole}}
+use Rattle.lert_spec.specs.Edges.{capacity}
+use Rattle.lert_trace.specs.Trace.{left, whole}
 use Rattle.lert_trace.specs.{Reader.Reading, declared.fault.TraceFault.TraceFault}
 use Rattle.lert_trace.specs.declared.fault.TraceFault.TheVariants as trace_fault
 use Rattle.lert_worker.specs.{Ends.{IsAtEnd, Stopped}, declared.end.WorkerEnd.WorkerEnd}

@@ -6,7 +6,7 @@ use Rattle.lert_base.specs.{Packet.{Packet, events_of}, declared.cone_fault.Cone
 use Rattle.lert_cone.specs.{Stands.{Standing, is_finished}, declared.state.ConeState.ConeState}
 use Rattle.lert_cone.specs.declared.state.ConeState.TheVariants as state
 use Rattle.lert_conelock.proofs.Contained.{item_here}
-use Rattle.lert_spec.specs.Trace.{left}
+use Rattle.lert_trace.specs.Trace.{left}
 use Rattle.lert_trace.specs.Reader.{Reading}
 use Rattle.lert_worker.specs.{Ends.{IsAtEnd, Stopped}, declared.end.WorkerEnd.WorkerEnd}
 use Rattle.lert_worker.specs.declared.end.WorkerEnd.TheVariants as end

@@ -3,7 +3,8 @@ use Rattle.std.proofs.Common.{◌≡◌, ℕ, ◌^◌, ◌<◌, ◌≤◌, zero,
 use Rattle.std.proofs.lemmas.Option.{get_or_from_slice_get, none-some, same_Some, slice_get_within}
 use Rattle.lert_bay.specs.Files.{Files}
 use Rattle.lert_io.specs.Fault.{HasRisen, IsFaultless}
-use Rattle.lert_spec.specs.{declared.numbers.Numbers.Numbers, Edges.capacity, Trace.{left, whole}}
+use Rattle.lert_spec.specs.{declared.numbers.Numbers.Numbers, Edges.capacity}
+use Rattle.lert_trace.specs.Trace.{left, whole}
 use Rattle.lert_ingest.specs.{Bays.{HasFailed, IsUntold}, Stops.{AreTelling, IsExact, StopShows, trace_fault, bad_trace, too_long, bay_fault, malformed, capacity_full, out_of_memory}}
 use Rattle.lert_ingest.specs.{Traces.{AreBytesOf, AreKeysOf, HasTraceFailed, most_keys, part_length}, declared.status.Status.Status}
 use Rattle.lert_ingest.specs.declared.status.Status.TheVariants as status

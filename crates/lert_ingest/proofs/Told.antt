@@ -3,7 +3,7 @@ use Rattle.std.proofs.Common.{◌≡◌, ℕ, ◌%◌, ◌<◌, zero, suc, List,
 use Rattle.std.proofs.{Common.length-append, lemmas.Bool.cases_lt, lemmas.List.{take-append-drop, take_all}, lemmas.Option.{get_or_from_slice_get, none-some, same_Some, slice_get_within}}
 use Rattle.lert_base.specs.Beginning.{BeginsWith}
 use Rattle.lert_io.specs.Reading.{IfTold}
-use Rattle.lert_spec.specs.Trace.{whole}
+use Rattle.lert_trace.specs.Trace.{whole}
 use Rattle.lert_trace.specs.Reader.{Reading}
 use Rattle.lert_worker.specs.Ends.{IsAtEnd, WasRead}
 use Rattle.lert_ingest.proofs.{Crewed.ReadCrew, BayLaws.{slice_get-first, slice_get-seam}}

@@ -3,7 +3,8 @@ use Rattle.std.specs.Prelude.{◌≡◌, ◌⊎◌, ℕ, ◌+◌, ◌*◌, ◌^�
 use Rattle.lert_base.specs.{Packet.Packet, Weave.IsWoven}
 use Rattle.lert_bay.specs.Files.{Files}
 use Rattle.lert_cone.specs.{Stands.{Standing, StandsFor, WasSound}, declared.state.ConeState.TheVariants.Running}
-use Rattle.lert_spec.specs.{declared.numbers.Numbers.Numbers, Edges.capacity, Trace.{left, whole}}
+use Rattle.lert_spec.specs.{declared.numbers.Numbers.Numbers, Edges.capacity}
+use Rattle.lert_trace.specs.Trace.{left, whole}
 use Rattle.lert_ingest.specs.Bays.{AreFaultless, AreOpenWoven, ArePartWoven, AreTold, HasFailed, HoldsKeys, IfHeld, IsUntold}
 use Rattle.lert_ingest.specs.{Traces.{AllFit, AreBytesOf, AreKeysOf, AreReadToEnd, AreTracesFaultless, HasThem, HasTraceFailed, IsOpened, IsOver, most_keys}, declared.status.Status.Status}
 use Rattle.lert_ingest.specs.declared.status.Status.TheVariants.{TraceFault, BadTrace, TooLong, BayFault, CapacityFull, Malformed, OutOfMemory}

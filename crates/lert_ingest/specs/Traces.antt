@@ -1,7 +1,8 @@
 -- What is known of the traces of a run: those that were opened, the same ones later, and the keys of all.
 use Rattle.std.specs.Prelude.{◌≡◌, ℕ, ◌+◌, ◌^◌, ◌<◌, ◌≤◌, List, [], length, map, sum_by, Option, Some, None, slice_get}
 use Rattle.lert_io.specs.{Fault.{HasRisen, IsFaultless}, Reading.IfTold}
-use Rattle.lert_spec.specs.{declared.numbers.Numbers.Numbers, Edges.capacity, Mix.part_of, Trace.{left, whole}}
+use Rattle.lert_spec.specs.{declared.numbers.Numbers.Numbers, Edges.capacity, Mix.part_of}
+use Rattle.lert_trace.specs.Trace.{left, whole}
 
 -- the most keys that a trace may have, 2^36
 abbrev pub most_keys : ℕ

@@ -1,6 +1,5 @@
 -- Counts of faults over several calls.
-use Rattle.std.proofs.Common.{◌≡◌, ℕ, ◌+◌, ◌≤◌, min, arith, inl, inr}
-use Rattle.std.proofs.lemmas.Bool.{cases_lt}
+use Rattle.std.proofs.{Common.{◌≡◌, ℕ, ◌+◌, ◌≤◌, min, arith, inl, inr}, lemmas.Bool.cases_lt}
 use Rattle.lert_io.specs.Fault.{HasRisen, last_count}
 
 -- a count that rose in a call rose since an earlier moment

@@ -1,9 +1,8 @@
 -- Where a file leaves the header is decided by its first bytes.
-use Rattle.std.proofs.Common.{◌≡◌, ℕ, zero, suc, ◌<◌, ◌≤◌, ◌==◌, cond, nat_lt, Some, None, List, [], ◌∷◌, length, take, refl, sym, ap, ◌∙◌, arith, length-take}
-use Rattle.std.specs.Prelude.{if◌then◌else◌}
-use Rattle.std.proofs.lemmas.Bool.{lt-ltb, le-ltb}
+use Rattle.std.proofs.{Common.{◌≡◌, ℕ, zero, suc, ◌<◌, ◌≤◌, ◌==◌, cond, nat_lt, Some, None, List, [], ◌∷◌, length, take, refl, sym, ap, ◌∙◌, arith, length-take}, lemmas.Bool.{lt-ltb, le-ltb}}
 use Rattle.std.proofs.lemmas.List.{take_all, length-take-le}
-use Rattle.lert_spec.specs.Trace.{agreed}
+use Rattle.std.specs.Prelude.{if◌then◌else◌}
+use Rattle.lert_spec.specs.Agreed.{agreed}
 use Rattle.lert_journal.specs.Header.{magic, header_left}
 
 -- bytes past the text change nothing

@@ -1,9 +1,7 @@
 -- How many bytes a read of a packet hands out, beside the read of its record.
 use Rattle.std.proofs.Common.{ℕ, ◌≤◌, Err, arith}
 use Rattle.lert_base.specs.Packet.{Packet}
-use Rattle.lert_gatelog.specs.Cost.{read_cost}
-use Rattle.lert_gatelog.specs.declared.fault.LogFault.{LogFault}
-use Rattle.lert_gatelog.specs.declared.fault.LogFault.TheVariants.{Failed, Malformed}
+use Rattle.lert_gatelog.specs.{Cost.read_cost, declared.fault.LogFault.LogFault, declared.fault.LogFault.TheVariants.{Failed, Malformed}}
 use Rattle.lert_journal.specs.Cost.{entry_cost}
 
 -- a refused record costs the same

@@ -1,10 +1,8 @@
 -- The formats, computed on a journal of three keys 7 and on payloads that break them.
 use Rattle.std.proofs.Common.{◌≡◌, ℕ, List, [], ◌∷◌, ◌++◌, take, Some, None, refl}
 use Rattle.lert_base.specs.Packet.{Packet}
-use Rattle.lert_spec.specs.declared.numbers.Numbers.{Numbers}
-use Rattle.lert_spec.specs.Mix.{mix}
-use Rattle.lert_journal.specs.Header.{header, header_left, kept_in}
-use Rattle.lert_journal.specs.Payload.{payload_of, packet_in, left}
+use Rattle.lert_spec.specs.{declared.numbers.Numbers.Numbers, Mix.mix}
+use Rattle.lert_journal.specs.{Header.{header, header_left, kept_in}, Payload.{payload_of, packet_in, left}}
 
 -- settings with one cone, and with two
 abbrev alone : Numbers

@@ -1,10 +1,7 @@
 -- A header reads back as what it was written from.
-use Rattle.std.proofs.Common.{◌≡◌, ℕ, ◌<◌, ◌≤◌, ◌^◌, List, [], ◌++◌, length, take, drop, refl, sym, ap, arith, ◌∙◌}
-use Rattle.std.proofs.lemmas.List.{take_all}
-use Rattle.byteorder.specs.Endian.{little_number, little_bytes}
-use Rattle.byteorder.specs.Numbers.{little_number-reads_back}
-use Rattle.lert_spec.specs.declared.numbers.Numbers.{Numbers}
-use Rattle.lert_spec.specs.Limits.{IsInLimits}
+use Rattle.std.proofs.{Common.{◌≡◌, ℕ, ◌<◌, ◌≤◌, ◌^◌, List, [], ◌++◌, length, take, drop, refl, sym, ap, arith, ◌∙◌}, lemmas.List.take_all}
+use Rattle.byteorder.specs.{Endian.{little_number, little_bytes}, Numbers.little_number-reads_back}
+use Rattle.lert_spec.specs.{declared.numbers.Numbers.Numbers, Limits.IsInLimits}
 use Rattle.lert_journal.specs.Header.{magic, header, number_at, kept_in}
 
 pub begins : (s : Numbers) (cone : ℕ) → take 8 (header s cone) ≡ magic

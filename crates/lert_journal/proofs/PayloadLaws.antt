@@ -1,14 +1,11 @@
 -- The length of a payload, and the payloads of packets and of one more.
-use Rattle.std.proofs.Common.{◌≡◌, ℕ, ◌+◌, ◌*◌, List, [], ◌∷◌, ◌++◌, ◌⊎◌, length, map, refl, sym, ap, subst, arith}
+use Rattle.std.proofs.{Common.{◌≡◌, ℕ, ◌+◌, ◌*◌, List, [], ◌∷◌, ◌++◌, ◌⊎◌, length, map, refl, sym, ap, subst, arith}, lemmas.List.map-append}
 use Rattle.std.specs.Prelude.{flat_map}
-use Rattle.std.proofs.lemmas.List.{map-append}
 use Rattle.byteorder.specs.Endian.{little_bytes}
 use Rattle.lert_base.specs.Packet.{Packet}
-use Rattle.lert_gatelog.specs.Gated.{appendix, next_gate, IsGated}
-use Rattle.lert_gatelog.specs.Kept.{IsWithOrWithout}
+use Rattle.lert_gatelog.specs.{Gated.{appendix, next_gate, IsGated}, Kept.IsWithOrWithout}
 use Rattle.lert_gatelog.proofs.GatedLaws.{length_appendix}
-use Rattle.lert_journal.specs.Journal.{HasPacketsOrOneMore}
-use Rattle.lert_journal.specs.Payload.{payload_of}
+use Rattle.lert_journal.specs.{Journal.HasPacketsOrOneMore, Payload.payload_of}
 
 -- each key has eight bytes
 pub length_keys : (keys : List ℕ) → length (flat_map (little_bytes 8) keys) ≡ 8 * length keys

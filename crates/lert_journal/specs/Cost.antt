@@ -1,8 +1,7 @@
 -- How many bytes of a journal a read of a packet hands out at most.
 use Rattle.std.specs.Prelude.{ℕ, ◌+◌, Bool, true, false, Result, Ok, Err, length}
 use Rattle.lert_base.specs.Packet.{Packet}
-use Rattle.lert_gatelog.specs.declared.fault.LogFault.{LogFault}
-use Rattle.lert_gatelog.specs.declared.fault.LogFault.TheVariants.{Failed, Malformed}
+use Rattle.lert_gatelog.specs.{declared.fault.LogFault.LogFault, declared.fault.LogFault.TheVariants.{Failed, Malformed}}
 use Rattle.lert_journal.specs.Payload.{payload_of}
 
 -- the gate, the length and the payload of the record that gave this packet; gate and length where none came; and as many as the

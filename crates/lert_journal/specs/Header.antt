@@ -2,8 +2,7 @@
 use Rattle.std.specs.Prelude.{ℕ, List, [], ◌∷◌, ◌++◌, length, drop, slice_index, nat_lt, Option, Some, None, if◌then◌else◌}
 use Rattle.byteorder.specs.Endian.{little_number, little_bytes}
 use Rattle.lert_base.specs.declared.kept.Kept.{Kept}
-use Rattle.lert_spec.specs.declared.numbers.Numbers.{Numbers}
-use Rattle.lert_spec.specs.Trace.{agreed}
+use Rattle.lert_spec.specs.{declared.numbers.Numbers.Numbers, Agreed.agreed}
 
 -- the bytes that begin a journal: the letters LERTJ, and version 1
 abbrev pub magic : List ℕ

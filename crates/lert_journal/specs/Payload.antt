@@ -1,13 +1,10 @@
 -- The payload of a packet in a journal: who brings it and its trace, each in four bytes, and its keys, each in eight,
 -- the lowest byte first.
-use Rattle.std.specs.Prelude.{◌≡◌, ℕ, ◌+◌, ◌-◌, ◌*◌, ◌/◌, ◌%◌, ◌<◌, ◌≤◌, ◌==◌, ◌&&◌, nat_lt, not, Bool, List, length, drop, map, flat_map, ◌++◌}
-use Rattle.std.specs.Prelude.{All, Option, Some, option_map, if◌then◌else◌}
+use Rattle.std.specs.Prelude.{◌≡◌, ℕ, ◌+◌, ◌-◌, ◌*◌, ◌/◌, ◌%◌, ◌<◌, ◌≤◌, ◌==◌, ◌&&◌, nat_lt, not, Bool, List, length, drop, map, flat_map, ◌++◌, All, Option, Some, option_map, if◌then◌else◌}
 use Rattle.std.specs.List.{position_from, range_with_len}
 use Rattle.byteorder.specs.Endian.{little_number, little_bytes}
 use Rattle.lert_base.specs.Packet.{Packet}
-use Rattle.lert_spec.specs.declared.numbers.Numbers.{Numbers}
-use Rattle.lert_spec.specs.Limits.{lies}
-use Rattle.lert_spec.specs.Mix.{cone_of}
+use Rattle.lert_spec.specs.{declared.numbers.Numbers.Numbers, Limits.lies, Mix.cone_of}
 
 -- the payload of a packet
 abbrev pub payload_of : Packet → List ℕ

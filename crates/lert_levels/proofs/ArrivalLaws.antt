@@ -3,7 +3,8 @@ use Rattle.std.proofs.Common.{ℕ, ◌≡◌, ◌+◌, ◌-◌, ◌*◌, ◌/◌
 use Rattle.std.proofs.{Common.{arith, inl, inr, subst, flat_map, slice_range}, Math.Nat.{mul-suc, mul_comm, mul-mod_left}, lemmas.Bool.{cases_Bool, cases_eq, eq-eqb}}
 use Rattle.std.proofs.{lemmas.List.{get_or-map, length-map, length-take, get_or_append_left}, lemmas.List.Sums.sum_by-cons}
 use Rattle.std.specs.{Prelude.sum, List.All}
-use Rattle.lert_spec.specs.{declared.numbers.Numbers.Numbers, declared.piece.Piece.Piece, Bins.{Bin, tallied}, Edges.{span, edge, depth, capacity}, Limits.IsValid, Table.{count_of, IsTable}}
+use Rattle.lert_spec.specs.{declared.numbers.Numbers.Numbers, declared.piece.Piece.Piece, Bins.{Bin, tallied}, Edges.{span, edge, depth, capacity, tail_bits}, Limits.IsValid}
+use Rattle.lert_spec.specs.Table.{count_of, IsTable}
 use Rattle.lert_spec.proofs.{EdgeLaws.{steps, moves_by_one, deepest_within}, TallyLaws.IsTable-tallied}
 use Rattle.lert_levels.specs.{landing.Summed.{sums_of, AreTables}, declared.rows.bin_at.BinAt.BinAt, rows.Loading.{width_of, widths_in, held_in}, Merged.{streams_of, widths_of, Fills, AreBins}}
 use Rattle.lert_levels.specs.{Parts.{streams_to, oldest_stream, part_at, list_at, newest_in, in_part, part_table, HaveParts}, rows.Ranges.{Range, ranges, filled, young_bins}}
@@ -30,15 +31,15 @@ oldest_at h first rows young k e len below some =
     ∙ get_or-map h (get_or rows k []) 0 no_bin e (omega arith)
 
 -- one of some bins
-bins_at : (limit : ℕ) (widths : List ℕ) (lists : List (List Piece)) (k : ℕ) → AreBins limit widths lists → k < length lists → Fills limit (get_or widths k 0) (get_or lists k [])
-bins_at limit [] [] k are below = absurd (omega arith)
-bins_at limit [] (list ∷ lists) k are below = absurd are
-bins_at limit (width ∷ widths) [] k are below = absurd are
-bins_at limit (width ∷ widths) (list ∷ lists) zero are below = are.0
-bins_at limit (width ∷ widths) (list ∷ lists) (suc k) are below = bins_at limit widths lists k are.1 (omega arith)
+bins_at : (version limit : ℕ) (widths : List ℕ) (lists : List (List Piece)) (k : ℕ) → AreBins version limit widths lists → k < length lists → Fills version limit (get_or widths k 0) (get_or lists k [])
+bins_at version limit [] [] k are below = absurd (omega arith)
+bins_at version limit [] (list ∷ lists) k are below = absurd are
+bins_at version limit (width ∷ widths) [] k are below = absurd are
+bins_at version limit (width ∷ widths) (list ∷ lists) zero are below = are.0
+bins_at version limit (width ∷ widths) (list ∷ lists) (suc k) are below = bins_at version limit widths lists k are.1 (omega arith)
 
-pub tables_from_bins : (limit : ℕ) (widths : List ℕ) (lists : List (List Piece)) → AreBins limit widths lists → AreTables limit lists
-tables_from_bins limit widths lists are = λ k below. (bins_at limit widths lists k are below).given.table
+pub tables_from_bins : (version limit : ℕ) (widths : List ℕ) (lists : List (List Piece)) → AreBins version limit widths lists → AreTables limit lists
+tables_from_bins version limit widths lists are = λ k below. (bins_at version limit widths lists k are below).given.table
 
 -- the first of two or one
 pair_tables : (limit : ℕ) (oldest : List Piece) (others : List (List Piece)) → IsTable limit oldest → AreTables limit others → AreTables limit (oldest ∷ others)
@@ -127,7 +128,7 @@ module _ (s : Numbers) (valid : IsValid s) (m : ℕ) (first : 1 ≤ m) (fits : m
       let row = get_or some_rows k [] in
       let lists = streams_of young (tallied_in s events) some_rows in
       let new = arrived s m (k + 1) row in
-      let limit = 2 ^ (64 - s.cone_bits) in
+      let limit = 2 ^ tail_bits s in
       let oldest = oldest_holds events len k less in
       let low = slice_range events (edge s k (m - 1)) (edge s k m) in
       let below : k + 1 - 1 ≡ k = omega arith in

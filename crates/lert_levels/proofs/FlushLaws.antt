@@ -1,4 +1,5 @@
 -- What the merge of a flush or a scan makes, in the words of the cone's events.
+use Rattle.lert_levels.specs.OnDisk.{written}
 use Rattle.std.proofs.{Common.{ℕ, ◌≡◌, ◌-◌, ◌<◌, ◌≤◌, List, [], length, map, take, get_or, ap, ◌∙◌, arith, subst, slice_range}, lemmas.List.{length-map, get_or-map}}
 use Rattle.std.proofs.lemmas.List.FromFn.{get_or-map-range_with_len, length-map-range_with_len}
 use Rattle.lert_frames.specs.Place.{tail_limit}
@@ -21,7 +22,7 @@ made_at lists s m young rows made is k below =
 
 module _ (s : Numbers) (valid : IsValid s) (m : ℕ) (first : 1 ≤ m) (fits : m ≤ capacity s) (rows : List (List BinAt)) (at : IsAt s (m - 1) rows) (young : List Bin)
     (took : List Piece → Type 0) (frames : List ℕ → Type 0) (made : List (List Piece))
-    (is : IsMade s young (take (depth s m) rows) (parts_at s m (length young) (take (depth s m) rows)) took frames made) where
+    (is : IsMade s written young (take (depth s m) rows) (parts_at s m (length young) (take (depth s m) rows)) took frames made) where
   pub made_count : length made ≡ depth s m
   made_count =
       let parts = parts_at s m (length young) (take (depth s m) rows) in
@@ -30,13 +31,13 @@ module _ (s : Numbers) (valid : IsValid s) (m : ℕ) (first : 1 ≤ m) (fits : m
 
   -- what `totals` took is a table
   pub made_table : IsTable (tail_limit s) (sums_of is.lists)
-  made_table = IsTable-sums_of (tail_limit s) is.lists (tables_from_bins (tail_limit s) (widths_of young (take (depth s m) rows)) is.lists is.bins)
+  made_table = IsTable-sums_of (tail_limit s) is.lists (tables_from_bins written (tail_limit s) (widths_of young (take (depth s m) rows)) is.lists is.bins)
 
   -- where the frames hold the bins of the events, the lists are the counts of these
   lists_are : (file events : List ℕ) → frames file → AreRows s rows → AreEvents (record { settings = s; rows = rows }) m young events file →
       is.lists ≡ streams_of (young_bins s events (edge s 0 (m - 1))) (tallied_in s events) (take (depth s m) rows)
   lists_are file events here are of =
-      let stand = rows_stand s events (m - 1) rows file at are (omega (arith, of.len)) of.held (depth s m) (deep s valid m first fits rows at) in
+      let stand = rows_stand s written events (m - 1) rows file at are (omega (arith, of.len)) of.held (depth s m) (deep s valid m first fits rows at) in
       is.told file here (tallied_in s events) stand ∙ ap (λ bins. streams_of bins (tallied_in s events) (take (depth s m) rows)) of.young_are
 
   pub made_new : (file events : List ℕ) → frames file → AreRows s rows → AreEvents (record { settings = s; rows = rows }) m young events file →
@@ -52,7 +53,7 @@ module _ (s : Numbers) (valid : IsValid s) (m : ℕ) (first : 1 ≤ m) (fits : m
   pub made_totals : (file events : List ℕ) → frames file → AreRows s rows → AreEvents (record { settings = s; rows = rows }) m young events file →
       sums_of is.lists ≡ tallied s (slice_range events (lookback s m) m)
   made_totals file events here are of =
-      let tables = tables_from_bins (tail_limit s) (widths_of young (take (depth s m) rows)) is.lists is.bins in
+      let tables = tables_from_bins written (tail_limit s) (widths_of young (take (depth s m) rows)) is.lists is.bins in
       flush_totals s valid events m rows (sums_of is.lists) at of.len made_table
       (λ tail. count_of-sums_of (tail_limit s) is.lists tail tables ∙ ap (λ lists. count_in lists tail) (lists_are file events here are of))
 
@@ -67,15 +68,15 @@ module _ (s : Numbers) (valid : IsValid s) (m : ℕ) (first : 1 ≤ m) (fits : m
 -- ---- a scan
 
 module _ (s : Numbers) (valid : IsValid s) (rows : List (List BinAt)) (young : List Bin) (parts : List Part) (took : List Piece → Type 0) (frames : List ℕ → Type 0)
-    (made : List (List Piece)) (is : IsMade s young (take s.levels rows) parts took frames made) where
+    (made : List (List Piece)) (is : IsMade s written young (take s.levels rows) parts took frames made) where
   pub scan_took : (list : List Piece) × took list × IsTable (tail_limit s) list
-  scan_took = (sums_of is.lists, is.taken, IsTable-sums_of (tail_limit s) is.lists (tables_from_bins (tail_limit s) (widths_of young (take s.levels rows)) is.lists is.bins))
+  scan_took = (sums_of is.lists, is.taken, IsTable-sums_of (tail_limit s) is.lists (tables_from_bins written (tail_limit s) (widths_of young (take s.levels rows)) is.lists is.bins))
 
   -- where the frames hold the bins, `totals` took the counts of all events
   pub scan_taken : (file events : List ℕ) → frames file → AreRows s rows → AreAllEvents (record { settings = s; rows = rows }) young events file → took (tallied s events)
   scan_taken file events here are of =
-      let tables = tables_from_bins (tail_limit s) (widths_of young (take s.levels rows)) is.lists is.bins in
-      let stand = rows_stand s events (length events) rows file of.at are (omega arith) of.held s.levels (omega arith) in
+      let tables = tables_from_bins written (tail_limit s) (widths_of young (take s.levels rows)) is.lists is.bins in
+      let stand = rows_stand s written events (length events) rows file of.at are (omega arith) of.held s.levels (omega arith) in
       let lists = is.told file here (tallied_in s events) stand ∙ ap (λ bins. streams_of bins (tallied_in s events) (take s.levels rows)) of.young_are in
       subst took (scan_totals s valid events rows (sums_of is.lists) of.at of.fits (IsTable-sums_of (tail_limit s) is.lists tables)
       (λ tail. count_of-sums_of (tail_limit s) is.lists tail tables ∙ ap (λ ls. count_in ls tail) lists)) is.taken

@@ -7,7 +7,7 @@ use Rattle.lert_bay.specs.{declared.bay.TheConstants.FRAMES, Files.{Files, IfTol
 use Rattle.lert_frames.specs.{Frame.{HoldsFrame, frame_text}, Place.frame_len}
 use Rattle.lert_frames.proofs.{FrameLaws.text_within, PlaceLaws.places_apart}
 use Rattle.lert_spec.specs.{declared.numbers.Numbers.Numbers, declared.piece.Piece.Piece, Bins.tallied, Edges.{span, edge, depth}, Limits.IsValid}
-use Rattle.lert_spec.proofs.{Tables.count_le-total, TallyLaws.{IsTable-tallied, total-tallied}}
+use Rattle.lert_spec.proofs.{CostLaws.costs_to, Tables.count_le-total, TallyLaws.{IsTable-tallied, total-tallied}}
 use Rattle.lert_levels.specs.{declared.rows.bin_at.BinAt.BinAt, Flushed.{AreNew, InNamed}, rows.Landing.{LeavesRest, landing_frame, AreApart, AreLanded}, rows.Loading.{Stands, AllStand}}
 use Rattle.lert_levels.specs.rows.Rows.{row_of, IsAt, IsRow, AreRows, HoldsBins, times_named, kept, arrived, moved, tallied_in}
 use Rattle.lert_levels.proofs.{rows.LandLaws.{holds_stays, landing_within}, rows.RangeLaws.{IsCut, cuts_are, edge_within}, rows.RowLaws.{row_among, All-ranges, All-kept, row_of-moved, lowest_is_free}}
@@ -24,15 +24,15 @@ bins_end s n rows at level from within =
     λ k d below. (let cut = All-ranges (IsCut wide high) (row_of rows level) cuts k d below in omega (arith, cut.end, edge_within s (level - 1) n))
 
 -- the frames that hold the bins give them to a reader
-pub rows_stand : (s : Numbers) (events : List ℕ) (n : ℕ) (rows : List (List BinAt)) (file : List ℕ) → IsAt s n rows → AreRows s rows → n ≤ length events →
-    HoldsBins s events rows file → (d : ℕ) → d ≤ s.levels → AllStand s file (tallied_in s events) (take d rows)
-rows_stand s events n rows file at are within holds d deep k below =
+pub rows_stand : (s : Numbers) (version : ℕ) (events : List ℕ) (n : ℕ) (rows : List (List BinAt)) (file : List ℕ) → IsAt s n rows → AreRows s rows → n ≤ length events →
+    HoldsBins s version events rows file → (d : ℕ) → d ≤ s.levels → AllStand s version file (tallied_in s events) (take d rows)
+rows_stand s version events n rows file at are within holds d deep k below =
     let reached : k < d = omega (arith, length-take d rows) in
     let row_is = row_among rows d k reached in
     let level_within : k + 1 ≤ s.levels = omega arith in
     let ends = bins_end s n rows at (k + 1) (omega arith) level_within in
     let row = are.each (k + 1) (omega arith) level_within in
-    subst (All (Stands s (k + 1) file (tallied_in s events))) row_is
+    subst (All (Stands s version (k + 1) file (tallied_in s events))) row_is
     (λ i d' inside. (
     let bin = get_or (row_of rows (k + 1)) i d' in
     let end = ends i d' inside in
@@ -44,7 +44,8 @@ rows_stand s events n rows file at are within holds d deep k below =
           table = IsTable-tallied s (slice_range events bin.from bin.to);
           counts = λ j p here. omega (arith, count_le-total (tallied s (slice_range events bin.from bin.to)) j p here);
         };
-        summed = summed;
+        lower = omega (arith, costs_to version (tallied s (slice_range events bin.from bin.to)), summed);
+        upper = omega (arith, summed);
       };
       text = holds (k + 1) (omega arith) level_within i d' inside;
     }))
@@ -64,9 +65,9 @@ named_at (other ∷ row) (suc i) bin below is =
     omega (arith, sum_by-cons (λ (b : BinAt). cond {A = ℕ} (eqb b.frame bin.frame) 1 0) other row, named_at row i bin (omega arith) is)
 
 -- a range in a frame that is named lies apart from those that a flush writes
-pub named_apart : (s : Numbers) (m : ℕ) (rows : List (List BinAt)) → AreRows s rows → (d : ℕ) → d ≤ s.levels → (from to : ℕ) → InNamed s rows from to →
-    AreApart s m (take d rows) from to
-named_apart s m rows are d deep from to inside k below =
+pub named_apart : (s : Numbers) (version : ℕ) (m : ℕ) (rows : List (List BinAt)) → AreRows s rows → (d : ℕ) → d ≤ s.levels → (from to : ℕ) → InNamed s version rows from to →
+    AreApart s version m (take d rows) from to
+named_apart s version m rows are d deep from to inside k below =
     let reached : k < d = omega (arith, length-take d rows) in
     let row = get_or (take d rows) k [] in
     let row_is = row_among rows d k reached in
@@ -85,33 +86,33 @@ named_apart s m rows are d deep from to inside k below =
           let count = ap₂ times_named own twice in
           omega (arith, some, count, (lowest_is_free row).free))
     ] in
-    elim (places_apart s (k + 1) landing inside.level bin.frame (omega arith) landing_fits inside.first frame_fits differ) [
+    elim (places_apart s version (k + 1) landing inside.level bin.frame (omega arith) landing_fits inside.first frame_fits differ) [
       | inl before ↦ inl (omega (arith, before, inside.below))
       | inr behind ↦ inr (omega (arith, behind, inside.above))
     ]
 
 -- the text of a bin's counts fits its place
-text_fits : (s : Numbers) (events : List ℕ) (level : ℕ) (bin : BinAt) → IsValid s → level ≤ s.levels → bin.to - bin.from ≤ span s level →
-    length (frame_text s level (tallied_in s events bin)) ≤ frame_len s level
-text_fits s events level bin valid last narrow =
+text_fits : (s : Numbers) (version : ℕ) (events : List ℕ) (level : ℕ) (bin : BinAt) → IsValid s → level ≤ s.levels → bin.to - bin.from ≤ span s level →
+    length (frame_text s level (tallied_in s events bin)) ≤ frame_len s version level
+text_fits s version events level bin valid last narrow =
     let keys = slice_range events bin.from bin.to in
-    text_within s level (tallied s keys) valid last (IsTable-tallied s keys) (omega (arith, narrow, total-tallied s keys, length-take (bin.to - bin.from) (drop bin.from events)))
+    text_within s version level (tallied s keys) valid last (IsTable-tallied s keys) (omega (arith, narrow, costs_to version (tallied s keys), total-tallied s keys, length-take (bin.to - bin.from) (drop bin.from events)))
 
 -- after a flush the frames hold the bins of the rows as they are then
-pub holds_moved : (s : Numbers) (m : ℕ) (events : List ℕ) (rows : List (List BinAt)) (made : List (List Piece)) (old new : Files) → IsValid s → length rows ≡ s.levels →
-    AreRows s rows → HoldsBins s events rows (old FRAMES) → LeavesRest (InNamed s rows) old new →
-    length made ≡ depth s m → AreLanded s m (take (depth s m) rows) (new FRAMES) made (depth s m) → AreNew s m events (take (depth s m) rows) made →
-    HoldsBins s events (moved s m rows) (new FRAMES)
-holds_moved s m events rows made old new valid len are holds leaves count landed news level from within =
+pub holds_moved : (s : Numbers) (version : ℕ) (m : ℕ) (events : List ℕ) (rows : List (List BinAt)) (made : List (List Piece)) (old new : Files) → IsValid s → length rows ≡ s.levels →
+    AreRows s rows → HoldsBins s version events rows (old FRAMES) → LeavesRest (InNamed s version rows) old new →
+    length made ≡ depth s m → AreLanded s version m (take (depth s m) rows) (new FRAMES) made (depth s m) → AreNew s m events (take (depth s m) rows) made →
+    HoldsBins s version events (moved s m rows) (new FRAMES)
+holds_moved s version m events rows made old new valid len are holds leaves count landed news level from within =
     let row = row_of rows level in
     let d = depth s m in
-    let P : BinAt → Type 0 = λ bin. HoldsFrame s level bin.frame (new FRAMES) (tallied_in s events bin) in
+    let P : BinAt → Type 0 = λ bin. HoldsFrame s version level bin.frame (new FRAMES) (tallied_in s events bin) in
     let is = are.each level from within in
     let stay : All P row =
     λ i e below. (
     let bin = get_or row i e in
-    let fits = text_fits s events level bin valid within (is.widths i e below) in
-    holds_stays (InNamed s rows) old new s level bin.frame (tallied_in s events bin) leaves
+    let fits = text_fits s version events level bin valid within (is.widths i e below) in
+    holds_stays (InNamed s version rows) old new s version level bin.frame (tallied_in s events bin) leaves
     (record { level = level; first = from; last = within; bin = bin; named = Contains-get_or row i e below; above = omega arith; below = omega (arith, fits) })
     (holds level from within i e below)) in
     let written = kept s m level row ++ arrived s m level row ∷ [] in
@@ -125,19 +126,19 @@ holds_moved s m events rows made old new valid len are holds leaves count landed
           let own : get_or (take d rows) k [] ≡ row = get_or-take d rows k [] (omega arith) in
           let stands = landed k (omega arith) in
           let new_is = news k (omega arith) in
-          let both = subst (HoldsFrame s (k + 1) (landing_frame s m (take d rows) k) (new FRAMES)) new_is stands in
-          let at_row = subst (λ (r : List BinAt). HoldsFrame s (k + 1) (arrived s m (k + 1) r).frame (new FRAMES) (tallied_in s events (arrived s m (k + 1) r))) own both in
-          let here : P (arrived s m level row) = subst (λ (i : ℕ). HoldsFrame s i (arrived s m i row).frame (new FRAMES) (tallied_in s events (arrived s m i row))) up at_row in
+          let both = subst (HoldsFrame s version (k + 1) (landing_frame s m (take d rows) k) (new FRAMES)) new_is stands in
+          let at_row = subst (λ (r : List BinAt). HoldsFrame s version (k + 1) (arrived s m (k + 1) r).frame (new FRAMES) (tallied_in s events (arrived s m (k + 1) r))) own both in
+          let here : P (arrived s m level row) = subst (λ (i : ℕ). HoldsFrame s version i (arrived s m i row).frame (new FRAMES) (tallied_in s events (arrived s m i row))) up at_row in
           subst (λ t. All P (cond t row (drop dropped written))) (sym (le-ltb d level reached))
           (All-drop P dropped written (All-append P (kept s m level row) (arrived s m level row ∷ []) (All-kept P s m level row stay) (All-cons P (arrived s m level row) [] here (All-nil P)))))
     ])
 
 -- the frames after the new bins were written, as a bay tells them
-pub written_holds : (s : Numbers) (m : ℕ) (rows : List (List BinAt)) (made : List (List Piece)) (before after : Option Files) → IsValid s → length rows ≡ s.levels →
-    AreRows s rows → length made ≡ depth s m → Turns (LeavesRest (InNamed s rows)) before after →
-    IfTold after (λ seen. AreLanded s m (take (depth s m) rows) (seen FRAMES) made (depth s m)) → (seen : Files) → before ≡ Some seen → (events : List ℕ) →
-    HoldsBins s events rows (seen FRAMES) → AreNew s m events (take (depth s m) rows) made → IfTold after (λ then. HoldsBins s events (moved s m rows) (then FRAMES))
-written_holds s m rows made before after valid len are count turned landed seen told events holds news then then_told =
+pub written_holds : (s : Numbers) (version : ℕ) (m : ℕ) (rows : List (List BinAt)) (made : List (List Piece)) (before after : Option Files) → IsValid s → length rows ≡ s.levels →
+    AreRows s rows → length made ≡ depth s m → Turns (LeavesRest (InNamed s version rows)) before after →
+    IfTold after (λ seen. AreLanded s version m (take (depth s m) rows) (seen FRAMES) made (depth s m)) → (seen : Files) → before ≡ Some seen → (events : List ℕ) →
+    HoldsBins s version events rows (seen FRAMES) → AreNew s m events (take (depth s m) rows) made → IfTold after (λ then. HoldsBins s version events (moved s m rows) (then FRAMES))
+written_holds s version m rows made before after valid len are count turned landed seen told events holds news then then_told =
     let step = turned.told seen told in
     let same : step.0 ≡ then = cc in
-    holds_moved s m events rows made seen then valid len are holds (subst (λ (f : Files). LeavesRest (InNamed s rows) seen f) same step.2) count (landed then then_told) news
+    holds_moved s version m events rows made seen then valid len are holds (subst (λ (f : Files). LeavesRest (InNamed s version rows) seen f) same step.2) count (landed then then_told) news

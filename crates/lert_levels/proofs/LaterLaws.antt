@@ -17,8 +17,8 @@ IsAt-none s = record {
 }
 
 -- and each frame holds what it is to hold
-pub HoldsBins-none : (s : Numbers) (events file : List ℕ) → HoldsBins s events (replicate s.levels []) file
-HoldsBins-none s events file level from within k d below = absurd (omega (arith, ap (length {A = BinAt}) (row_of-none s.levels level)))
+pub HoldsBins-none : (s : Numbers) (version : ℕ) (events file : List ℕ) → HoldsBins s version events (replicate s.levels []) file
+HoldsBins-none s version events file level from within k d below = absurd (omega (arith, ap (length {A = BinAt}) (row_of-none s.levels level)))
 
 -- at a position that is no flush position the rows stay those of the levels
 pub IsAt-still : (s : Numbers) → 1 ≤ s.base → 1 ≤ s.ratio → (m : ℕ) (rows : List (List BinAt)) → edge s 0 m ≡ edge s 0 (m - 1) → IsAt s (m - 1) rows → IsAt s m rows
@@ -33,10 +33,10 @@ IsAt-still s base ratio m rows stays at =
     }
 
 -- with later events behind them the frames hold the same
-pub HoldsBins-append : (s : Numbers) (n : ℕ) (events others : List ℕ) (rows : List (List BinAt)) (file : List ℕ) → IsAt s n rows → n ≤ length events →
-    HoldsBins s events rows file → HoldsBins s (events ++ others) rows file
-HoldsBins-append s n events others rows file at within holds level from last k d below =
+pub HoldsBins-append : (s : Numbers) (version : ℕ) (n : ℕ) (events others : List ℕ) (rows : List (List BinAt)) (file : List ℕ) → IsAt s n rows → n ≤ length events →
+    HoldsBins s version events rows file → HoldsBins s version (events ++ others) rows file
+HoldsBins-append s version n events others rows file at within holds level from last k d below =
     let ends = bins_end s n rows at level from last k d below in
     let bin = slice_index_or (row_of rows level) k d in
     let same : tallied_in s events bin ≡ tallied_in s (events ++ others) bin = ap (tallied s) (sym (slice_range-append events others bin.from bin.to (omega arith))) in
-    subst (HoldsFrame s level bin.frame file) same (holds level from last k d below)
+    subst (HoldsFrame s version level bin.frame file) same (holds level from last k d below)

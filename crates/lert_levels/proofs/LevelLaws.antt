@@ -1,5 +1,5 @@
 -- The levels on disk, once their rows are others.
-use Rattle.std.proofs.Common.{ℕ, ◌≡◌, ◌-◌, ◌+◌, ◌<◌, ◌≤◌, List, ◌++◌, length, take, drop, ap, sym, ◌∙◌, arith, subst}
+use Rattle.std.proofs.Common.{ℕ, ◌≡◌, ◌-◌, ◌<◌, ◌≤◌, List, ◌++◌, length, take, drop, ap, sym, ◌∙◌, arith, subst}
 use Rattle.lert_frames.specs.declared.reader.FrameReader.{FrameReader}
 use Rattle.lert_spec.specs.{declared.numbers.Numbers.Numbers, Edges.capacity, Limits.IsValid}
 use Rattle.lert_levels.specs.{declared.rows.bin_at.BinAt.BinAt, rows.Rows.{IsAt, AreRows, directory_text, moved}, OnDisk.{OnDisk, AreKept}}

@@ -68,23 +68,23 @@ any_named P young rows any = in_rows P 1 rows (⊎_elim (λ never. absurd (no_yo
 
 -- ---- where one leaves its format
 
-begun_leaves : (s : Numbers) (some : List Source) (bins : List Stream) (k at : ℕ) (told : Option Files) (seen : Files) → told ≡ Some seen → AreBegun s some bins → LeavesIn told bins k at →
-    AnyOf (λ p. frame_left s p.level p.bin.frame (width_of p.bin) (seen FRAMES) ≡ Some at) some
-begun_leaves s some [] k at told seen told_is are leaves = absurd leaves
-begun_leaves s (of_bin p ∷ some) (of_frame r ∷ bins) zero at told seen told_is are leaves = inl (sym (are.0.left (seen FRAMES)) ∙ leaves seen told_is)
-begun_leaves s (of_young bin ∷ some) (of_table table ∷ bins) zero at told seen told_is are leaves = absurd leaves
-begun_leaves s (of_bin p ∷ some) (of_frame r ∷ bins) (suc k) at told seen told_is are leaves = inr (begun_leaves s some bins k at told seen told_is are.1 leaves)
-begun_leaves s (of_young bin ∷ some) (of_table table ∷ bins) (suc k) at told seen told_is are leaves = begun_leaves s some bins k at told seen told_is are.1 leaves
-begun_leaves s (of_young bin ∷ some) (of_frame r ∷ bins) k at told seen told_is are leaves = absurd are.0
-begun_leaves s (of_bin p ∷ some) (of_table table ∷ bins) k at told seen told_is are leaves = absurd are.0
-begun_leaves s [] (b ∷ bins) k at told seen told_is are leaves = absurd are
+begun_leaves : (s : Numbers) (version : ℕ) (some : List Source) (bins : List Stream) (k at : ℕ) (told : Option Files) (seen : Files) → told ≡ Some seen → AreBegun s version some bins → LeavesIn told bins k at →
+    AnyOf (λ p. frame_left s version p.level p.bin.frame (width_of p.bin) (seen FRAMES) ≡ Some at) some
+begun_leaves s version some [] k at told seen told_is are leaves = absurd leaves
+begun_leaves s version (of_bin p ∷ some) (of_frame r ∷ bins) zero at told seen told_is are leaves = inl (sym (are.0.left (seen FRAMES)) ∙ leaves seen told_is)
+begun_leaves s version (of_young bin ∷ some) (of_table table ∷ bins) zero at told seen told_is are leaves = absurd leaves
+begun_leaves s version (of_bin p ∷ some) (of_frame r ∷ bins) (suc k) at told seen told_is are leaves = inr (begun_leaves s version some bins k at told seen told_is are.1 leaves)
+begun_leaves s version (of_young bin ∷ some) (of_table table ∷ bins) (suc k) at told seen told_is are leaves = begun_leaves s version some bins k at told seen told_is are.1 leaves
+begun_leaves s version (of_young bin ∷ some) (of_frame r ∷ bins) k at told seen told_is are leaves = absurd are.0
+begun_leaves s version (of_bin p ∷ some) (of_table table ∷ bins) k at told seen told_is are leaves = absurd are.0
+begun_leaves s version [] (b ∷ bins) k at told seen told_is are leaves = absurd are
 
 -- it is one of the rows' bins
-pub begun_breaks : (s : Numbers) (young : List Bin) (rows : List (List BinAt)) (bins : List Stream) (k at : ℕ) (told : Option Files) (seen : Files) → told ≡ Some seen →
-    AreBegun s (sources young rows) bins → LeavesIn told bins k at → OneBreaks s rows (seen FRAMES) at
-begun_breaks s young rows bins k at told seen told_is are leaves =
-    let P : Placed → Type 0 = λ p. frame_left s p.level p.bin.frame (width_of p.bin) (seen FRAMES) ≡ Some at in
-    let found = any_named P young rows (begun_leaves s (sources young rows) bins k at told seen told_is are leaves) in
+pub begun_breaks : (s : Numbers) (version : ℕ) (young : List Bin) (rows : List (List BinAt)) (bins : List Stream) (k at : ℕ) (told : Option Files) (seen : Files) → told ≡ Some seen →
+    AreBegun s version (sources young rows) bins → LeavesIn told bins k at → OneBreaks s version rows (seen FRAMES) at
+begun_breaks s version young rows bins k at told seen told_is are leaves =
+    let P : Placed → Type 0 = λ p. frame_left s version p.level p.bin.frame (width_of p.bin) (seen FRAMES) ≡ Some at in
+    let found = any_named P young rows (begun_leaves s version (sources young rows) bins k at told seen told_is are leaves) in
     let same : 1 + found.number ≡ found.number + 1 = omega arith in
     record {
       number = found.number;
@@ -92,38 +92,38 @@ begun_breaks s young rows bins k at told seen told_is are leaves =
       breaks = record {
         bin = found.bin;
         named = found.named;
-        breaks = record { left = subst (λ l. frame_left s l found.bin.frame (width_of found.bin) (seen FRAMES) ≡ Some at) same found.is };
+        breaks = record { left = subst (λ l. frame_left s version l found.bin.frame (width_of found.bin) (seen FRAMES) ≡ Some at) same found.is };
       };
     }
 
 -- ---- what is read
 
 -- a range within the place of a bin
-abbrev pub StandsAt : Numbers → ℕ → ℕ → Placed → Type 0
-StandsAt s from to p = (frame_place s p.level p.bin.frame ≤ from) × (to ≤ frame_place s p.level p.bin.frame + frame_len s p.level)
+abbrev pub StandsAt : Numbers → ℕ → ℕ → ℕ → Placed → Type 0
+StandsAt s version from to p = (frame_place s version p.level p.bin.frame ≤ from) × (to ≤ frame_place s version p.level p.bin.frame + frame_len s version p.level)
 
-reader_end : (s : Numbers) (p : Placed) (r : FrameReader) → IsReaderOf s p r → r.place + frame_len r.settings r.level ≡ frame_place s p.level p.bin.frame + frame_len s p.level
-reader_end s p r is = λ i. is.place i + frame_len (is.of_settings i) (is.of_level i)
+reader_end : (s : Numbers) (version : ℕ) (p : Placed) (r : FrameReader) → IsReaderOf s version p r → r.place + frame_len r.settings r.version r.level ≡ frame_place s version p.level p.bin.frame + frame_len s version p.level
+reader_end s version p r is = λ i. is.place i + frame_len (is.of_settings i) (is.of_version i) (is.of_level i)
 
-begun_stands : (s : Numbers) (some : List Source) (bins : List Stream) (from to : ℕ) → AreBegun s some bins → Reads bins from to → AnyOf (StandsAt s from to) some
-begun_stands s some [] from to are reads = absurd reads
-begun_stands s (of_bin p ∷ some) (of_frame r ∷ bins) from to are reads = elim reads [
-  | inl here ↦ inl (omega (arith, here.0, are.0.place), omega (arith, here.1, reader_end s p r are.0))
-  | inr later ↦ inr (begun_stands s some bins from to are.1 later)
+begun_stands : (s : Numbers) (version : ℕ) (some : List Source) (bins : List Stream) (from to : ℕ) → AreBegun s version some bins → Reads bins from to → AnyOf (StandsAt s version from to) some
+begun_stands s version some [] from to are reads = absurd reads
+begun_stands s version (of_bin p ∷ some) (of_frame r ∷ bins) from to are reads = elim reads [
+  | inl here ↦ inl (omega (arith, here.0, are.0.place), omega (arith, here.1, reader_end s version p r are.0))
+  | inr later ↦ inr (begun_stands s version some bins from to are.1 later)
 ]
-begun_stands s (of_young bin ∷ some) (of_table table ∷ bins) from to are reads = elim reads [
+begun_stands s version (of_young bin ∷ some) (of_table table ∷ bins) from to are reads = elim reads [
   | inl here ↦ absurd here
-  | inr later ↦ begun_stands s some bins from to are.1 later
+  | inr later ↦ begun_stands s version some bins from to are.1 later
 ]
-begun_stands s (of_young bin ∷ some) (of_frame r ∷ bins) from to are reads = absurd are.0
-begun_stands s (of_bin p ∷ some) (of_table table ∷ bins) from to are reads = absurd are.0
-begun_stands s [] (b ∷ bins) from to are reads = absurd are
+begun_stands s version (of_young bin ∷ some) (of_frame r ∷ bins) from to are reads = absurd are.0
+begun_stands s version (of_bin p ∷ some) (of_table table ∷ bins) from to are reads = absurd are.0
+begun_stands s version [] (b ∷ bins) from to are reads = absurd are
 
 -- it stands in a frame that is named
-pub begun_reads : (s : Numbers) (young : List Bin) (rows : List (List BinAt)) (bins : List Stream) (from to : ℕ) → length rows ≤ s.levels →
-    AreBegun s (sources young rows) bins → Reads bins from to → InNamed s rows from to
-begun_reads s young rows bins from to few are reads =
-    let found = any_named (StandsAt s from to) young rows (begun_stands s (sources young rows) bins from to are reads) in
+pub begun_reads : (s : Numbers) (version : ℕ) (young : List Bin) (rows : List (List BinAt)) (bins : List Stream) (from to : ℕ) → length rows ≤ s.levels →
+    AreBegun s version (sources young rows) bins → Reads bins from to → InNamed s version rows from to
+begun_reads s version young rows bins from to few are reads =
+    let found = any_named (StandsAt s version from to) young rows (begun_stands s version (sources young rows) bins from to are reads) in
     let within = found.within in
     let same : 1 + found.number ≡ found.number + 1 = omega arith in
     let place : found.number ≡ found.number + 1 - 1 = omega arith in
@@ -133,8 +133,8 @@ begun_reads s young rows bins from to few are reads =
       last = omega (arith, within, few);
       bin = found.bin;
       named = subst (λ (k : ℕ). Contains (get_or rows k []) found.bin) place found.named;
-      above = subst (λ l. frame_place s l found.bin.frame ≤ from) same found.is.0;
-      below = subst (λ l. to ≤ frame_place s l found.bin.frame + frame_len s l) same found.is.1;
+      above = subst (λ l. frame_place s version l found.bin.frame ≤ from) same found.is.0;
+      below = subst (λ l. to ≤ frame_place s version l found.bin.frame + frame_len s version l) same found.is.1;
     }
 
 past_end : (xs : List (List BinAt)) (k : ℕ) → length xs ≤ k → get_or xs k [] ≡ []
@@ -143,8 +143,8 @@ past_end (x ∷ xs) zero past = absurd (omega (arith, past))
 past_end (x ∷ xs) (suc k) past = past_end xs k (omega (arith, past))
 
 -- a frame that the first rows name is named
-pub named_more : (s : Numbers) (rows : List (List BinAt)) (d from to : ℕ) → length rows ≡ s.levels → InNamed s (take d rows) from to → InNamed s rows from to
-named_more s rows d from to len inside = record {
+pub named_more : (s : Numbers) (version : ℕ) (rows : List (List BinAt)) (d from to : ℕ) → length rows ≡ s.levels → InNamed s version (take d rows) from to → InNamed s version rows from to
+named_more s version rows d from to len inside = record {
   level = inside.level;
   first = inside.first;
   last = inside.last;
@@ -173,26 +173,26 @@ all_young : (P : Placed → Type 0) (young : List Bin) → AllOf P (map of_young
 all_young P [] = tt
 all_young P (bin ∷ young) = all_young P young
 
-sure_one : (s : Numbers) (file : List ℕ) (p : Placed) (r : FrameReader) → IsReaderOf s p r → IsSecure s file p → IsSureBin (of_frame r) file
-sure_one s file p r is secure = elim secure [
-  | inl long ↦ inl (omega (arith, long, reader_end s p r is))
+sure_one : (s : Numbers) (version : ℕ) (file : List ℕ) (p : Placed) (r : FrameReader) → IsReaderOf s version p r → IsSecure s version file p → IsSureBin (of_frame r) file
+sure_one s version file p r is secure = elim secure [
+  | inl long ↦ inl (omega (arith, long, reader_end s version p r is))
   | inr whole ↦ inr (is.left file ∙ whole)
 ]
 
-begun_sure_of : (s : Numbers) (file : List ℕ) (some : List Source) (bins : List Stream) → AreBegun s some bins → AllOf (IsSecure s file) some → AreSure bins file
-begun_sure_of s file [] [] are secure = tt
-begun_sure_of s file (of_bin p ∷ some) (of_frame r ∷ bins) are secure = (sure_one s file p r are.0 secure.0, begun_sure_of s file some bins are.1 secure.1)
-begun_sure_of s file (of_young bin ∷ some) (of_table table ∷ bins) are secure = (tt, begun_sure_of s file some bins are.1 secure)
-begun_sure_of s file (of_young bin ∷ some) (of_frame r ∷ bins) are secure = absurd are.0
-begun_sure_of s file (of_bin p ∷ some) (of_table table ∷ bins) are secure = absurd are.0
-begun_sure_of s file [] (b ∷ bins) are secure = absurd are
-begun_sure_of s file (x ∷ some) [] are secure = absurd are
+begun_sure_of : (s : Numbers) (version : ℕ) (file : List ℕ) (some : List Source) (bins : List Stream) → AreBegun s version some bins → AllOf (IsSecure s version file) some → AreSure bins file
+begun_sure_of s version file [] [] are secure = tt
+begun_sure_of s version file (of_bin p ∷ some) (of_frame r ∷ bins) are secure = (sure_one s version file p r are.0 secure.0, begun_sure_of s version file some bins are.1 secure.1)
+begun_sure_of s version file (of_young bin ∷ some) (of_table table ∷ bins) are secure = (tt, begun_sure_of s version file some bins are.1 secure)
+begun_sure_of s version file (of_young bin ∷ some) (of_frame r ∷ bins) are secure = absurd are.0
+begun_sure_of s version file (of_bin p ∷ some) (of_table table ∷ bins) are secure = absurd are.0
+begun_sure_of s version file [] (b ∷ bins) are secure = absurd are
+begun_sure_of s version file (x ∷ some) [] are secure = absurd are
 
 -- secure frames are sure
-pub begun_sure : (s : Numbers) (file : List ℕ) (young : List Bin) (rows : List (List BinAt)) (bins : List Stream) → AreBegun s (sources young rows) bins → AreSecure s file 1 rows →
+pub begun_sure : (s : Numbers) (version : ℕ) (file : List ℕ) (young : List Bin) (rows : List (List BinAt)) (bins : List Stream) → AreBegun s version (sources young rows) bins → AreSecure s version file 1 rows →
     AreSure bins file
-begun_sure s file young rows bins are secure =
-    begun_sure_of s file (sources young rows) bins are (all_append (IsSecure s file) (map of_young young) (map of_bin (placed 1 rows)) (all_young (IsSecure s file) young) secure)
+begun_sure s version file young rows bins are secure =
+    begun_sure_of s version file (sources young rows) bins are (all_append (IsSecure s version file) (map of_young young) (map of_bin (placed 1 rows)) (all_young (IsSecure s version file) young) secure)
 
 -- ---- row by row
 
@@ -234,39 +234,40 @@ rows_more P rows i now here below so_far this =
 
 -- ---- frames that are begun
 
-begins_reader : (s : Numbers) (old new : BinSet) (level frame width : ℕ) (bin : BinAt) → old.settings ≡ s → frame ≡ bin.frame → width ≡ width_of bin →
-    (begins : Begins old new level frame width) → IsReaderOf s (placed_at level bin) begins.reader
-begins_reader s old new level frame width bin settings frame_is width_is begins = record {
-  left = λ file. begins.left file ∙ (λ i. frame_left (settings i) level (frame_is i) (width_is i) file);
-  pieces = λ file. begins.pieces file ∙ (λ i. frame_pieces (settings i) level (frame_is i) file);
+begins_reader : (s : Numbers) (version : ℕ) (old new : BinSet) (level frame width : ℕ) (bin : BinAt) → old.settings ≡ s → old.version ≡ version → frame ≡ bin.frame → width ≡ width_of bin →
+    (begins : Begins old new level frame width) → IsReaderOf s version (placed_at level bin) begins.reader
+begins_reader s version old new level frame width bin settings version_is frame_is width_is begins = record {
+  left = λ file. begins.left file ∙ (λ i. frame_left (settings i) (version_is i) level (frame_is i) (width_is i) file);
+  pieces = λ file. begins.pieces file ∙ (λ i. frame_pieces (settings i) (version_is i) level (frame_is i) file);
   gave = begins.gave;
   of_settings = begins.of_settings ∙ settings;
+  of_version = begins.of_version ∙ version_is;
   of_level = begins.of_level;
-  place = begins.place ∙ (λ i. frame_place (settings i) level (frame_is i));
+  place = begins.place ∙ (λ i. frame_place (settings i) (version_is i) level (frame_is i));
   wide = begins.wide ∙ width_is;
 }
 
 -- one more of a row
-pub begun_bin : (s : Numbers) (before : List Source) (row : List BinAt) (i : ℕ) (d : BinAt) (old new : BinSet) (level frame width : ℕ) → i < length row → old.settings ≡ s →
+pub begun_bin : (s : Numbers) (version : ℕ) (before : List Source) (row : List BinAt) (i : ℕ) (d : BinAt) (old new : BinSet) (level frame width : ℕ) → i < length row → old.settings ≡ s → old.version ≡ version →
     frame ≡ (get_or row i d).frame → width ≡ width_of (get_or row i d) → Begins old new level frame width →
-    AreBegun s (before ++ map of_bin (map (placed_at level) (take i row))) old.bins → AreBegun s (before ++ map of_bin (map (placed_at level) (take (i + 1) row))) new.bins
-begun_bin s before row i d old new level frame width below settings frame_is width_is begins so_far =
+    AreBegun s version (before ++ map of_bin (map (placed_at level) (take i row))) old.bins → AreBegun s version (before ++ map of_bin (map (placed_at level) (take (i + 1) row))) new.bins
+begun_bin s version before row i d old new level frame width below settings version_is frame_is width_is begins so_far =
     let bin = get_or row i d in
     let some = map of_bin (map (placed_at level) (take i row)) in
     let more : before ++ map of_bin (map (placed_at level) (take (i + 1) row)) ≡ (before ++ some) ++ of_bin (placed_at level bin) ∷ [] =
     ap (λ ps. before ++ map of_bin ps) (map_more (placed_at level) row i d below)
     ∙ ap (λ xs. before ++ xs) (map-append of_bin (map (placed_at level) (take i row)) (placed_at level bin ∷ []))
     ∙ sym (append_assoc before some (of_bin (placed_at level bin) ∷ [])) in
-    let reader = begins_reader s old new level frame width bin settings frame_is width_is begins in
-    subst (λ (xs : List Source). AreBegun s xs new.bins) (sym more)
-    (subst (AreBegun s ((before ++ some) ++ of_bin (placed_at level bin) ∷ [])) (sym begins.bins)
-    (begun_more s (before ++ some) (of_bin (placed_at level bin) ∷ []) old.bins (of_frame begins.reader ∷ []) so_far (reader, tt)))
+    let reader = begins_reader s version old new level frame width bin settings version_is frame_is width_is begins in
+    subst (λ (xs : List Source). AreBegun s version xs new.bins) (sym more)
+    (subst (AreBegun s version ((before ++ some) ++ of_bin (placed_at level bin) ∷ [])) (sym begins.bins)
+    (begun_more s version (before ++ some) (of_bin (placed_at level bin) ∷ []) old.bins (of_frame begins.reader ∷ []) so_far (reader, tt)))
 
 -- one level more
-pub begun_row : (s : Numbers) (before : List Source) (rows : List (List BinAt)) (i : ℕ) (now : List BinAt) (bins : List Stream) → get_or rows i [] ≡ now → i < length rows →
-    AreBegun s ((before ++ map of_bin (placed 1 (take i rows))) ++ map of_bin (map (placed_at (i + 1)) now)) bins → AreBegun s (before ++ map of_bin (placed 1 (take (i + 1) rows))) bins
-begun_row s before rows i now bins here below are =
-    subst (λ (xs : List Source). AreBegun s xs bins)
+pub begun_row : (s : Numbers) (version : ℕ) (before : List Source) (rows : List (List BinAt)) (i : ℕ) (now : List BinAt) (bins : List Stream) → get_or rows i [] ≡ now → i < length rows →
+    AreBegun s version ((before ++ map of_bin (placed 1 (take i rows))) ++ map of_bin (map (placed_at (i + 1)) now)) bins → AreBegun s version (before ++ map of_bin (placed 1 (take (i + 1) rows))) bins
+begun_row s version before rows i now bins here below are =
+    subst (λ (xs : List Source). AreBegun s version xs bins)
     (append_assoc before (map of_bin (placed 1 (take i rows))) (map of_bin (map (placed_at (i + 1)) now)) ∙ ap (λ xs. before ++ xs) (sym (placed_row rows i now here below))) are
 
 -- ---- a frame that is broken
@@ -295,21 +296,21 @@ all_of_rows P level (row ∷ rows) k bin below named all =
     ] below named
 
 -- one that is secure stays broken where other places were written
-pub breaks_stay : (s : Numbers) (rows : List (List BinAt)) (old new : Files) (at : ℕ) → AreSecure s (old FRAMES) 1 rows →
-    (kept : ℕ → ℕ → Type 0) → ((from to : ℕ) → InNamed s rows from to → kept from to) →
-    length rows ≤ s.levels → LeavesRest kept old new → OneBreaks s rows (old FRAMES) at → OneBreaks s rows (new FRAMES) at
-breaks_stay s rows old new at secure kept apart few leaves breaks =
+pub breaks_stay : (s : Numbers) (version : ℕ) (rows : List (List BinAt)) (old new : Files) (at : ℕ) → AreSecure s version (old FRAMES) 1 rows →
+    (kept : ℕ → ℕ → Type 0) → ((from to : ℕ) → InNamed s version rows from to → kept from to) →
+    length rows ≤ s.levels → LeavesRest kept old new → OneBreaks s version rows (old FRAMES) at → OneBreaks s version rows (new FRAMES) at
+breaks_stay s version rows old new at secure kept apart few leaves breaks =
     let row = breaks.breaks in
     let bin = row.bin in
     let level = breaks.number + 1 in
     let within = breaks.within in
     let same : 1 + breaks.number ≡ level = omega arith in
     let place_is : breaks.number ≡ level - 1 = omega arith in
-    let here : IsSecure s (old FRAMES) (placed_at level bin) =
-    subst (λ l. IsSecure s (old FRAMES) (placed_at l bin)) same (all_of_rows (IsSecure s (old FRAMES)) 1 rows breaks.number bin within row.named secure) in
-    let place = frame_place s level bin.frame in
-    let len = frame_len s level in
-    let inside : InNamed s rows place (min (place + len) (length (old FRAMES))) = record {
+    let here : IsSecure s version (old FRAMES) (placed_at level bin) =
+    subst (λ l. IsSecure s version (old FRAMES) (placed_at l bin)) same (all_of_rows (IsSecure s version (old FRAMES)) 1 rows breaks.number bin within row.named secure) in
+    let place = frame_place s version level bin.frame in
+    let len = frame_len s version level in
+    let inside : InNamed s version rows place (min (place + len) (length (old FRAMES))) = record {
       level = level;
       first = omega arith;
       last = omega (arith, within, few);
@@ -328,6 +329,6 @@ breaks_stay s rows old new at secure kept apart few leaves breaks =
       breaks = record {
         bin = bin;
         named = row.named;
-        breaks = record { left = frame_stays s level bin.frame (width_of bin) (old FRAMES) (new FRAMES) here stays ∙ row.breaks.left };
+        breaks = record { left = frame_stays s version level bin.frame (width_of bin) (old FRAMES) (new FRAMES) here stays ∙ row.breaks.left };
       };
     }

@@ -1,4 +1,5 @@
 -- The rows that a flush reaches, and what an answer says of their frames.
+use Rattle.lert_levels.specs.OnDisk.{written}
 use Rattle.std.proofs.{Common.{ℕ, ◌≡◌, ◌+◌, ◌-◌, ◌<◌, ◌≤◌, List, length, take, Option, Some, refl, sym, ◌∙◌, arith, subst, Result, length-take}, lemmas.Option.none-some}
 use Rattle.std.specs.{Prelude.{Ok, Err, IfErr, IsErrAnd, OnOk, MatchResult, IsSomeAnd}, List.All}
 use Rattle.lert_bay.specs.{declared.bay.TheConstants.FRAMES, Files.{Files, IfTold, Turns}}
@@ -20,35 +21,36 @@ turned P s t rows others settings same is = subst (P s) same (subst (λ (n : Num
 
 -- ---- a flush
 
-module _ (s : Numbers) (valid : IsValid s) (m : ℕ) (first : 1 ≤ m) (fits : m ≤ capacity s) (rows : List (List BinAt)) (at : IsAt s (m - 1) rows) (are : AreRows s rows) where
+module _ (s : Numbers) (version : ℕ) (valid : IsValid s) (m : ℕ) (first : 1 ≤ m) (fits : m ≤ capacity s) (rows : List (List BinAt)) (at : IsAt s (m - 1) rows) (are : AreRows s rows) where
   pub reached_first : AreFirst s (take (depth s m) rows)
   reached_first = first_rows s rows are (depth s m) (deep s valid m first fits rows at)
 
   -- a range in a frame that is named lies apart from those that it writes
-  pub apart : (from to : ℕ) → InNamed s rows from to → AreApart s m (take (depth s m) rows) from to
-  apart = named_apart s m rows are (depth s m) (deep s valid m first fits rows at)
+  pub apart : (from to : ℕ) → InNamed s version rows from to → AreApart s version m (take (depth s m) rows) from to
+  apart = named_apart s version m rows are (depth s m) (deep s valid m first fits rows at)
 
   -- the rows that it reaches make up the new bins
-  pub reached_are : (young : List Bin) → 1 ≤ length young → All (λ (bin : Bin). bin.to - bin.from ≤ span s 0) young → AreReached s m young (take (depth s m) rows)
+  pub reached_are : (young : List Bin) → 1 ≤ length young → All (λ (bin : Bin). bin.to - bin.from ≤ span s 0) young → AreReached s version m young (take (depth s m) rows)
   reached_are young some narrow = record {
     some = some;
     narrow = narrow;
     are = reached_first;
     parts = parts_have s valid m first fits rows at;
     fits = λ k below. part_widths s valid m first fits rows at young some narrow k (omega (arith, below, length-take (depth s m) rows));
-    apart = λ from to inside. apart from to (named_more s rows (depth s m) from to are.levels inside);
+    apart = λ from to inside. apart from to (named_more s version rows (depth s m) from to are.levels inside);
   }
 
+module _ (s : Numbers) (valid : IsValid s) (m : ℕ) (first : 1 ≤ m) (fits : m ≤ capacity s) (rows : List (List BinAt)) (at : IsAt s (m - 1) rows) (are : AreRows s rows) where
   -- where the new bins stand, the frames hold the bins of the rows as they are then
-  pub has_moved : (young : List Bin) (took : List Piece → Type 0) (before after : Option Files) → HasMade s m young (take (depth s m) rows) took before after →
-      Turns (LeavesRest (AreApart s m (take (depth s m) rows))) before after → (seen : Files) → before ≡ Some seen → (events : List ℕ) →
+  pub has_moved : (young : List Bin) (took : List Piece → Type 0) (before after : Option Files) → HasMade s written m young (take (depth s m) rows) took before after →
+      Turns (LeavesRest (AreApart s written m (take (depth s m) rows))) before after → (seen : Files) → before ≡ Some seen → (events : List ℕ) →
       AreEvents (record { settings = s; rows = rows }) m young events (seen FRAMES) →
-      IfTold after (λ then. HoldsBins s events (moved s m rows) (then FRAMES))
+      IfTold after (λ then. HoldsBins s written events (moved s m rows) (then FRAMES))
   has_moved young took before after has turns seen told events of = λ then then_told. (
       let news = made_new s valid m first fits rows at young took (IsFrames before) has.made has.is (seen FRAMES) events (record { seen = seen; told = told; is = refl }) are of in
       let count = made_count s valid m first fits rows at young took (IsFrames before) has.made has.is in
-      written_holds s m rows has.made before after valid are.levels are count
-      (turns_fewer (AreApart s m (take (depth s m) rows)) (InNamed s rows) before after apart turns)
+      written_holds s written m rows has.made before after valid are.levels are count
+      (turns_fewer (AreApart s written m (take (depth s m) rows)) (InNamed s written rows) before after (apart s written valid m first fits rows at are) turns)
       (λ last last_told k below. has.landed last last_told k (omega (arith, below, enough s valid m first fits rows at)))
       seen told events of.held news then then_told)
 
@@ -58,16 +60,16 @@ young_some s m from to first from_is to_is = omega (arith, edge_within s 0 (m - 
 
 -- ---- frames that stand don't break
 
-pub no_break : (s : Numbers) (valid : IsValid s) (rows : List (List BinAt)) (file : List ℕ) (hold : BinAt → List Piece) (at : ℕ) → AreFirst s rows →
-    AllStand s file hold rows → OneBreaks s rows file at → ⊥
-no_break s valid rows file hold at are stand breaks =
+pub no_break : (s : Numbers) (version : ℕ) (valid : IsValid s) (rows : List (List BinAt)) (file : List ℕ) (hold : BinAt → List Piece) (at : ℕ) → AreFirst s rows →
+    AllStand s version file hold rows → OneBreaks s version rows file at → ⊥
+no_break s version valid rows file hold at are stand breaks =
     let bin = breaks.breaks.bin in
     let named = breaks.breaks.named in
     let k = breaks.number in
     let below = breaks.within in
-    let stands : Stands s (k + 1) file hold bin = subst (Stands s (k + 1) file hold) named.2 (stand k below named.0 bin named.1) in
+    let stands : Stands s version (k + 1) file hold bin = subst (Stands s version (k + 1) file hold) named.2 (stand k below named.0 bin named.1) in
     let narrow : width_of bin ≤ span s (k + 1) = subst (λ (b : BinAt). width_of b ≤ span s (k + 1)) named.2 ((are.each k below).widths named.0 bin named.1) in
-    none-some at (sym (left_is s (k + 1) bin.frame (width_of bin) file (hold bin) valid (omega (arith, below, are.few)) narrow stands.are stands.text) ∙ breaks.breaks.breaks.left)
+    none-some at (sym (left_is s version (k + 1) bin.frame (width_of bin) file (hold bin) valid (omega (arith, below, are.few)) narrow stands.are stands.text) ∙ breaks.breaks.breaks.left)
 
 -- where no frame is malformed, only a call failed
 pub sound_by : {T : Type 0} (result : Result T FlushFault) → ((at : ℕ) → result ≡ Err (Malformed at) → ⊥) → IfErr result (λ fault. fault ≡ Failed)

@@ -8,24 +8,25 @@ use Rattle.lert_frames.specs.Place.{tail_limit}
 use Rattle.lert_frames.proofs.{FrameLaws.told_begun, PlaceLaws.span_fits}
 use Rattle.lert_merge.specs.order.Members.{given_at, limit_at}
 use Rattle.lert_levels.specs.{declared.rows.bin_at.BinAt.BinAt, rows.Loading.{width_of, Stands, AllStand, held_in, widths_in}, rows.Rows.AreFirst}
-use Rattle.lert_levels.specs.{streams.Bin.{Bin as Stream, of_table, of_frame, to_come_of, given_of, limit_of, wide_of}, streams.BinLaws.{in_order, table_told}, streams.Tables.fresh_bin}
+use Rattle.lert_levels.specs.{streams.Bin.{Bin as Stream, of_table, of_frame, to_come_of, given_of, limit_of, version_of, wide_of}, streams.BinLaws.{in_order, table_told}, streams.Tables.fresh_bin}
+use Rattle.lert_levels.specs.rows.Young.{AreLight}
 use Rattle.lert_levels.specs.{streams.SetLaws.to_come_at, Merged.{streams_of, widths_of, Fills, AreBins}}
 use Rattle.lert_levels.specs.Sources.{placed_at, placed, Source, of_young, of_bin, sources, pieces_from, width_in, IsBegun, AreBegun}
-use Rattle.lert_spec.specs.{Bins.Bin, Edges.span, Limits.IsValid, Table.{total, AreGiven}, declared.numbers.Numbers.Numbers, declared.piece.Piece.Piece}
+use Rattle.lert_spec.specs.{Bins.Bin, Edges.{span, tail_bits}, Limits.IsValid, Table.{costs, AreGiven}, declared.numbers.Numbers.Numbers, declared.piece.Piece.Piece}
 
 -- ---- the sources
 
-pub begun_more : (s : Numbers) (some more : List Source) (bins others : List Stream) → AreBegun s some bins → AreBegun s more others → AreBegun s (some ++ more) (bins ++ others)
-begun_more s [] more [] others one two = two
-begun_more s (x ∷ some) more (b ∷ bins) others one two = (one.0, begun_more s some more bins others one.1 two)
-begun_more s [] more (b ∷ bins) others one two = absurd one
-begun_more s (x ∷ some) more [] others one two = absurd one
+pub begun_more : (s : Numbers) (version : ℕ) (some more : List Source) (bins others : List Stream) → AreBegun s version some bins → AreBegun s version more others → AreBegun s version (some ++ more) (bins ++ others)
+begun_more s version [] more [] others one two = two
+begun_more s version (x ∷ some) more (b ∷ bins) others one two = (one.0, begun_more s version some more bins others one.1 two)
+begun_more s version [] more (b ∷ bins) others one two = absurd one
+begun_more s version (x ∷ some) more [] others one two = absurd one
 
-pub begun_length : (s : Numbers) (some : List Source) (bins : List Stream) → AreBegun s some bins → length bins ≡ length some
-begun_length s [] [] are = refl
-begun_length s (x ∷ some) (b ∷ bins) are = ap suc (begun_length s some bins are.1)
-begun_length s [] (b ∷ bins) are = absurd are
-begun_length s (x ∷ some) [] are = absurd are
+pub begun_length : (s : Numbers) (version : ℕ) (some : List Source) (bins : List Stream) → AreBegun s version some bins → length bins ≡ length some
+begun_length s version [] [] are = refl
+begun_length s version (x ∷ some) (b ∷ bins) are = ap suc (begun_length s version some bins are.1)
+begun_length s version [] (b ∷ bins) are = absurd are
+begun_length s version (x ∷ some) [] are = absurd are
 
 placed_length : (level : ℕ) (rows : List (List BinAt)) → length (placed level rows) ≡ sum_by (λ (row : List BinAt). length row) rows
 placed_length level [] = refl
@@ -87,135 +88,148 @@ sources_widths young rows =
 
 -- ---- what each stream is
 
-one_given : (s : Numbers) (source : Source) (stream : Stream) → IsBegun s source stream → given_of stream ≡ []
-one_given s (of_young bin) (of_table table) is = is.given
-one_given s (of_bin p) (of_frame r) is = is.gave
-one_given s (of_young bin) (of_frame r) is = absurd is
-one_given s (of_bin p) (of_table table) is = absurd is
+one_given : (s : Numbers) (version : ℕ) (source : Source) (stream : Stream) → IsBegun s version source stream → given_of stream ≡ []
+one_given s version (of_young bin) (of_table table) is = is.given
+one_given s version (of_bin p) (of_frame r) is = is.gave
+one_given s version (of_young bin) (of_frame r) is = absurd is
+one_given s version (of_bin p) (of_table table) is = absurd is
 
-pub begun_given : (s : Numbers) (some : List Source) (bins : List Stream) (k : ℕ) → AreBegun s some bins → given_at given_of bins k ≡ []
-begun_given s [] [] k are = refl
-begun_given s (x ∷ some) (b ∷ bins) zero are = one_given s x b are.0
-begun_given s (x ∷ some) (b ∷ bins) (suc k) are = begun_given s some bins k are.1
-begun_given s [] (b ∷ bins) k are = absurd are
-begun_given s (x ∷ some) [] k are = absurd are
+pub begun_given : (s : Numbers) (version : ℕ) (some : List Source) (bins : List Stream) (k : ℕ) → AreBegun s version some bins → given_at given_of bins k ≡ []
+begun_given s version [] [] k are = refl
+begun_given s version (x ∷ some) (b ∷ bins) zero are = one_given s version x b are.0
+begun_given s version (x ∷ some) (b ∷ bins) (suc k) are = begun_given s version some bins k are.1
+begun_given s version [] (b ∷ bins) k are = absurd are
+begun_given s version (x ∷ some) [] k are = absurd are
 
-one_limit : (s : Numbers) (source : Source) (stream : Stream) → IsBegun s source stream → limit_of stream ≡ tail_limit s
-one_limit s (of_young bin) (of_table table) is = is.limit
-one_limit s (of_bin p) (of_frame r) is = ap tail_limit is.of_settings
-one_limit s (of_young bin) (of_frame r) is = absurd is
-one_limit s (of_bin p) (of_table table) is = absurd is
+one_limit : (s : Numbers) (version : ℕ) (source : Source) (stream : Stream) → IsBegun s version source stream → limit_of stream ≡ tail_limit s
+one_limit s version (of_young bin) (of_table table) is = is.limit
+one_limit s version (of_bin p) (of_frame r) is = ap tail_limit is.of_settings
+one_limit s version (of_young bin) (of_frame r) is = absurd is
+one_limit s version (of_bin p) (of_table table) is = absurd is
 
-pub begun_limit : (s : Numbers) (some : List Source) (bins : List Stream) (k : ℕ) → AreBegun s some bins → k < length bins → limit_at limit_of bins k ≡ tail_limit s
-begun_limit s [] [] k are below = absurd (omega (arith, below))
-begun_limit s (x ∷ some) (b ∷ bins) zero are below = one_limit s x b are.0
-begun_limit s (x ∷ some) (b ∷ bins) (suc k) are below = begun_limit s some bins k are.1 (omega (arith, below))
-begun_limit s [] (b ∷ bins) k are below = absurd are
-begun_limit s (x ∷ some) [] k are below = absurd are
+pub begun_limit : (s : Numbers) (version : ℕ) (some : List Source) (bins : List Stream) (k : ℕ) → AreBegun s version some bins → k < length bins → limit_at limit_of bins k ≡ tail_limit s
+begun_limit s version [] [] k are below = absurd (omega (arith, below))
+begun_limit s version (x ∷ some) (b ∷ bins) zero are below = one_limit s version x b are.0
+begun_limit s version (x ∷ some) (b ∷ bins) (suc k) are below = begun_limit s version some bins k are.1 (omega (arith, below))
+begun_limit s version [] (b ∷ bins) k are below = absurd are
+begun_limit s version (x ∷ some) [] k are below = absurd are
 
-one_width : (s : Numbers) (source : Source) (stream : Stream) → IsBegun s source stream → wide_of stream ≡ width_in source
-one_width s (of_young bin) (of_table table) is = ap₂ (λ front rest. total (front ++ rest)) is.given is.left ∙ is.summed
-one_width s (of_bin p) (of_frame r) is = is.wide
-one_width s (of_young bin) (of_frame r) is = absurd is
-one_width s (of_bin p) (of_table table) is = absurd is
+one_width : (s : Numbers) (version : ℕ) (source : Source) (stream : Stream) → IsBegun s version source stream → wide_of version stream ≤ width_in source
+one_width s version (of_young bin) (of_table table) is = omega (arith, ap₂ (λ front rest. costs version (front ++ rest)) is.given is.left, is.fits)
+one_width s version (of_bin p) (of_frame r) is = omega (arith, is.wide)
+one_width s version (of_young bin) (of_frame r) is = absurd is
+one_width s version (of_bin p) (of_table table) is = absurd is
 
-pub begun_width : (s : Numbers) (some : List Source) (bins : List Stream) (k : ℕ) → AreBegun s some bins → limit_at wide_of bins k ≡ get_or (map width_in some) k 0
-begun_width s [] [] k are = refl
-begun_width s (x ∷ some) (b ∷ bins) zero are = one_width s x b are.0
-begun_width s (x ∷ some) (b ∷ bins) (suc k) are = begun_width s some bins k are.1
-begun_width s [] (b ∷ bins) k are = absurd are
-begun_width s (x ∷ some) [] k are = absurd are
+pub begun_width : (s : Numbers) (version : ℕ) (some : List Source) (bins : List Stream) (k : ℕ) → AreBegun s version some bins → limit_at (wide_of version) bins k ≤ get_or (map width_in some) k 0
+begun_width s version [] [] k are = omega arith
+begun_width s version (x ∷ some) (b ∷ bins) zero are = one_width s version x b are.0
+begun_width s version (x ∷ some) (b ∷ bins) (suc k) are = begun_width s version some bins k are.1
+begun_width s version [] (b ∷ bins) k are = absurd are
+begun_width s version (x ∷ some) [] k are = absurd are
+
+one_version : (s : Numbers) (version : ℕ) (source : Source) (stream : Stream) → IsBegun s version source stream → version_of version stream ≡ version
+one_version s version (of_young bin) (of_table table) is = refl
+one_version s version (of_bin p) (of_frame r) is = is.of_version
+one_version s version (of_young bin) (of_frame r) is = absurd is
+one_version s version (of_bin p) (of_table table) is = absurd is
+
+pub begun_version : (s : Numbers) (version : ℕ) (some : List Source) (bins : List Stream) (k : ℕ) → AreBegun s version some bins → k < length bins → limit_at (version_of version) bins k ≡ version
+begun_version s version [] [] k are below = absurd (omega (arith, below))
+begun_version s version (x ∷ some) (b ∷ bins) zero are below = one_version s version x b are.0
+begun_version s version (x ∷ some) (b ∷ bins) (suc k) are below = begun_version s version some bins k are.1 (omega (arith, below))
+begun_version s version [] (b ∷ bins) k are below = absurd are
+begun_version s version (x ∷ some) [] k are below = absurd are
 
 -- ---- what the frames of a told file hold
 
 -- what is so of a source: that its bin stands
-abbrev pub SourceStands : Numbers → List ℕ → (BinAt → List Piece) → Source → Type 0
-SourceStands s file held (of_young bin) = Unit {0}
-SourceStands s file held (of_bin p) = (p.level ≤ s.levels) × (width_of p.bin ≤ span s p.level) × Stands s p.level file held p.bin
+abbrev pub SourceStands : Numbers → ℕ → List ℕ → (BinAt → List Piece) → Source → Type 0
+SourceStands s version file held (of_young bin) = Unit {0}
+SourceStands s version file held (of_bin p) = (p.level ≤ s.levels) × (width_of p.bin ≤ span s p.level) × Stands s version p.level file held p.bin
 
-abbrev pub SourcesStand : Numbers → List ℕ → (BinAt → List Piece) → List Source → Type 0
-SourcesStand s file held [] = Unit {0}
-SourcesStand s file held (x ∷ some) = SourceStands s file held x × SourcesStand s file held some
+abbrev pub SourcesStand : Numbers → ℕ → List ℕ → (BinAt → List Piece) → List Source → Type 0
+SourcesStand s version file held [] = Unit {0}
+SourcesStand s version file held (x ∷ some) = SourceStands s version file held x × SourcesStand s version file held some
 
-stand_append : (s : Numbers) (file : List ℕ) (held : BinAt → List Piece) (some more : List Source) → SourcesStand s file held some → SourcesStand s file held more →
-    SourcesStand s file held (some ++ more)
-stand_append s file held [] more one two = two
-stand_append s file held (x ∷ some) more one two = (one.0, stand_append s file held some more one.1 two)
+stand_append : (s : Numbers) (version : ℕ) (file : List ℕ) (held : BinAt → List Piece) (some more : List Source) → SourcesStand s version file held some → SourcesStand s version file held more →
+    SourcesStand s version file held (some ++ more)
+stand_append s version file held [] more one two = two
+stand_append s version file held (x ∷ some) more one two = (one.0, stand_append s version file held some more one.1 two)
 
 -- a row of a level
-record RowHolds (s : Numbers) (file : List ℕ) (held : BinAt → List Piece) (level : ℕ) (row : List BinAt) : Type 0 where
+record RowHolds (s : Numbers) (version : ℕ) (file : List ℕ) (held : BinAt → List Piece) (level : ℕ) (row : List BinAt) : Type 0 where
   last : level ≤ s.levels
   widths : All (λ bin. width_of bin ≤ span s level) row
-  stand : All (Stands s level file held) row
+  stand : All (Stands s version level file held) row
 
-row_stands : (s : Numbers) (file : List ℕ) (held : BinAt → List Piece) (level : ℕ) (row : List BinAt) → RowHolds s file held level row →
-    SourcesStand s file held (map of_bin (map (placed_at level) row))
-row_stands s file held level [] is = tt
-row_stands s file held level (bin ∷ row) is = (
-  (is.last, All-head (λ (b : BinAt). width_of b ≤ span s level) bin row is.widths, All-head (Stands s level file held) bin row is.stand),
-  row_stands s file held level row (record {
+row_stands : (s : Numbers) (version : ℕ) (file : List ℕ) (held : BinAt → List Piece) (level : ℕ) (row : List BinAt) → RowHolds s version file held level row →
+    SourcesStand s version file held (map of_bin (map (placed_at level) row))
+row_stands s version file held level [] is = tt
+row_stands s version file held level (bin ∷ row) is = (
+  (is.last, All-head (λ (b : BinAt). width_of b ≤ span s level) bin row is.widths, All-head (Stands s version level file held) bin row is.stand),
+  row_stands s version file held level row (record {
     last = is.last;
     widths = All-tail (λ (b : BinAt). width_of b ≤ span s level) bin row is.widths;
-    stand = All-tail (Stands s level file held) bin row is.stand;
+    stand = All-tail (Stands s version level file held) bin row is.stand;
   }),
 )
 
-rows_hold : (s : Numbers) (file : List ℕ) (held : BinAt → List Piece) (level : ℕ) (rows : List (List BinAt)) →
-    ((k : ℕ) → k < length rows → RowHolds s file held (level + k) (get_or rows k [])) → SourcesStand s file held (map of_bin (placed level rows))
-rows_hold s file held level [] each = tt
-rows_hold s file held level (row ∷ rows) each =
+rows_hold : (s : Numbers) (version : ℕ) (file : List ℕ) (held : BinAt → List Piece) (level : ℕ) (rows : List (List BinAt)) →
+    ((k : ℕ) → k < length rows → RowHolds s version file held (level + k) (get_or rows k [])) → SourcesStand s version file held (map of_bin (placed level rows))
+rows_hold s version file held level [] each = tt
+rows_hold s version file held level (row ∷ rows) each =
     let here : level + 0 ≡ level = omega arith in
-    subst (SourcesStand s file held) (sym (map-append of_bin (map (placed_at level) row) (placed (suc level) rows)))
-    (stand_append s file held (map of_bin (map (placed_at level) row)) (map of_bin (placed (suc level) rows))
-    (row_stands s file held level row (subst (λ l. RowHolds s file held l row) here (each 0 (omega arith))))
-    (rows_hold s file held (suc level) rows (λ k below. subst (λ l. RowHolds s file held l (get_or rows k [])) (let next : level + suc k ≡ suc level + k = omega arith in next)
+    subst (SourcesStand s version file held) (sym (map-append of_bin (map (placed_at level) row) (placed (suc level) rows)))
+    (stand_append s version file held (map of_bin (map (placed_at level) row)) (map of_bin (placed (suc level) rows))
+    (row_stands s version file held level row (subst (λ l. RowHolds s version file held l row) here (each 0 (omega arith))))
+    (rows_hold s version file held (suc level) rows (λ k below. subst (λ l. RowHolds s version file held l (get_or rows k [])) (let next : level + suc k ≡ suc level + k = omega arith in next)
     (each (suc k) (omega (arith, below))))))
 
-young_hold : (s : Numbers) (file : List ℕ) (held : BinAt → List Piece) (young : List Bin) → SourcesStand s file held (map of_young young)
-young_hold s file held [] = tt
-young_hold s file held (bin ∷ young) = (tt, young_hold s file held young)
+young_hold : (s : Numbers) (version : ℕ) (file : List ℕ) (held : BinAt → List Piece) (young : List Bin) → SourcesStand s version file held (map of_young young)
+young_hold s version file held [] = tt
+young_hold s version file held (bin ∷ young) = (tt, young_hold s version file held young)
 
 -- where all frames stand, so do the sources
-pub sources_stand : (s : Numbers) (file : List ℕ) (held : BinAt → List Piece) (young : List Bin) (rows : List (List BinAt)) → AreFirst s rows →
-    AllStand s file held rows → SourcesStand s file held (sources young rows)
-sources_stand s file held young rows are stand =
-    stand_append s file held (map of_young young) (map of_bin (placed 1 rows)) (young_hold s file held young)
-    (rows_hold s file held 1 rows (λ k below. (
+pub sources_stand : (s : Numbers) (version : ℕ) (file : List ℕ) (held : BinAt → List Piece) (young : List Bin) (rows : List (List BinAt)) → AreFirst s rows →
+    AllStand s version file held rows → SourcesStand s version file held (sources young rows)
+sources_stand s version file held young rows are stand =
+    stand_append s version file held (map of_young young) (map of_bin (placed 1 rows)) (young_hold s version file held young)
+    (rows_hold s version file held 1 rows (λ k below. (
     let same : k + 1 ≡ 1 + k = omega arith in
-    subst (λ l. RowHolds s file held l (get_or rows k [])) same
+    subst (λ l. RowHolds s version file held l (get_or rows k [])) same
     (record { last = omega (arith, are.few, below); widths = (are.each k below).widths; stand = stand k below }))))
 
-one_told : (s : Numbers) (valid : IsValid s) (source : Source) (stream : Stream) (told : Option Files) (seen : Files) (held : BinAt → List Piece) → told ≡ Some seen →
-    IsBegun s source stream → SourceStands s (seen FRAMES) held source → to_come_of told stream ≡ Some (pieces_from held source)
-one_told s valid (of_young bin) (of_table table) told seen held told_is is stands =
+one_told : (s : Numbers) (version : ℕ) (valid : IsValid s) (source : Source) (stream : Stream) (told : Option Files) (seen : Files) (held : BinAt → List Piece) → told ≡ Some seen →
+    IsBegun s version source stream → SourceStands s version (seen FRAMES) held source → to_come_of told stream ≡ Some (pieces_from held source)
+one_told s version valid (of_young bin) (of_table table) told seen held told_is is stands =
     table_told table (subst (λ l. AreGiven l (table.given ++ table.left)) (sym is.limit)
     (subst (AreGiven (tail_limit s)) (sym (ap₂ (λ front rest. front ++ rest) is.given is.left)) is.ordered))
     ∙ ap Some is.left
-one_told s valid (of_bin p) (of_frame r) told seen held told_is is stands =
-    told_begun s p.level p.bin.frame (width_of p.bin) (seen FRAMES) (held p.bin) valid stands.0 stands.1 stands.2.are stands.2.text told seen r told_is refl
+one_told s version valid (of_bin p) (of_frame r) told seen held told_is is stands =
+    told_begun s version p.level p.bin.frame (width_of p.bin) (seen FRAMES) (held p.bin) valid stands.0 stands.1 stands.2.are stands.2.text told seen r told_is refl
     (is.left (seen FRAMES)) (is.pieces (seen FRAMES))
-one_told s valid (of_young bin) (of_frame r) told seen held told_is is stands = absurd is
-one_told s valid (of_bin p) (of_table table) told seen held told_is is stands = absurd is
+one_told s version valid (of_young bin) (of_frame r) told seen held told_is is stands = absurd is
+one_told s version valid (of_bin p) (of_table table) told seen held told_is is stands = absurd is
 
-pub begun_told : (s : Numbers) (valid : IsValid s) (some : List Source) (bins : List Stream) (k : ℕ) (told : Option Files) (seen : Files) (held : BinAt → List Piece) → told ≡ Some seen →
-    AreBegun s some bins → SourcesStand s (seen FRAMES) held some → k < length bins → to_come_at told bins k ≡ Some (get_or (map (pieces_from held) some) k [])
-begun_told s valid [] [] k told seen held told_is are stand below = absurd (omega (arith, below))
-begun_told s valid (x ∷ some) (b ∷ bins) zero told seen held told_is are stand below = one_told s valid x b told seen held told_is are.0 stand.0
-begun_told s valid (x ∷ some) (b ∷ bins) (suc k) told seen held told_is are stand below = begun_told s valid some bins k told seen held told_is are.1 stand.1 (omega (arith, below))
-begun_told s valid [] (b ∷ bins) k told seen held told_is are stand below = absurd are
-begun_told s valid (x ∷ some) [] k told seen held told_is are stand below = absurd are
+pub begun_told : (s : Numbers) (version : ℕ) (valid : IsValid s) (some : List Source) (bins : List Stream) (k : ℕ) (told : Option Files) (seen : Files) (held : BinAt → List Piece) → told ≡ Some seen →
+    AreBegun s version some bins → SourcesStand s version (seen FRAMES) held some → k < length bins → to_come_at told bins k ≡ Some (get_or (map (pieces_from held) some) k [])
+begun_told s version valid [] [] k told seen held told_is are stand below = absurd (omega (arith, below))
+begun_told s version valid (x ∷ some) (b ∷ bins) zero told seen held told_is are stand below = one_told s version valid x b told seen held told_is are.0 stand.0
+begun_told s version valid (x ∷ some) (b ∷ bins) (suc k) told seen held told_is are stand below = begun_told s version valid some bins k told seen held told_is are.1 stand.1 (omega (arith, below))
+begun_told s version valid [] (b ∷ bins) k told seen held told_is are stand below = absurd are
+begun_told s version valid (x ∷ some) [] k told seen held told_is are stand below = absurd are
 
 -- ---- level 0
 
 -- tables as the bins of level 0
-pub young_begun : {T : Type 0} (s : Numbers) (bits : T → ℕ) (pieces : T → List Piece) (tables : List T) (young : List Bin) → map pieces tables ≡ map (λ (bin : Bin). bin.pieces) young →
-    All (λ table. bits table ≡ 64 - s.cone_bits) tables → All (λ (bin : Bin). total bin.pieces ≡ bin.to - bin.from) young →
+pub young_begun : {T : Type 0} (s : Numbers) (version : ℕ) (bits : T → ℕ) (pieces : T → List Piece) (tables : List T) (young : List Bin) → map pieces tables ≡ map (λ (bin : Bin). bin.pieces) young →
+    All (λ table. bits table ≡ tail_bits s) tables → AreLight version young →
     ((k : ℕ) (d : T) → k < length tables → to_come_at None (map of_table (map (fresh_bin bits pieces) tables)) k ≡ Some (pieces (get_or tables k d))) →
-    AreBegun s (map of_young young) (map of_table (map (fresh_bin bits pieces) tables))
-young_begun s bits pieces [] [] same rooms widths coming = tt
-young_begun s bits pieces [] (bin ∷ young) same rooms widths coming = absurd (cc)
-young_begun s bits pieces (t ∷ tables) [] same rooms widths coming = absurd (cc)
-young_begun s bits pieces (t ∷ tables) (bin ∷ young) same rooms widths coming =
+    AreBegun s version (map of_young young) (map of_table (map (fresh_bin bits pieces) tables))
+young_begun s version bits pieces [] [] same rooms widths coming = tt
+young_begun s version bits pieces [] (bin ∷ young) same rooms widths coming = absurd (cc)
+young_begun s version bits pieces (t ∷ tables) [] same rooms widths coming = absurd (cc)
+young_begun s version bits pieces (t ∷ tables) (bin ∷ young) same rooms widths coming =
     let here : pieces t ≡ bin.pieces = cc in
     let others : map pieces tables ≡ map (λ (b : Bin). b.pieces) young = cc in
     let limit : 2 ^ bits t ≡ tail_limit s = ap (λ n. 2 ^ n) (rooms 0 t (omega arith)) in
@@ -225,23 +239,23 @@ young_begun s bits pieces (t ∷ tables) (bin ∷ young) same rooms widths comin
         given = refl;
         left = here;
         ordered = subst (AreGiven (tail_limit s)) here (subst (λ l. AreGiven l (pieces t)) limit given);
-        summed = widths 0 bin (omega arith);
+        fits = (widths 0 bin (omega arith)).0;
       },
-      young_begun s bits pieces tables young others (λ k d below. rooms (suc k) d (omega (arith, below))) (λ k d below. widths (suc k) d (omega (arith, below)))
+      young_begun s version bits pieces tables young others (λ k d below. rooms (suc k) d (omega (arith, below))) (λ k d below. widths (suc k) d (omega (arith, below)))
           (λ k d below. coming (suc k) d (omega (arith, below))),
     )
 
 -- and behind them the rows
-pub all_begun : {T : Type 0} (s t : Numbers) (bits : T → ℕ) (pieces : T → List Piece) (tables : List T) (young : List Bin) (rows : List (List BinAt)) (first after : List Stream) → t ≡ s →
-    map pieces tables ≡ map (λ (bin : Bin). bin.pieces) young → All (λ table. bits table ≡ 64 - s.cone_bits) tables → All (λ (bin : Bin). total bin.pieces ≡ bin.to - bin.from) young →
+pub all_begun : {T : Type 0} (s t : Numbers) (version : ℕ) (bits : T → ℕ) (pieces : T → List Piece) (tables : List T) (young : List Bin) (rows : List (List BinAt)) (first after : List Stream) → t ≡ s →
+    map pieces tables ≡ map (λ (bin : Bin). bin.pieces) young → All (λ table. bits table ≡ tail_bits s) tables → AreLight version young →
     first ≡ map of_table (map (fresh_bin bits pieces) tables) → ((k : ℕ) (d : T) → k < length tables → to_come_at None first k ≡ Some (pieces (get_or tables k d))) →
-    ((before : List Source) → AreBegun t before first → AreBegun t (before ++ map of_bin (placed 1 rows)) after) → AreBegun s (sources young rows) after
-all_begun {T} s t bits pieces tables young rows first after settings same rooms widths first_is coming behind =
-    let begun = young_begun s bits pieces tables young same rooms widths
+    ((before : List Source) → AreBegun t version before first → AreBegun t version (before ++ map of_bin (placed 1 rows)) after) → AreBegun s version (sources young rows) after
+all_begun {T} s t version bits pieces tables young rows first after settings same rooms widths first_is coming behind =
+    let begun = young_begun s version bits pieces tables young same rooms widths
     (λ k d below. subst (λ (bins : List Stream). to_come_at None bins k ≡ Some (pieces (get_or tables k d))) first_is (coming k d below)) in
-    subst (λ (n : Numbers). AreBegun n (sources young rows) after) settings
-    (behind (map of_young young) (subst (λ (n : Numbers). AreBegun n (map of_young young) first) (sym settings)
-    (subst (AreBegun s (map of_young young)) (sym first_is) begun)))
+    subst (λ (n : Numbers). AreBegun n version (sources young rows) after) settings
+    (behind (map of_young young) (subst (λ (n : Numbers). AreBegun n version (map of_young young) first) (sym settings)
+    (subst (AreBegun s version (map of_young young)) (sym first_is) begun)))
 
 -- at most one for each bin of each level
 few_rows : (bins : ℕ) (rows : List (List BinAt)) → ((k : ℕ) → k < length rows → length (get_or rows k []) ≤ bins) →
@@ -264,12 +278,12 @@ sources_number s valid = mul-le (s.levels + 1) s.bins 9 16 (omega (arith, valid.
 -- ---- what was taken of them
 
 -- lists that fill bins, one by one
-pub bins_from : (limit : ℕ) (widths : List ℕ) (lists : List (List Piece)) → length lists ≡ length widths →
-    ((k : ℕ) → k < length lists → Fills limit (get_or widths k 0) (get_or lists k [])) → AreBins limit widths lists
-bins_from limit [] [] len each = record {}
-bins_from limit [] (list ∷ lists) len each = absurd (omega (arith, len))
-bins_from limit (width ∷ widths) [] len each = absurd (omega (arith, len))
-bins_from limit (width ∷ widths) (list ∷ lists) len each = (each 0 (omega arith), bins_from limit widths lists (omega (arith, len)) (λ k below. each (suc k) (omega (arith, below))))
+pub bins_from : (version limit : ℕ) (widths : List ℕ) (lists : List (List Piece)) → length lists ≡ length widths →
+    ((k : ℕ) → k < length lists → Fills version limit (get_or widths k 0) (get_or lists k [])) → AreBins version limit widths lists
+bins_from version limit [] [] len each = record {}
+bins_from version limit [] (list ∷ lists) len each = absurd (omega (arith, len))
+bins_from version limit (width ∷ widths) [] len each = absurd (omega (arith, len))
+bins_from version limit (width ∷ widths) (list ∷ lists) len each = (each 0 (omega arith), bins_from version limit widths lists (omega (arith, len)) (λ k below. each (suc k) (omega (arith, below))))
 
 -- no wider than some number each, all together no wider than so many times it
 sum_few : (most : ℕ) (widths : List ℕ) → All (λ width. width ≤ most) widths → sum widths ≤ length widths * most
@@ -320,7 +334,7 @@ narrow_rows s valid level (row ∷ rows) each =
 
 -- so they can be added up
 pub widths_small : (s : Numbers) (valid : IsValid s) (young : List Bin) (rows : List (List BinAt)) → length young ≤ s.bins → AreFirst s rows →
-    All (λ (bin : Bin). bin.to - bin.from ≤ span s 0) young → sum (widths_of young rows) < 2 ^ 63
+    All (λ (bin : Bin). bin.to - bin.from ≤ span s 0) young → sum (widths_of young rows) < 2 ^ 55
 widths_small s valid young rows few_young are narrow =
     let all : AreNarrow (sources young rows) = narrow_append (map of_young young) (map of_bin (placed 1 rows)) (narrow_young s valid young narrow)
     (narrow_rows s valid 1 rows (λ k below. (let next : k + 1 ≡ 1 + k = omega arith in

@@ -4,6 +4,10 @@ use Rattle.lert_frames.specs.declared.reader.FrameReader.{FrameReader}
 use Rattle.lert_spec.specs.declared.numbers.Numbers.{Numbers}
 use Rattle.lert_levels.specs.{declared.rows.bin_at.BinAt.BinAt, rows.Rows.{AreRows, directory_text}}
 
+-- the version of a cone's files, in which each item of a bin weighs 1
+abbrev pub written : ℕ
+written = 1
+
 -- what they are seen as: their settings, and the rows from level 1 on
 pub record OnDisk : Type 0 where
   pub settings : Numbers

@@ -2,3 +2,4 @@ pub mod Whole
 pub mod Landed
 pub mod Landings
 pub mod Summed
+pub mod CostLaws

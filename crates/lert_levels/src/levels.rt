@@ -15,6 +15,7 @@ ghost use Rattle.lert_levels.specs.Flushed.{AreEvents, AreAllEvents, InNamed};
 ghost use Rattle.lert_levels.specs.rows.Landing.{AreApart, KeepsRest};
 ghost use Rattle.lert_levels.specs.rows.Loading.{AllStand, OneBreaks};
 ghost use Rattle.lert_levels.specs.rows.Named.{IsDirectory};
+ghost use Rattle.lert_levels.specs.OnDisk.{written};
 ghost use Rattle.lert_levels.specs.Ready.{HasMade};
 ghost use Rattle.lert_spec.specs.Limits.{IsValid};
 ghost use Rattle.lert_levels.specs.rows.Rows.{row_of, IsAt, AreRows, HoldsBins, moved, directory_text};
@@ -32,7 +33,7 @@ use std::alloc::Global;
 use std::marker::Model;
 
 /// The levels of a cone on disk, seen as its settings and a row of bins for each level from 1 on. The bins stand in the file
-/// of frames, and level 0 in memory, in tables of type `T`.
+/// of frames, in the places of version 1, and level 0 in memory, in tables of type `T`.
 ///
 /// Only `new` takes memory: some 19 KiB for each bin on disk, and as much for each level twice.
 #[derive(Drop)]
@@ -46,6 +47,9 @@ pub struct Levels<T: CountTable> {
     reading: Option<Reading<T>>,
     writing: Writing,
 }
+
+// The version of a cone's files.
+const WRITTEN: u8 = 1;
 
 impl<T: CountTable> Model for Levels<T> {
     ghost use Rattle.std.specs.Prelude.{◌≡◌, ◌+◌, ◌*◌, ◌≤◌, IsSomeAnd, vec_capacity};
@@ -137,7 +141,7 @@ impl<T: CountTable> Levels<T> {
         // Where the frames held the bins of the events before m, those of the rows then hold theirs, and the totals are the counts
         // above the lookback. Only a call of the bay may fail.
         ensures told { IfTold (B.files bay.old) (λ seen. (events : List ℕ) → AreEvents self.old m zero.now.bins events (seen FRAMES) → MatchResult result
-            (λ _. IfTold (B.files bay.new) (λ after. HoldsBins self.old.settings events (moved self.old.settings m self.old.rows) (after FRAMES)) ×
+            (λ _. IfTold (B.files bay.new) (λ after. HoldsBins self.old.settings written events (moved self.old.settings m self.old.rows) (after FRAMES)) ×
             O.took totals.new (tallied self.old.settings (slice_range events (lookback self.old.settings m) m)))
             (λ fault. fault ≡ FlushFault.Failed)) }
         ensures took { OnOk result ((list : List Piece) × O.took totals.new list × IsTable (tail_limit self.old.settings) list) }
@@ -145,21 +149,21 @@ impl<T: CountTable> Levels<T> {
         // After Ok a crash leaves the file of frames as a read gives it. In the other files, and in the frames that the directory
         // named, all reads as before, and what was settled stays settled.
         ensures durable { OnOk result (IfTold (B.files bay.new) (λ seen. (image : Files) → B.leaves bay.new image → image FRAMES ≡ seen FRAMES)) }
-        ensures rest { KeepsRest B.Bay (InNamed self.old.settings self.old.rows) bay.old bay.new }
+        ensures rest { KeepsRest B.Bay (InNamed self.old.settings written self.old.rows) bay.old bay.new }
 
         // Where the bay tells its files, Ok comes only where each frame that is read was in its format to the end.
-        ensures whole { IfTold (B.files bay.old) (λ seen. OnOk result (rows_left self.old.settings (seen FRAMES) (take (depth self.old.settings m) self.old.rows) ≡ None)) }
+        ensures whole { IfTold (B.files bay.old) (λ seen. OnOk result (rows_left self.old.settings written (seen FRAMES) (take (depth self.old.settings m) self.old.rows) ≡ None)) }
 
         // Malformed comes nowhere where the frames hold bins of their widths, whatever these count.
         ensures sound { IfTold (B.files bay.old) (λ seen. (held : BinAt → List Piece) →
-            AllStand self.old.settings (seen FRAMES) held (take (depth self.old.settings m) self.old.rows) →
+            AllStand self.old.settings written (seen FRAMES) held (take (depth self.old.settings m) self.old.rows) →
             IfErr result (λ fault. fault ≡ FlushFault.Failed)) }
         ensures malformed { IfTold (B.files bay.old) (λ seen. (at : ℕ) → IsErrOf result (FlushFault.Malformed at) →
-            OneBreaks self.old.settings (take (depth self.old.settings m) self.old.rows) (seen FRAMES) at) }
+            OneBreaks self.old.settings written (take (depth self.old.settings m) self.old.rows) (seen FRAMES) at) }
 
         // It stands in a frame that was named, so the file of frames has it afterwards too.
         ensures malformed_after { IfTold (B.files bay.new) (λ after. (at : ℕ) → IsErrOf result (FlushFault.Malformed at) →
-            OneBreaks self.old.settings (take (depth self.old.settings m) self.old.rows) (after FRAMES) at) }
+            OneBreaks self.old.settings written (take (depth self.old.settings m) self.old.rows) (after FRAMES) at) }
         ensures kept { KeepsBay B.Bay bay.old bay.new (IsErrOf result FlushFault.Failed) }
     {
         self.merge(zero, m, bay, totals)?;
@@ -186,46 +190,46 @@ impl<T: CountTable> Levels<T> {
         ensures took { OnOk result ((list : List Piece) × O.took totals.new list × IsTable (tail_limit self.old.settings) list) }
 
         // Where the bay tells its files, Ok comes only where each frame was in its format to the end.
-        ensures whole { IfTold (B.files bay.old) (λ seen. OnOk result (rows_left self.old.settings (seen FRAMES) self.old.rows ≡ None)) }
+        ensures whole { IfTold (B.files bay.old) (λ seen. OnOk result (rows_left self.old.settings written (seen FRAMES) self.old.rows ≡ None)) }
         ensures sound { IfTold (B.files bay.old) (λ seen. (held : BinAt → List Piece) →
-            AllStand self.old.settings (seen FRAMES) held self.old.rows →
+            AllStand self.old.settings written (seen FRAMES) held self.old.rows →
             IfErr result (λ fault. fault ≡ FlushFault.Failed)) }
         ensures malformed { IfTold (B.files bay.old) (λ seen. (at : ℕ) → IsErrOf result (FlushFault.Malformed at) →
-            OneBreaks self.old.settings self.old.rows (seen FRAMES) at) }
+            OneBreaks self.old.settings written self.old.rows (seen FRAMES) at) }
         ensures only_reads { OnlyReads B.Bay bay.old bay.new (IsErrOf result FlushFault.Failed) }
     {
         let Some(reading) = self.reading.take() else {
             unreachable!()
         };
         let _valid = self.settings.numbers();
-        let (reading, counted) = count_rows(zero, &self.rows, reading, totals, bay);
+        let (reading, counted) = count_rows(zero, WRITTEN, &self.rows, reading, totals, bay);
         self.reading = Some(reading);
         counted
     }
 
     /// Reads each frame that the directory names to its end, the levels ascending and each level's oldest bin first, up to the
-    /// first one that leaves its format or whose counts don't add up to the width of its bin. It writes nothing and takes no
+    /// first one that leaves its format, or whose counts cost more than the width of its bin or don't reach it. It writes nothing and takes no
     /// memory.
     pub fn check<B: Bay>(&mut self, bay: &mut B) -> Result<(), FlushFault>
         ensures same { self.new ≡ self.old }
 
         // Where the file is told, each frame stands after Ok, so that a flush or a scan of these rows finds none malformed.
         // Malformed names the first place at which one leaves its format. Only a call of the bay may fail beside it.
-        ensures stand { IfTold (B.files bay.old) (λ seen. OnOk result (EachStands self.old.settings (seen FRAMES) self.old.rows)) }
+        ensures stand { IfTold (B.files bay.old) (λ seen. OnOk result (EachStands self.old.settings written (seen FRAMES) self.old.rows)) }
         ensures held { IfTold (B.files bay.old) (λ seen. (n : ℕ) → IsAt self.old.settings n self.old.rows →
-            OnOk result (AllStand self.old.settings (seen FRAMES) (held_after self.old.settings n (seen FRAMES)) self.old.rows)) }
-        ensures whole { IfTold (B.files bay.old) (λ seen. OnOk result (rows_left self.old.settings (seen FRAMES) self.old.rows ≡ None)) }
+            OnOk result (AllStand self.old.settings written (seen FRAMES) (held_after self.old.settings written n (seen FRAMES)) self.old.rows)) }
+        ensures whole { IfTold (B.files bay.old) (λ seen. OnOk result (rows_left self.old.settings written (seen FRAMES) self.old.rows ≡ None)) }
         ensures malformed { IfTold (B.files bay.old) (λ seen. (at : ℕ) → IsErrOf result (FlushFault.Malformed at) →
-            rows_left self.old.settings (seen FRAMES) self.old.rows ≡ Some at) }
-        ensures refuses { IfTold (B.files bay.old) (λ seen. (at : ℕ) → rows_left self.old.settings (seen FRAMES) self.old.rows ≡ Some at →
+            rows_left self.old.settings written (seen FRAMES) self.old.rows ≡ Some at) }
+        ensures refuses { IfTold (B.files bay.old) (λ seen. (at : ℕ) → rows_left self.old.settings written (seen FRAMES) self.old.rows ≡ Some at →
             IsErrAnd result (λ fault. (fault ≡ FlushFault.Malformed at) ⊎ (fault ≡ FlushFault.Failed))) }
         ensures sound { IfTold (B.files bay.old) (λ seen. (held : BinAt → List Piece) →
-            AllStand self.old.settings (seen FRAMES) held self.old.rows →
+            AllStand self.old.settings written (seen FRAMES) held self.old.rows →
             IfErr result (λ fault. fault ≡ FlushFault.Failed)) }
         ensures only_reads { OnlyReads B.Bay bay.old bay.new (IsErrOf result FlushFault.Failed) }
     {
         let _valid = self.settings.numbers();
-        Ok(check_rows(&self.settings, &self.rows, &mut self.reader, bay)?)
+        Ok(check_rows(&self.settings, WRITTEN, &self.rows, &mut self.reader, bay)?)
     }
 
     // Merges level 0 and the levels that the flush at position `m` reaches, and writes the new bins into their frames.
@@ -244,14 +248,14 @@ impl<T: CountTable> Levels<T> {
         requires at { IsAt self.old.settings (m - 1) self.old.rows }
         requires none_taken { O.took totals.old [] }
         ensures same { self.new ≡ self.old }
-        ensures made { OnOk result (HasMade self.old.settings m zero.now.bins (take (depth self.old.settings m) self.old.rows) (O.took totals.new) (B.files bay.old) (B.files bay.new)) }
+        ensures made { OnOk result (HasMade self.old.settings written m zero.now.bins (take (depth self.old.settings m) self.old.rows) (O.took totals.new) (B.files bay.old) (B.files bay.new)) }
         ensures malformed { IfTold (B.files bay.old) (λ seen. (at : ℕ) → IsErrOf result (FlushFault.Malformed at) →
-            OneBreaks self.old.settings (take (depth self.old.settings m) self.old.rows) (seen FRAMES) at) }
+            OneBreaks self.old.settings written (take (depth self.old.settings m) self.old.rows) (seen FRAMES) at) }
         ensures malformed_after { IfTold (B.files bay.new) (λ after. (at : ℕ) → IsErrOf result (FlushFault.Malformed at) →
-            OneBreaks self.old.settings (take (depth self.old.settings m) self.old.rows) (after FRAMES) at) }
+            OneBreaks self.old.settings written (take (depth self.old.settings m) self.old.rows) (after FRAMES) at) }
         ensures valid { IsValid self.old.settings }
         ensures rows { AreRows self.old.settings self.old.rows }
-        ensures rest { KeepsRest B.Bay (AreApart self.old.settings m (take (depth self.old.settings m) self.old.rows)) bay.old bay.new }
+        ensures rest { KeepsRest B.Bay (AreApart self.old.settings written m (take (depth self.old.settings m) self.old.rows)) bay.old bay.new }
         ensures kept { KeepsBay B.Bay bay.old bay.new (IsErrOf result FlushFault.Failed) }
     {
         let Some(reading) = self.reading.take() else {
@@ -262,7 +266,9 @@ impl<T: CountTable> Levels<T> {
         let depth = self.settings.depth(m) as usize;
         let rows = &self.rows[..depth];
         let Writing { landings, parts } = &mut self.writing;
-        let (reading, landed) = merge_rows(zero, m, rows, reading, landings, parts, totals, bay);
+        let (reading, landed) = merge_rows(
+            zero, WRITTEN, m, rows, reading, landings, parts, totals, bay,
+        );
         self.reading = Some(reading);
         landed
     }

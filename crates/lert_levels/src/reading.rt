@@ -13,9 +13,10 @@ pub fn read_rows<T: CountTable>(settings: &Settings, rows: &[Row], streams: &mut
     requires same { streams.old.settings ≡ settings.now }
     requires rows { AreFirst settings.now rows.now }
     requires spare { settings.now.bins * settings.now.levels ≤ streams.old.spare }
-    ensures begun { (before : List Source) → AreBegun settings.now before streams.old.bins →
-        AreBegun settings.now (before ++ map of_bin (placed 1 rows.now)) streams.new.bins }
+    ensures begun { (before : List Source) → AreBegun settings.now streams.old.version before streams.old.bins →
+        AreBegun settings.now streams.old.version (before ++ map of_bin (placed 1 rows.now)) streams.new.bins }
     ensures settings { streams.new.settings ≡ settings.now }
+    ensures version { streams.new.version ≡ streams.old.version }
 {
     let _valid = settings.numbers();
     for (lower, row) in rows.iter().enumerate() {
@@ -29,9 +30,10 @@ fn read_row<T: CountTable>(streams: &mut BinStreams<T>, level: u32, row: &[BinAt
     requires last { level ≤ streams.old.settings.levels }
     requires row { IsRow streams.old.settings level row.now }
     requires spare { length row.now ≤ streams.old.spare }
-    ensures begun { (before : List Source) → AreBegun streams.old.settings before streams.old.bins →
-        AreBegun streams.old.settings (before ++ map of_bin (map (placed_at level) row.now)) streams.new.bins }
+    ensures begun { (before : List Source) → AreBegun streams.old.settings streams.old.version before streams.old.bins →
+        AreBegun streams.old.settings streams.old.version (before ++ map of_bin (map (placed_at level) row.now)) streams.new.bins }
     ensures settings { streams.new.settings ≡ streams.old.settings }
+    ensures version { streams.new.version ≡ streams.old.version }
     ensures spare { streams.new.spare + length row.now ≡ streams.old.spare }
 {
     for bin in row {

@@ -81,7 +81,7 @@ fn holds(
     requires width { width ≤ span small_numbers 1 }
 {
     let mut reader = FrameReader::new(alloc, settings, 1).expect(rt, "memory");
-    reader.start(frame, width);
+    reader.start(1, frame, width);
     gives(&mut reader, bay, pieces)
 }
 

@@ -1,9 +1,7 @@
 -- Computed givers and parts: of three streams two have a part in the tail 1, and one of them has more.
 use Rattle.std.proofs.Common.{◌≡◌, ◌≤◌, List, [], ◌∷◌, Some, None, refl, arith}
 use Rattle.lert_spec.specs.declared.piece.Piece.{Piece}
-use Rattle.lert_merge.specs.declared.sums.Giver.{Giver}
-use Rattle.lert_merge.specs.Givers.{share_in, sum_below, AreGivers}
-use Rattle.lert_merge.specs.Merging.{behind, count_in_all, part_summed}
+use Rattle.lert_merge.specs.{declared.sums.Giver.Giver, Givers.{share_in, sum_below, AreGivers}, Merging.{behind, count_in_all, part_summed}}
 
 abbrev two : List Giver
 two = record { stream = 1; count = 3 } ∷ record { stream = 0; count = 2 } ∷ []

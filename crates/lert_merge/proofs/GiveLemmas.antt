@@ -1,17 +1,10 @@
 -- What is in hand is given.
-use Rattle.std.proofs.Common.{◌≡◌, ℕ, ◌<◌, ◌≤◌, ◌^◌, Option, Some, None, IfSome, List, [], ◌++◌, length, map, get_or, sum_by, All, arith, sym, ap, ◌∙◌, refl, subst}
-use Rattle.std.proofs.Common.{append-nil}
+use Rattle.std.proofs.Common.{◌≡◌, ℕ, ◌<◌, ◌≤◌, ◌^◌, Option, Some, None, IfSome, List, [], ◌++◌, length, map, get_or, sum_by, All, arith, sym, ap, ◌∙◌, refl, subst, append-nil}
 use Rattle.std.proofs.lemmas.List.{get_or-map, length-map}
-use Rattle.lert_spec.specs.declared.piece.Piece.{Piece}
-use Rattle.lert_spec.specs.Table.{count_of}
-use Rattle.lert_merge.specs.order.Fronts.{pieces_of, front_at}
-use Rattle.lert_merge.specs.order.Ordering.{Ordering, part_in, Tells, AreEnded}
-use Rattle.lert_merge.specs.declared.order.streams.Streams.{Ghosts as StreamsOf}
-use Rattle.lert_merge.specs.Givers.{Taking, share_in, sum_below}
-use Rattle.lert_merge.specs.Merging.{Merging, IsMerging, HasSummed, GivesSum, TellsSums, IsNextSum, AreShares, IsBelowOne, taken_of, share_of, behind}
-use Rattle.lert_merge.proofs.GiverLemmas.{sum_same, sum_list, some_shared}
-use Rattle.lert_merge.proofs.PartLemmas.{IsShared, shared_is}
-use Rattle.lert_merge.proofs.StepLemmas.{HasStepped, comes_then}
+use Rattle.lert_spec.specs.{declared.piece.Piece.Piece, Table.count_of}
+use Rattle.lert_merge.specs.{order.Fronts.{pieces_of, front_at}, order.Ordering.{Ordering, part_in, Tells, AreEnded}, declared.order.streams.Streams.Ghosts as StreamsOf}
+use Rattle.lert_merge.specs.{Givers.{Taking, share_in, sum_below}, Merging.{Merging, IsMerging, HasSummed, GivesSum, TellsSums, IsNextSum, AreShares, IsBelowOne, taken_of, share_of, behind}}
+use Rattle.lert_merge.proofs.{GiverLemmas.{sum_same, sum_list, some_shared}, PartLemmas.{IsShared, shared_is}, StepLemmas.{HasStepped, comes_then}}
 
 -- what is in hand was given for a step of the order: what was taken since is that step's piece
 pub record IsGivenFor {S : Type 0} (m after : Merging S) (y : Ordering S) (given : Option (ℕ × Piece)) (q : Piece) : Type 0 where

@@ -1,10 +1,7 @@
 -- The streams that have a part in a tail: one more of them, and how many they are.
-use Rattle.std.proofs.Common.{◌≡◌, ◌≢◌, ℕ, zero, suc, ◌+◌, ◌<◌, ◌≤◌, Bool, if◌then◌else◌, List, [], ◌∷◌, ◌++◌, length, get_or, sum_by}
-use Rattle.std.proofs.Common.{arith, sym, ap, ap₂, ◌∙◌, refl, inl, inr, length-append}
-use Rattle.std.proofs.lemmas.Bool.{cases_eq, eq-eqb, ne_eqb}
-use Rattle.std.proofs.lemmas.List.Sums.{sum_by-append}
-use Rattle.lert_merge.specs.declared.sums.Giver.{Giver}
-use Rattle.lert_merge.specs.Givers.{share_in, sum_below, present, AreCounted, AreGivers}
+use Rattle.std.proofs.Common.{◌≡◌, ◌≢◌, ℕ, zero, suc, ◌+◌, ◌<◌, ◌≤◌, Bool, if◌then◌else◌, List, [], ◌∷◌, ◌++◌, length, get_or, sum_by, arith, sym, ap, ap₂, ◌∙◌, refl, inl, inr, length-append}
+use Rattle.std.proofs.{lemmas.Bool.{cases_eq, eq-eqb, ne_eqb}, lemmas.List.Sums.sum_by-append}
+use Rattle.lert_merge.specs.{declared.sums.Giver.Giver, Givers.{share_in, sum_below, present, AreCounted, AreGivers}}
 
 -- sums of functions that agree
 pub sum_same : (f g : ℕ → ℕ) (n : ℕ) → ((k : ℕ) → k < n → f k ≡ g k) → sum_below f n ≡ sum_below g n

@@ -3,9 +3,7 @@ use Rattle.std.proofs.Common.{◌≡◌, ℕ, ◌<◌, ◌≤◌, ◌^◌, Optio
 use Rattle.lert_base.specs.declared.pieces.PieceFault.{PieceFault}
 use Rattle.lert_spec.specs.declared.piece.Piece.{Piece}
 use Rattle.lert_io.specs.Fault.{HasRisen}
-use Rattle.lert_merge.specs.order.Ordering.{AreOver, Breaks, IsNothingGiven}
-use Rattle.lert_merge.specs.declared.order.streams.Streams.{Ghosts as StreamsOf}
-use Rattle.lert_merge.specs.Givers.{sum_below}
+use Rattle.lert_merge.specs.{order.Ordering.{AreOver, Breaks, IsNothingGiven}, declared.order.streams.Streams.Ghosts as StreamsOf, Givers.sum_below}
 use Rattle.lert_merge.specs.Merging.{Merging, HasTurned, turn_of, TellsSums, HasSummed, part_summed, IsNextSum, AreShares, IsAbove, IsBelowOne, AreSummedUp, share_of, behind}
 
 module _ {S C : Type 0} (members : StreamsOf S C) (faults mark : C → ℕ) (a b : C) (old new : Merging S) where

@@ -1,20 +1,11 @@
 -- A refusal, turns behind one another, and what they say of the next piece.
-use Rattle.std.proofs.Common.{◌≡◌, ℕ, ◌<◌, false, Option, Some, None, Result, Ok, Err, OnOk, IfSome, [], ◌++◌, length, get_or, arith, sym}
-use Rattle.std.proofs.Common.{ap, ◌∙◌, refl, subst, append-nil}
+use Rattle.std.proofs.Common.{◌≡◌, ℕ, ◌<◌, false, Option, Some, None, Result, Ok, Err, OnOk, IfSome, [], ◌++◌, length, get_or, arith, sym, ap, ◌∙◌, refl, subst, append-nil}
 use Rattle.lert_base.specs.declared.pieces.PieceFault.{PieceFault}
 use Rattle.lert_io.proofs.Rising.{risen_since}
 use Rattle.lert_spec.specs.declared.piece.Piece.{Piece}
-use Rattle.lert_merge.specs.order.Ordering.{Ordering, AreKnown, AreSame}
-use Rattle.lert_merge.specs.declared.order.streams.Streams.{Ghosts as StreamsOf}
-use Rattle.lert_merge.proofs.order.AskLemmas.{AreLawful}
-use Rattle.lert_merge.proofs.order.FrontLemmas.{pieces_none}
-use Rattle.lert_merge.proofs.order.StepLemmas.{known_on}
-use Rattle.lert_merge.proofs.order.ToldLemmas.{are_over}
-use Rattle.lert_merge.specs.declared.merge.Turn.{Turn}
-use Rattle.lert_merge.specs.declared.merge.Turn.TheVariants.{Taken, Given}
-use Rattle.lert_merge.specs.Givers.{share_in}
-use Rattle.lert_merge.specs.Merging.{Merging, AreSummedUp, HasSummed, Keeps, GivesSum, Moves, HasTurned}
-use Rattle.lert_merge.proofs.GiverLemmas.{share_none}
+use Rattle.lert_merge.specs.{order.Ordering.{Ordering, AreKnown, AreSame}, declared.order.streams.Streams.Ghosts as StreamsOf, declared.merge.Turn.Turn, declared.merge.Turn.TheVariants.{Taken, Given}}
+use Rattle.lert_merge.specs.{Givers.share_in, Merging.{Merging, AreSummedUp, HasSummed, Keeps, GivesSum, Moves, HasTurned}}
+use Rattle.lert_merge.proofs.{order.AskLemmas.AreLawful, order.FrontLemmas.pieces_none, order.StepLemmas.known_on, order.ToldLemmas.are_over, GiverLemmas.share_none}
 
 same_on : {S C : Type 0} (members : StreamsOf S C) (a b c : C) (x y z : Ordering S) → AreSame members a x b y → AreSame members b y c z → AreSame members a x c z
 same_on members a b c x y z one two = let many : members.count y.streams ≡ members.count x.streams = one.streams in record {

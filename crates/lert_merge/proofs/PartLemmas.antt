@@ -1,13 +1,9 @@
 -- A stream's list, which begins with what was taken of it.
-use Rattle.std.proofs.Common.{◌≡◌, ◌≢◌, ℕ, suc, ◌<◌, ◌≤◌, Bool, if◌then◌else◌, List, [], ◌∷◌, ◌++◌, length, get_or, All, arith, sym, ap, ◌∙◌, refl, subst}
-use Rattle.std.proofs.Common.{inl, inr}
-use Rattle.std.proofs.lemmas.Bool.{cases_eq, eq-eqb, ne_eqb}
-use Rattle.std.proofs.lemmas.List.Elements.{All-cons}
-use Rattle.lert_spec.specs.declared.piece.Piece.{Piece}
-use Rattle.lert_spec.specs.Table.{count_of}
-use Rattle.lert_merge.specs.order.Fronts.{pieces_of}
+use Rattle.std.proofs.Common.{◌≡◌, ◌≢◌, ℕ, suc, ◌<◌, ◌≤◌, Bool, if◌then◌else◌, List, [], ◌∷◌, ◌++◌, length, get_or, All, arith, sym, ap, ◌∙◌, refl, subst, inl, inr}
+use Rattle.std.proofs.{lemmas.Bool.{cases_eq, eq-eqb, ne_eqb}, lemmas.List.Elements.All-cons}
+use Rattle.lert_spec.specs.{declared.piece.Piece.Piece, Table.count_of}
+use Rattle.lert_merge.specs.{order.Fronts.pieces_of, Merging.behind}
 use Rattle.lert_merge.proofs.order.FrontLemmas.{pieces_some, pieces_none}
-use Rattle.lert_merge.specs.Merging.{behind}
 
 behind_here : (tail : ℕ) (p : Piece) (rest : List Piece) → p.tail ≡ tail → behind tail (p ∷ rest) ≡ rest
 behind_here tail p rest same = ap (λ (b : Bool). let ps : List Piece = (if b then rest else p ∷ rest) in ps) (eq-eqb p.tail tail same)

@@ -1,8 +1,6 @@
 -- The parts of a mixed value by shifts and masks.
-use Rattle.std.proofs.Common.{ℕ, ◌≡◌, ◌+◌, ◌-◌, ◌*◌, ◌/◌, ◌%◌, ◌^◌, ◌<◌, ◌≤◌, ap, sym, ◌∙◌, arith, bit_and, bit_or}
-use Rattle.std.proofs.Math.Nat.{mul_assoc}
-use Rattle.std.proofs.lemmas.Nat.{shr-shr, and_mask, or_shifted, pow-add, shl_whole, shl_below}
-use Rattle.std.proofs.lemmas.Nat.Bits.{ones_shr}
+use Rattle.std.proofs.{Common.{ℕ, ◌≡◌, ◌+◌, ◌-◌, ◌*◌, ◌/◌, ◌%◌, ◌^◌, ◌<◌, ◌≤◌, ap, sym, ◌∙◌, arith, bit_and, bit_or}, Math.Nat.mul_assoc}
+use Rattle.std.proofs.{lemmas.Nat.{shr-shr, and_mask, or_shifted, pow-add, shl_whole, shl_below}, lemmas.Nat.Bits.ones_shr}
 
 pub high_part : (m cone_bits : ℕ) → cone_bits ≤ 32 → m / 2 ^ 32 / 2 ^ (32 - cone_bits) ≡ m / 2 ^ (64 - cone_bits)
 high_part m cone_bits within =

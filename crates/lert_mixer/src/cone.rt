@@ -1,6 +1,7 @@
 //! The two parts of a key: its cone, and its tail there.
 
 ghost use Rattle.std.specs.Prelude.{◌≡◌, ℕ, ◌-◌, ◌^◌, ◌<◌};
+ghost use Rattle.lert_spec.specs.Edges.{tail_bits};
 ghost use Rattle.lert_spec.specs.Mix.{cone_of, tail_of};
 
 use crate::mixer::{mix, unmix};
@@ -19,7 +20,7 @@ pub fn cone_of(settings: &Settings, key: u64) -> u32
 /// The tail of a key in its cone.
 pub fn tail_of(settings: &Settings, key: u64) -> u64
     ensures value { result ≡ tail_of settings.now key }
-    ensures below { result < 2 ^ (64 - settings.now.cone_bits) }
+    ensures below { result < 2 ^ tail_bits settings.now }
 {
     mix(key) & (u64::MAX >> settings.numbers().cone_bits)
 }
@@ -27,7 +28,7 @@ pub fn tail_of(settings: &Settings, key: u64) -> u64
 /// The key with this cone and this tail: the only one.
 pub fn key_of(settings: &Settings, cone: u32, tail: u64) -> u64
     requires cone { cone < 2 ^ settings.now.cone_bits }
-    requires tail { tail < 2 ^ (64 - settings.now.cone_bits) }
+    requires tail { tail < 2 ^ tail_bits settings.now }
     ensures cone { cone_of settings.now result ≡ cone }
     ensures tail { tail_of settings.now result ≡ tail }
     ensures only { (k : ℕ) → k < 2 ^ 64 →

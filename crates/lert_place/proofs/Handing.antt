@@ -1,13 +1,9 @@
 -- What the exits of an opening share: a fault that is counted, none, and what a call says once its result is known.
-use Rattle.std.proofs.Common.{◌≡◌, ◌++◌, Bool, cond, ℕ, ◌+◌, ◌≤◌, List, [], ◌∷◌, length, Option, Some, None, true, false, min, refl, sym, ap, subst, ◌∙◌, arith}
-use Rattle.std.proofs.Common.{Result, Ok, Err}
-use Rattle.std.specs.List.{count_by}
-use Rattle.std.proofs.lemmas.List.Sums.{sum_by_push}
-use Rattle.std.specs.Result.{is_err, OnOk, OnErr}
-use Rattle.std.proofs.lemmas.Bool.{false≢true}
+use Rattle.std.proofs.Common.{◌≡◌, ◌++◌, Bool, cond, ℕ, ◌+◌, ◌≤◌, List, [], ◌∷◌, length, Option, Some, None, true, false, min, refl, sym, ap, subst, ◌∙◌, arith, Result, Ok, Err}
+use Rattle.std.proofs.{lemmas.List.Sums.sum_by_push, lemmas.Bool.false≢true}
+use Rattle.std.specs.{List.count_by, Result.{is_err, OnOk, OnErr}}
 use Rattle.lert_io.specs.Fault.{HasCause, last_count}
-use Rattle.lert_place.specs.Kept.{Shelf}
-use Rattle.lert_place.specs.declared.opening.Opening.{Opening}
+use Rattle.lert_place.specs.{Kept.Shelf, declared.opening.Opening.Opening}
 
 pub at_ok : {T E : Type 0} {P : Type 0} (r : Result T E) → is_err r ≡ false → OnOk r P → P
 at_ok (Ok x) e h = h

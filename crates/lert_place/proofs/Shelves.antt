@@ -1,7 +1,6 @@
 -- What a place in memory finds behind those that it looked at.
-use Rattle.std.proofs.Common.{◌≡◌, ℕ, ◌+◌, ◌<◌, List, ◌∷◌, length, get_or, drop, Some, Result, Ok, Err, sym, ap, subst, ◌∙◌}
+use Rattle.std.proofs.{Common.{◌≡◌, ℕ, ◌+◌, ◌<◌, List, ◌∷◌, length, get_or, drop, Some, Result, Ok, Err, sym, ap, subst, ◌∙◌}, lemmas.List.at_drop_more}
 use Rattle.std.specs.Result.{result_ok, IfOk}
-use Rattle.std.proofs.lemmas.List.{at_drop_more}
 
 -- the one at a place of a list that is read is the first of those from there on
 pub at_place : {X Y : Type 0} (F : List X → Y) (xs read : List X) (i : ℕ) (x : X) → read ≡ xs → i < length read → x ≡ get_or read i x

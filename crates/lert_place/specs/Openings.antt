@@ -1,9 +1,6 @@
 -- The openings of one trace and of the bays of cones, and how what was handed out came back.
-use Rattle.std.specs.Prelude.{◌≡◌, ℕ, ◌<◌, ◌&&◌, Bool, true, false, List, length, map, slice_get, Option, Some}
-use Rattle.std.specs.List.{count_by, range_with_len}
-use Rattle.lert_place.specs.declared.opening.Opening.{Opening}
-use Rattle.lert_place.specs.declared.opening.Wanted.{Wanted}
-use Rattle.lert_place.specs.declared.opening.Wanted.TheVariants.{Trace, Bay}
+use Rattle.std.specs.{Prelude.{◌≡◌, ℕ, ◌<◌, ◌&&◌, Bool, true, false, List, length, map, slice_get, Option, Some}, List.{count_by, range_with_len}}
+use Rattle.lert_place.specs.{declared.opening.Opening.Opening, declared.opening.Wanted.Wanted, declared.opening.Wanted.TheVariants.{Trace, Bay}}
 
 abbrev pub is_trace : Wanted → Bool
 is_trace (Trace name) = true

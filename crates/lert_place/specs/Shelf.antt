@@ -1,6 +1,5 @@
 -- What a place in memory is seen as.
-use Rattle.std.specs.Prelude.{◌≡◌, ℕ, ◌==◌, ◌&&◌, Bool, List, [], ◌∷◌, Option, Some, None, if◌then◌else◌}
-use Rattle.std.specs.Str.{bytes_eq}
+use Rattle.std.specs.{Prelude.{◌≡◌, ℕ, ◌==◌, ◌&&◌, Bool, List, [], ◌∷◌, Option, Some, None, if◌then◌else◌}, Str.bytes_eq}
 use Rattle.lert_io.specs.Memory.{Feeding}
 use Rattle.lert_bay.specs.Memory.{Disk}
 

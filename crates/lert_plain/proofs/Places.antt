@@ -1,9 +1,7 @@
 -- A count table changes and is read at one place.
-use Rattle.std.proofs.Common.{ℕ, ◌≡◌, ◌+◌, ◌<◌, zero, suc, List, [], ◌∷◌, get_or, set, refl, ap, ◌∙◌, arith}
-use Rattle.std.proofs.lemmas.Bool.Decides.{nat_tests}
+use Rattle.std.proofs.{Common.{ℕ, ◌≡◌, ◌+◌, ◌<◌, zero, suc, List, [], ◌∷◌, get_or, set, refl, ap, ◌∙◌, arith}, lemmas.Bool.Decides.nat_tests}
 use Rattle.std.specs.Prelude.{insert}
-use Rattle.lert_spec.specs.Table.{count_of, plus, AscendsFrom}
-use Rattle.lert_spec.specs.declared.piece.Piece.{Piece}
+use Rattle.lert_spec.specs.{Table.{count_of, plus, AscendsFrom}, declared.piece.Piece.Piece}
 use Rattle.lert_spec.proofs.Tables.{plus_here, plus_before, plus_behind, count_of-below, tail_ascends}
 use Rattle.lert_plain.specs.Place.{IsPresent, IsAbsent}
 

@@ -1,9 +1,6 @@
 -- The steps of a binary search for a tail.
-use Rattle.std.proofs.Common.{ℕ, ◌≡◌, ◌≢◌, ◌+◌, ◌<◌, ◌≤◌, List, length, get_or, ap, arith, inl, inr}
-use Rattle.std.proofs.lemmas.Bool.{cases_lt}
-use Rattle.std.proofs.lemmas.List.{get_or_default}
-use Rattle.lert_spec.specs.Table.{AscendsFrom}
-use Rattle.lert_spec.specs.declared.piece.Piece.{Piece}
+use Rattle.std.proofs.{Common.{ℕ, ◌≡◌, ◌≢◌, ◌+◌, ◌<◌, ◌≤◌, List, length, get_or, ap, arith, inl, inr}, lemmas.Bool.cases_lt, lemmas.List.get_or_default}
+use Rattle.lert_spec.specs.{Table.AscendsFrom, declared.piece.Piece.Piece}
 use Rattle.lert_spec.proofs.Tables.{tail_ascends}
 use Rattle.lert_plain.specs.Place.{IsBetween, IsAbsent}
 

@@ -9,11 +9,11 @@ use lert_io::OutOfMemory;
 use std::alloc::Global;
 use std::marker::Model;
 
-/// Counts of tails in a sorted list. The list never grows beyond the memory that `new` took: 16 bytes an event.
+/// Counts of tails in a sorted list. The list never grows beyond the memory that `new` took: 16 bytes an add.
 #[derive(Drop)]
 pub struct PlainTable {
     pieces: Vec<Piece>,
-    events: u64,
+    adds: u64,
     room: u64,
     quotient_bits: u32,
     width: u32,
@@ -21,19 +21,19 @@ pub struct PlainTable {
 
 impl Model for PlainTable {
     ghost use Rattle.std.specs.Prelude.{◌≤◌, ◌≡◌, ◌+◌, ◌^◌, vec_capacity};
-    ghost use Rattle.lert_spec.specs.Table.{total, IsTable};
     ghost use Rattle.lert_plain.specs.Contents.{Contents, IsKept};
 
     ghost Value = { Contents };
 
     ghost view = { λ t. record {
       pieces = t.pieces.items;
+      adds = t.adds;
       room = t.room;
       quotient_bits = t.quotient_bits;
       width = t.width;
     } };
 
-    ghost invariant = { λ t. IsKept t.pieces.items t.events t.room (t.quotient_bits + t.width) (vec_capacity t.pieces) };
+    ghost invariant = { λ t. IsKept t.pieces.items t.adds t.room (t.quotient_bits + t.width) (vec_capacity t.pieces) };
 }
 
 /// A place in a `PlainTable`.
@@ -71,6 +71,8 @@ impl CountTable for PlainTable {
 
     ghost pieces = { λ t. t.pieces };
 
+    ghost adds = { λ t. t.adds };
+
     ghost room = { λ t. t.room };
 
     ghost quotient_bits = { λ t. t.quotient_bits };
@@ -85,7 +87,7 @@ impl CountTable for PlainTable {
         let pieces = Vec::with_capacity(alloc, events as usize)?;
         Ok(PlainTable {
             pieces,
-            events: 0,
+            adds: 0,
             room: events,
             quotient_bits: quotient,
             width: remainder,
@@ -93,11 +95,11 @@ impl CountTable for PlainTable {
     }
 
     fn add(&mut self, tail: u64, n: u64) {
-        self.events += n;
+        self.adds += 1;
         match place_of(&self.pieces, tail) {
             Ok(at) => self.pieces[at].count += n,
             Err(at) => {
-                // `new` reserved a place for every event.
+                // `new` reserved a place for every add.
                 let inserted = self.pieces.insert(at, Piece { tail, count: n }).is_ok();
                 prove!(inserted);
             }
@@ -111,13 +113,13 @@ impl CountTable for PlainTable {
         }
     }
 
-    fn events(&self) -> u64 {
-        self.events
+    fn adds(&self) -> u64 {
+        self.adds
     }
 
     fn clear(&mut self) {
         self.pieces.clear();
-        self.events = 0;
+        self.adds = 0;
     }
 
     fn start(&self) -> PlainCursor {

@@ -18,6 +18,7 @@ use Rattle.lert_recover.specs.Replayed.{Before_records, In_records, HasReplayed,
 use Rattle.lert_recover.specs.Reopened.{IsReopened, IsReopenRefused, Of_call, Of_place, Of_header, Of_sight, IsStopped, At_call, At_place, At_sight, most_read}
 use Rattle.lert_recover.proofs.BoundLaws.{read_bound}
 use Rattle.lert_files.proofs.{PointLaws.directed, RecordsLaws.walk}
+use Rattle.lert_levels.specs.OnDisk.{written}
 
 -- ---- every image is what a read gives
 
@@ -101,15 +102,15 @@ module _ (s : Numbers) (cone : ℕ) where
       let long : length events ≡ n0 = length-take-le n0 (events_of history) sound.n0_most in
       let holds = bins_there s events rows (last_directory s records) (seen FRAMES) (subst (λ n. IsAt s n rows) (sym long) named.at)
       (frames_named records rows sound.log.rules named) sound.frames in
-      let stand = rows_stand s events n0 rows (seen FRAMES) named.at named.are (omega (arith, long)) holds s.levels (omega arith) in
+      let stand = rows_stand s written events n0 rows (seen FRAMES) named.at named.are (omega (arith, long)) holds s.levels (omega arith) in
       record {
         rows = rows;
         opened = record {
           headed = sound_headed seen history sound;
           log = sound.log;
           named = named;
-          frames = all_whole s rows (seen FRAMES) (tallied_in s events) valid named.are
-              (subst (λ (rs : List (List BinAt)). AllStand s (seen FRAMES) (tallied_in s events) rs) (take_all s.levels rows (omega (arith, named.at.levels))) stand);
+          frames = all_whole s written rows (seen FRAMES) (tallied_in s events) valid named.are
+              (subst (λ (rs : List (List BinAt)). AllStand s written (seen FRAMES) (tallied_in s events) rs) (take_all s.levels rows (omega (arith, named.at.levels))) stand);
         };
       }
 

@@ -1,4 +1,5 @@
 -- The reports of a cone that is reopened, of which those that were shown before are the first.
+use Rattle.lert_spec.specs.Counts.{plain}
 use Rattle.std.proofs.Common.{◌≡◌, ℕ, ◌^◌, ◌<◌, ◌≤◌, Bool, true, false, Option, Some, Result, Ok, Err, List, [], ◌∷◌, ◌++◌, length, All, length-append, ap, sym, ◌∙◌, refl, subst, arith}
 use Rattle.std.proofs.{lemmas.List.Concat.flat_map-append, lemmas.List.Elements.{All-head, All-tail}, lemmas.Option.same_Some}
 use Rattle.std.specs.Prelude.{IfOk, MatchResult, if◌then◌else◌}
@@ -41,7 +42,7 @@ first_shown : (s : Numbers) (first more : List ℕ) (closed : Bool) → 1 ≤ s.
 first_shown s first more closed positive fit =
     let parts = keys_split first more fit in
     let all = first ++ more in
-    let same : look_to s all (length first) ≡ look s first = look_to-append s first more (length first) positive parts.0 parts.1 (omega arith) in
+    let same : look_to s all (length first) ≡ look s first = look_to-append plain s first more (length first) positive parts.0 parts.1 (omega arith) in
     begins_either s all (look s first) closed
     (subst (λ (front : List Report). BeginsWith front (look s all)) same (look_begins s all (length first) (length all) (omega (arith, length-append first more))))
 

@@ -5,14 +5,16 @@ use Rattle.std.proofs.{lemmas.Bool.{cases_lt, cases_eq, lt-ltb, le-ltb, eq-eqb, 
 use Rattle.std.proofs.{lemmas.List.Elements.{All-nil, All-cons, All-head, All-tail, All-append, All-take, All-drop}, lemmas.List.Folds.sum_by-replicate}
 use Rattle.std.specs.List.{All}
 use Rattle.lert_frames.specs.Frame.{HoldsFrame}
-use Rattle.lert_spec.specs.{declared.numbers.Numbers.Numbers, declared.piece.Piece.Piece, Bins.tallied, Edges.{span, edge, capacity}, Limits.IsValid, Mix.tail_of}
+use Rattle.lert_spec.specs.{declared.numbers.Numbers.Numbers, declared.piece.Piece.Piece, Bins.tallied, Edges.{span, edge, capacity, tail_bits}, Limits.IsValid, Mix.tail_of}
 use Rattle.lert_spec.specs.Table.{count_of, total, AscendsFrom, IsTable}
+use Rattle.lert_spec.proofs.CostLaws.{costs-first}
 use Rattle.lert_spec.proofs.{EdgeLaws.{span_pos, edge_descends_to}, MixLaws.{unmixed, mix-unmixed}, Tables.count_of-below}
 use Rattle.lert_spec.proofs.TallyLaws.{tails, tails-append, IsTable-tallied, count_of-tallied, total-tallied, one_table, count_of-cons_same, count_of-cons_other}
 use Rattle.lert_levels.specs.{declared.rows.bin_at.BinAt.BinAt, rows.Checked.{held_after, EachStands}, rows.Loading.width_of, rows.Ranges.{Range, range_at, ranges}}
 use Rattle.lert_levels.specs.rows.Rows.{range_of, IsAt, tallied_in}
 use Rattle.lert_levels.proofs.{rows.HeldLaws.all_stand, rows.RangeLaws.{range_cuts, edge_within, oldest_edge}, rows.Windows.{clamp, reaches}}
 use Rattle.lert_cone.specs.Framed.{HoldsSome}
+use Rattle.lert_levels.specs.OnDisk.{written}
 
 -- ---- keys with given counts
 
@@ -21,13 +23,13 @@ abbrev expand : List Piece → List ℕ
 expand pieces = flat_map (λ (piece : Piece). replicate piece.count (unmixed piece.tail)) pieces
 
 -- a tail has a key
-tail-unmixed : (s : Numbers) (tail : ℕ) → tail < 2 ^ (64 - s.cone_bits) → tail_of s (unmixed tail) ≡ tail
+tail-unmixed : (s : Numbers) (tail : ℕ) → tail < 2 ^ tail_bits s → tail_of s (unmixed tail) ≡ tail
 tail-unmixed s tail below =
-    let fits = pow-le-pow_right {n = 2} (lit< tt) {i = 64 - s.cone_bits} {j = 64} (omega arith) in
-    ap (λ m. m % 2 ^ (64 - s.cone_bits)) (mix-unmixed tail (omega arith)) ∙ mod-eq_of_lt below
+    let fits = pow-le-pow_right {n = 2} (lit< tt) {i = tail_bits s} {j = 64} (omega arith) in
+    ap (λ m. m % 2 ^ tail_bits s) (mix-unmixed tail (omega arith)) ∙ mod-eq_of_lt below
 
 -- the keys have the counts of the table
-tails-expand : (s : Numbers) (tail least : ℕ) (pieces : List Piece) → AscendsFrom least (2 ^ (64 - s.cone_bits)) pieces → tails s tail (expand pieces) ≡ count_of pieces tail
+tails-expand : (s : Numbers) (tail least : ℕ) (pieces : List Piece) → AscendsFrom least (2 ^ tail_bits s) pieces → tails s tail (expand pieces) ≡ count_of pieces tail
 tails-expand s tail least [] ascends = refl
 tails-expand s tail least (p ∷ ps) ascends =
     let copies = replicate p.count (unmixed p.tail) in
@@ -38,7 +40,7 @@ tails-expand s tail least (p ∷ ps) ascends =
     let rest = tails-expand s tail (p.tail + 1) ps ascends.3 in
     elim (cases_eq p.tail tail) [
       | inl same ↦ (
-          let none = count_of-below (p.tail + 1) (2 ^ (64 - s.cone_bits)) ps tail (omega arith) ascends.3 in
+          let none = count_of-below (p.tail + 1) (2 ^ tail_bits s) ps tail (omega arith) ascends.3 in
           let counted = ap (λ t. p.count * cond {A = ℕ} t 1 0) (eq-eqb p.tail tail same) in
           omega (arith, count_of-cons_same p ps tail same))
       | inr differs ↦ (
@@ -47,13 +49,13 @@ tails-expand s tail least (p ∷ ps) ascends =
     ]
 
 -- so the table is theirs
-tallied-expand : (s : Numbers) (pieces : List Piece) → IsTable (2 ^ (64 - s.cone_bits)) pieces → tallied s (expand pieces) ≡ pieces
+tallied-expand : (s : Numbers) (pieces : List Piece) → IsTable (2 ^ tail_bits s) pieces → tallied s (expand pieces) ≡ pieces
 tallied-expand s pieces table =
-    one_table 0 (2 ^ (64 - s.cone_bits)) (tallied s (expand pieces)) pieces (IsTable-tallied s (expand pieces)) table
+    one_table 0 (2 ^ tail_bits s) (tallied s (expand pieces)) pieces (IsTable-tallied s (expand pieces)) table
     (λ tail. count_of-tallied s (expand pieces) tail ∙ tails-expand s tail 0 pieces table)
 
 -- and they are as many as it says in all
-length-expand : (s : Numbers) (pieces : List Piece) → IsTable (2 ^ (64 - s.cone_bits)) pieces → length (expand pieces) ≡ total pieces
+length-expand : (s : Numbers) (pieces : List Piece) → IsTable (2 ^ tail_bits s) pieces → length (expand pieces) ≡ total pieces
 length-expand s pieces table = sym (total-tallied s (expand pieces)) ∙ ap total (tallied-expand s pieces table)
 
 -- ---- ranges without gaps
@@ -183,14 +185,14 @@ module _ (s : Numbers) (base : 1 ≤ s.base) (ratio : 1 ≤ s.ratio) (n : ℕ) (
       (joined_gapless level (omega arith)))
 
 -- frames in the format hold the bins of some events
-pub some_events : (s : Numbers) → IsValid s → (n : ℕ) → n ≤ capacity s → (rows : List (List BinAt)) → IsAt s n rows → (file : List ℕ) → EachStands s file rows →
+pub some_events : (s : Numbers) → IsValid s → (n : ℕ) → n ≤ capacity s → (rows : List (List BinAt)) → IsAt s n rows → (file : List ℕ) → EachStands s written file rows →
     HoldsSome s n rows file
 some_events s valid n fits rows at file stand =
     let base : 1 ≤ s.base = omega (arith, valid.limits.base_from) in
     let ratio : 1 ≤ s.ratio = omega (arith, valid.limits.ratio_from) in
-    let held = held_after s n file in
+    let held = held_after s written n file in
     let keys = λ (bin : BinAt). expand (held bin) in
-    let stands = all_stand s base ratio n rows at file stand in
+    let stands = all_stand s written base ratio n rows at file stand in
     let bins = joined rows s.levels in
     let events = flat_map keys bins in
     let positive = span_pos s s.levels base ratio in
@@ -201,7 +203,8 @@ some_events s valid n fits rows at file stand =
     All-joined (λ (bin : BinAt). length (keys bin) ≡ width_of bin) rows s.levels
     (λ k less i d below.
     let is = stands k (omega (arith, at.levels)) i d below in
-    length-expand s (held (get_or (get_or rows k []) i d)) is.are.given.table ∙ is.are.summed) in
+    let pieces = held (get_or (get_or rows k []) i d) in
+    length-expand s pieces is.are.given.table ∙ (let sum : total pieces ≡ width_of (get_or (get_or rows k []) i d) = omega (arith, costs-first pieces, is.are.lower, is.are.upper) in sum)) in
     let many = keys_many keys bins 0 (edge s 0 n) gapless widths in
     let placed = keys_stand keys [] bins (edge s 0 n) gapless widths in
     record {
@@ -216,6 +219,6 @@ some_events s valid n fits rows at file stand =
           let is = stands k (omega (arith, at.levels)) i d below in
           let there = All-row (λ (b : BinAt). slice_range events b.from b.to ≡ keys b) rows s.levels placed k less i d below in
           let same : held bin ≡ tallied_in s events bin = sym (ap (tallied s) there ∙ tallied-expand s (held bin) is.are.given.table) in
-          subst (λ pieces. HoldsFrame s level bin.frame file pieces) same
-          (subst (λ l. HoldsFrame s l bin.frame file (held bin)) place is.text);
+          subst (λ pieces. HoldsFrame s written level bin.frame file pieces) same
+          (subst (λ l. HoldsFrame s written l bin.frame file (held bin)) place is.text);
     }

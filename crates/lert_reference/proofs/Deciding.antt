@@ -1,9 +1,7 @@
 -- What `all` and `any` decide, where the test decides a fact of each element.
-use Rattle.std.proofs.Common.{ℕ, ◌<◌, Bool, true, false, List, [], ◌∷◌, length, get_or, Decides, MatchBool, refl, arith}
+use Rattle.std.proofs.{Common.{ℕ, ◌<◌, Bool, true, false, List, [], ◌∷◌, length, get_or, Decides, MatchBool, refl, arith}, lemmas.Bool.false≢true}
+use Rattle.std.proofs.{lemmas.Iterator.Search.{true_from_All, true_from_Any}, lemmas.List.Elements.{All-from_all_within, Contains-get_or}}
 use Rattle.std.specs.List.{All, AllWithin, Any, HoldsAt}
-use Rattle.std.proofs.lemmas.Bool.{false≢true}
-use Rattle.std.proofs.lemmas.Iterator.Search.{true_from_All, true_from_Any}
-use Rattle.std.proofs.lemmas.List.Elements.{All-from_all_within, Contains-get_or}
 
 pub Decides-from_all : {X : Type 0} (P : X → Type 0) (xs : List X) (r : Bool) →
     MatchBool r (AllWithin P xs 0 (length xs)) ((k : ℕ) × (k < length xs) × HoldsAt (λ x. ¬ P x) xs k) → Decides r (All P xs)

@@ -1,9 +1,8 @@
 -- Worked examples of the definitions, computed.
 use Rattle.std.proofs.Common.{◌≡◌, ℕ, List, [], ◌∷◌, ◌++◌, Some, None, true, refl, codes}
 use Rattle.std.specs.Fmt.{digits}
-use Rattle.lert_spec.specs.Counts.{nth_occurrence, heavy}
-use Rattle.lert_spec.specs.Lines.{lines}
-use Rattle.lert_spec.specs.Trace.{left, whole, keys, key_at, trace_header}
+use Rattle.lert_spec.specs.{Counts.{nth_occurrence, heavy}, Lines.lines}
+use Rattle.lert_trace.specs.Trace.{left, whole, keys, key_at, trace_header}
 
 ascending : heavy 2 (9 ∷ 1 ∷ 1 ∷ 9 ∷ 5 ∷ []) ≡ 1 ∷ 9 ∷ []
 ascending = refl

@@ -1,11 +1,7 @@
 -- What `is_sorted_by_key` decides of the positions of reports.
-use Rattle.std.proofs.Common.{◌≡◌, ℕ, ◌+◌, ◌<◌, ◌≤◌, Bool, true, false, List, length, get_or, map, Decides, refl, arith, is_le, nat_cmp}
-use Rattle.std.specs.List.{IsAllAdjacentAnswer}
-use Rattle.std.specs.List.Sorted.{IsNonDecreasing}
-use Rattle.std.proofs.lemmas.Bool.{false≢true}
-use Rattle.std.proofs.lemmas.Bool.Decides.{nat_tests}
-use Rattle.std.proofs.lemmas.List.{get_or-map, length-map}
-use Rattle.std.proofs.lemmas.List.Sorted.{IsNonDecreasingBy-from_all_adjacent}
+use Rattle.std.proofs.{Common.{◌≡◌, ℕ, ◌+◌, ◌<◌, ◌≤◌, Bool, true, false, List, length, get_or, map, Decides, refl, arith, is_le, nat_cmp}, lemmas.Bool.false≢true, lemmas.Bool.Decides.nat_tests}
+use Rattle.std.proofs.{lemmas.List.{get_or-map, length-map}, lemmas.List.Sorted.IsNonDecreasingBy-from_all_adjacent}
+use Rattle.std.specs.{List.IsAllAdjacentAnswer, List.Sorted.IsNonDecreasing}
 use Rattle.lert_spec.specs.declared.report.Report.{Report}
 
 rises : (a b : ℕ) → true ≡ is_le (nat_cmp a b) → a ≤ b

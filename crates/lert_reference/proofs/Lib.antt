@@ -1,4 +1,5 @@
 mod Examples
+pub mod AddingLaws
 mod LookExamples
 pub mod Deciding
 pub mod InOrder

@@ -1,13 +1,8 @@
 -- Worked examples of edges, bins and reports, computed.
 use Rattle.std.proofs.Common.{◌≡◌, ℕ, ◌+◌, cond, eqb, List, [], ◌∷◌, map, Some, None, refl}
 use Rattle.std.specs.List.{range_with_len, list_any}
-use Rattle.lert_spec.specs.declared.numbers.Numbers.{Numbers}
-use Rattle.lert_spec.specs.declared.report.Report.{Report}
-use Rattle.lert_spec.specs.Bins.{Bin, bins}
-use Rattle.lert_spec.specs.Edges.{span, offset, depth, lookback, capacity, quotient_bits, width}
-use Rattle.lert_spec.specs.Limits.{first_broken}
-use Rattle.lert_spec.specs.Look.{look, closing}
-use Rattle.lert_spec.specs.Mix.{mix, cone_of, tail_of, part_of}
+use Rattle.lert_spec.specs.{declared.numbers.Numbers.Numbers, declared.report.Report.Report, Bins.{Bin, bins}, Edges.{span, offset, depth, lookback, capacity, quotient_bits, width}}
+use Rattle.lert_spec.specs.{Limits.first_broken, Look.{look, closing}, Mix.{mix, cone_of, tail_of, part_of}}
 
 abbrev small : Numbers
 small = record { threshold = 3; bins = 3; ratio = 2; base = 4; levels = 2; cone_bits = 0; room = 32; packet = 8 }

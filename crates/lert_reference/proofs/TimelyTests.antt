@@ -1,14 +1,9 @@
 -- What follows from tests of each report and each event: no light key is reported, and each heavy key has what each event has.
-use Rattle.std.proofs.Common.{◌≡◌, ℕ, zero, suc, ◌<◌, ◌≤◌, ◌==◌, inl, inr, cond, List, [], ◌∷◌, length, get_or, refl, ap, subst, arith}
-use Rattle.std.specs.Prelude.{count_by}
-use Rattle.std.specs.List.{All, Any}
-use Rattle.std.proofs.lemmas.Bool.Decides.{eqb_tells}
-use Rattle.std.proofs.lemmas.List.Elements.{All-contains, Contains-get_or}
-use Rattle.std.proofs.lemmas.List.Sums.{sum_by-cons}
-use Rattle.lert_spec.specs.declared.report.Report.{Report}
-use Rattle.lert_spec.specs.Counts.{count}
-use Rattle.lert_spec.specs.Timely.{times_listed}
-use Rattle.lert_spec.proofs.CountLaws.{count-whole}
+use Rattle.std.proofs.{Common.{◌≡◌, ℕ, zero, suc, ◌<◌, ◌≤◌, ◌==◌, inl, inr, cond, List, [], ◌∷◌, length, get_or, refl, ap, subst, arith}, lemmas.Bool.Decides.eqb_tells}
+use Rattle.std.proofs.{lemmas.List.Elements.{All-contains, Contains-get_or}, lemmas.List.Sums.sum_by-cons}
+use Rattle.std.specs.{Prelude.count_by, List.{All, Any}}
+use Rattle.lert_spec.specs.{declared.item.Item.Item, declared.report.Report.Report, Counts.{weighed, weight_in}, Timely.times_listed}
+use Rattle.lert_spec.proofs.ReportLaws.{occurs}
 
 -- what is counted at least once is there
 Any-counted : {X : Type 0} (f : X → ℕ) (key : ℕ) (xs : List X) → 1 ≤ count_by (λ x. f x == key) xs → Any (λ x. f x ≡ key) xs
@@ -35,38 +30,39 @@ counted_from_Contains f (y ∷ ys) x (suc k) within here =
     omega (arith, left, sum_by-cons (λ z. cond (f z == f x) 1 0) y ys)
 
 -- a key that occurs too seldom isn't reported, where each report names one that doesn't
-pub light_isn't_listed : (threshold : ℕ) (events : List ℕ) (reports : List Report) →
-    All (λ report. threshold ≤ count report.key events 0 (length events)) reports →
-    (key : ℕ) → count key events 0 (length events) < threshold → times_listed key reports ≡ 0
+pub light_isn't_listed : (threshold : ℕ) (events : List Item) (reports : List Report) →
+    All (λ report. threshold ≤ weight_in weighed report.key events 0 (length events)) reports →
+    (key : ℕ) → weight_in weighed key events 0 (length events) < threshold → times_listed key reports ≡ 0
 light_isn't_listed threshold events reports heavy key few =
     elim (eqb_tells (times_listed key reports) 0) [
       | inl none ↦ none.1
       | inr some ↦
           let found = Any-counted (λ report. report.key) key reports (omega (arith, some.1)) in
-          let enough : threshold ≤ count found.1.key events 0 (length events) =
-          All-contains (λ report. threshold ≤ count report.key events 0 (length events)) reports found.1 heavy (found.0, found.2, found.3) in
-          absurd (omega (arith, few, ap (λ k. count k events 0 (length events)) found.4))
+          let enough : threshold ≤ weight_in weighed found.1.key events 0 (length events) =
+          All-contains (λ report. threshold ≤ weight_in weighed report.key events 0 (length events)) reports found.1 heavy (found.0, found.2, found.3) in
+          absurd (omega (arith, few, ap (λ k. weight_in weighed k events 0 (length events)) found.4))
     ]
 
 not_below : (a b : ℕ) → ¬ (b < a) → a ≤ b
 not_below a b refuted = omega arith
 
 -- each report names a key that occurs often enough, where no other is reported
-pub listed_is_heavy : (threshold : ℕ) (events : List ℕ) (reports : List Report) →
-    ((key : ℕ) → count key events 0 (length events) < threshold → times_listed key reports ≡ 0) →
-    All (λ report. threshold ≤ count report.key events 0 (length events)) reports
+pub listed_is_heavy : (threshold : ℕ) (events : List Item) (reports : List Report) →
+    ((key : ℕ) → weight_in weighed key events 0 (length events) < threshold → times_listed key reports ≡ 0) →
+    All (λ report. threshold ≤ weight_in weighed report.key events 0 (length events)) reports
 listed_is_heavy threshold events reports light k d within =
     let report = get_or reports k d in
     let found = Contains-get_or reports k d within in
     let once : 1 ≤ times_listed report.key reports = counted_from_Contains (λ report. report.key) reports report found.0 found.1 found.2 in
-    not_below threshold (count report.key events 0 (length events)) (λ few. omega (arith, light report.key few, once))
+    not_below threshold (weight_in weighed report.key events 0 (length events)) (λ few. omega (arith, light report.key few, once))
 
--- what each event has, each key has that occurs
-pub each_heavy : (P : ℕ → Type 0) (threshold : ℕ) (events : List ℕ) → 1 ≤ threshold →
-    All (λ key. threshold ≤ count key events 0 (length events) → P key) events →
-    (key : ℕ) → threshold ≤ count key events 0 (length events) → P key
+-- what each event's key has, each key has that weighs enough
+pub each_heavy : (P : ℕ → Type 0) (threshold : ℕ) (events : List Item) → 1 ≤ threshold →
+    All (λ event. threshold ≤ weight_in weighed event.key events 0 (length events) → P event.key) events →
+    (key : ℕ) → threshold ≤ weight_in weighed key events 0 (length events) → P key
 each_heavy P threshold events some each key enough =
-    let found = Any-counted (λ event. event) key events (omega (arith, count-whole key events)) in
-    let here = All-contains (λ key. threshold ≤ count key events 0 (length events) → P key) events found.1 each (found.0, found.2, found.3) in
-    let of_key : threshold ≤ count key events 0 (length events) → P key = subst (λ key. threshold ≤ count key events 0 (length events) → P key) found.4 here in
+    let Q : Item → Type 0 = λ event. threshold ≤ weight_in weighed event.key events 0 (length events) → P event.key in
+    let found = Any-counted (λ (event : Item). event.key) key events (occurs weighed key events 0 (length events) (omega (arith, some, enough))) in
+    let here = All-contains Q events found.1 each (found.0, found.2, found.3) in
+    let of_key : threshold ≤ weight_in weighed key events 0 (length events) → P key = subst (λ key. threshold ≤ weight_in weighed key events 0 (length events) → P key) found.4 here in
     of_key enough

@@ -1,34 +1,46 @@
-//! Counts and occurrences of keys as their definitions say them: the events are gone through anew for each position.
+//! Weights and positions of keys as their definitions say them: the events are gone through anew for each position.
 
-ghost use Rattle.std.specs.Prelude.{◌≡◌, ◌<◌, ◌≤◌, length, insert, IfOk, IfSome, MatchOption};
-ghost use Rattle.lert_spec.specs.Counts.{count, nth_occurrence, first, insert_key, distinct, heavy};
+ghost use Rattle.std.specs.Prelude.{◌≡◌, ◌<◌, ◌≤◌, ◌^◌, length, insert, IfOk, IfSome, MatchOption};
+ghost use Rattle.lert_spec.specs.Counts.{weighed, weight_in, nth_in, first_in, insert_key, distinct_in, heavy_in};
 
+use lert_spec::Item;
 use std::alloc::{AllocError, Global};
 
-/// How often a key occurs at the positions above `from`, up to `to`.
-pub fn count(key: u64, events: &[u64], from: usize, to: usize) -> u64
+/// What a key weighs at the positions above `from`, up to `to`.
+pub fn weight(key: u64, events: &[Item], from: usize, to: usize) -> u64
     requires order { from ≤ to }
     requires within { to ≤ length events.now }
-    ensures { result ≡ count key events.now from to }
+    requires few { length events.now ≤ 2 ^ 56 }
+    ensures { result ≡ weight_in weighed key events.now from to }
 {
-    events[from..to]
-        .iter()
-        .filter(|event| **event == key)
-        .count() as u64
+    let mut weight = 0;
+    let window = &events[from..to];
+    for event in window {
+        if event.key == key {
+            weight += u64::from(event.weight);
+        }
+    }
+    weight
 }
 
-/// The position of the `n`-th occurrence of a key, `None` where it occurs less often. `n` is at least 1.
-pub fn nth_occurrence(n: u64, key: u64, events: &[u64]) -> Option<usize>
-    ensures { result ≡ nth_occurrence n key events.now }
+/// The first position up to which a key weighs `n`, `None` where it never does. `n` is at least 1.
+pub fn reached_at(n: u64, key: u64, events: &[Item]) -> Option<usize>
+    requires few { length events.now ≤ 2 ^ 56 }
+    ensures { result ≡ nth_in weighed n key events.now }
 {
-    (1..events.len() + 1).find(|m| n <= count(key, events, 0, *m))
+    (1..events.len() + 1).find(|to| n <= weight(key, events, 0, *to))
 }
 
 /// The first position of a key, `None` where it doesn't occur.
-pub fn first(key: u64, events: &[u64]) -> Option<usize>
-    ensures { result ≡ first key events.now }
+pub fn first(key: u64, events: &[Item]) -> Option<usize>
+    ensures { result ≡ first_in weighed key events.now }
 {
-    nth_occurrence(1, key, events)
+    for (place, event) in events.iter().enumerate() {
+        if event.key == key {
+            return Some(place + 1);
+        }
+    }
+    None
 }
 
 // Where a key belongs among ascending keys, none where it is among them.
@@ -50,27 +62,28 @@ fn place_of(keys: &[u64], key: u64) -> Option<usize>
 }
 
 /// The keys that occur, each once, in ascending order. Its only error is want of memory.
-pub fn distinct(alloc: Global, events: &[u64]) -> Result<Vec<u64>, AllocError>
-    ensures { IfOk result (λ keys. keys.items ≡ distinct events.now) }
+pub fn distinct(alloc: Global, events: &[Item]) -> Result<Vec<u64>, AllocError>
+    ensures { IfOk result (λ keys. keys.items ≡ distinct_in weighed events.now) }
 {
     let mut keys = Vec::new(alloc);
     let mut left = events.len();
     while left > 0 {
         left -= 1;
-        if let Some(place) = place_of(&keys, events[left]) {
-            keys.insert(place, events[left])?;
+        if let Some(place) = place_of(&keys, events[left].key) {
+            keys.insert(place, events[left].key)?;
         }
     }
     Ok(keys)
 }
 
-/// The keys that occur at least `threshold` times, each once, in ascending order. Its only error is want of memory.
-pub fn heavy(alloc: Global, threshold: u64, events: &[u64]) -> Result<Vec<u64>, AllocError>
-    ensures { IfOk result (λ keys. keys.items ≡ heavy threshold events.now) }
+/// The keys that weigh at least `threshold`, each once, in ascending order. Its only error is want of memory.
+pub fn heavy(alloc: Global, threshold: u64, events: &[Item]) -> Result<Vec<u64>, AllocError>
+    requires few { length events.now ≤ 2 ^ 56 }
+    ensures { IfOk result (λ keys. keys.items ≡ heavy_in weighed threshold events.now) }
 {
     distinct(alloc, events)?
         .iter()
         .copied()
-        .filter(|key| threshold <= count(*key, events, 0, events.len()))
+        .filter(|key| threshold <= weight(*key, events, 0, events.len()))
         .collect(alloc)
 }

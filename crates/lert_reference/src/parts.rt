@@ -1,10 +1,10 @@
 //! Cones, tails and the parts of cones as their definitions say them.
 
 ghost use Rattle.std.specs.Prelude.{◌≡◌, ◌≤◌, IfOk};
-ghost use Rattle.lert_spec.specs.Mix.{cone_of, tail_of, part_of};
+ghost use Rattle.lert_spec.specs.{Counts.{weighed}, Mix.{cone_of, tail_of, part_in}};
 
 use crate::reports::mixed;
-use lert_spec::Numbers;
+use lert_spec::{Item, Numbers};
 use std::alloc::{AllocError, Global};
 
 /// The cone of a key.
@@ -30,15 +30,15 @@ pub fn tail(s: &Numbers, key: u64) -> u64
     mixed(key) % (1 << (64 - s.cone_bits))
 }
 
-/// Those of the keys that belong to a cone, in their order.
-pub fn part(alloc: Global, s: &Numbers, of: u64, keys: &[u64]) -> Result<Vec<u64>, AllocError>
+/// Those of the items whose keys belong to a cone, in their order. Its only error is want of memory.
+pub fn part(alloc: Global, s: &Numbers, of: u64, items: &[Item]) -> Result<Vec<Item>, AllocError>
     requires { s.now.cone_bits ≤ 8 }
-    ensures { IfOk result (λ part. part.items ≡ part_of s.now of keys.now) }
+    ensures { IfOk result (λ part. part.items ≡ part_in weighed s.now of items.now) }
 {
     let mut part = Vec::new(alloc);
-    for key in keys {
-        if cone(s, *key) == of {
-            part.push(*key)?;
+    for item in items {
+        if cone(s, item.key) == of {
+            part.push(*item)?;
         }
     }
     Ok(part)

@@ -6,11 +6,11 @@
 ghost use Rattle.std.specs.Prelude.{◌≡◌, ◌-◌, ◌*◌, ◌^◌, ◌<◌, ◌≤◌, ◌↔◌, ◌⊎◌, All, IsTrue, SomeIff, length, map};
 ghost use Rattle.std.specs.List.{Any};
 ghost use Rattle.std.specs.List.Sorted.{IsNonDecreasing};
-ghost use Rattle.lert_spec.specs.Counts.{count};
-ghost use Rattle.lert_spec.specs.Timely.{IsOnTime, IsReportedOnTime, IsNotYetDue, IsTimely, IsTimelySoFar, times_listed};
+ghost use Rattle.lert_spec.specs.Counts.{weighed, weight_in};
+ghost use Rattle.lert_spec.specs.Timely.{IsOnTime, IsReportedOnTimeIn, IsNotYetDueIn, IsTimelyIn, IsTimelySoFarIn, times_listed};
 
-use crate::counts::{count, first, nth_occurrence};
-use lert_spec::Report;
+use crate::counts::{first, reached_at, weight};
+use lert_spec::{Item, Report};
 
 /// How many reports name a key.
 pub fn times_listed(key: u64, reports: &[Report]) -> usize
@@ -56,16 +56,17 @@ fn is_listed_on_time(
 pub fn is_reported_on_time(
     threshold: u64,
     bins: u64,
-    events: &[u64],
+    events: &[Item],
     reports: &[Report],
     key: u64,
 ) -> bool
-    ensures { IsTrue result ↔ IsReportedOnTime threshold bins events.now reports.now key }
+    requires few { length events.now ≤ 2 ^ 56 }
+    ensures { IsTrue result ↔ IsReportedOnTimeIn weighed threshold bins events.now reports.now key }
 {
     let Some(first_at) = first(key, events) else {
         return false;
     };
-    let Some(reached_at) = nth_occurrence(threshold, key, events) else {
+    let Some(reached_at) = reached_at(threshold, key, events) else {
         return false;
     };
     let last = events.len() as u64;
@@ -77,16 +78,17 @@ pub fn is_reported_on_time(
 pub fn is_not_yet_due(
     threshold: u64,
     bins: u64,
-    events: &[u64],
+    events: &[Item],
     reports: &[Report],
     key: u64,
 ) -> bool
-    ensures { IsTrue result ↔ IsNotYetDue threshold bins events.now reports.now key }
+    requires few { length events.now ≤ 2 ^ 56 }
+    ensures { IsTrue result ↔ IsNotYetDueIn weighed threshold bins events.now reports.now key }
 {
     let Some(first_at) = first(key, events) else {
         return false;
     };
-    let Some(reached_at) = nth_occurrence(threshold, key, events) else {
+    let Some(reached_at) = reached_at(threshold, key, events) else {
         return false;
     };
     let own = (reached_at as u64).saturating_sub(first_at as u64);
@@ -101,53 +103,58 @@ fn are_in_order(reports: &[Report]) -> bool
     reports.is_sorted_by_key(|report| report.at)
 }
 
-// A key occurs at least `threshold` times.
-fn is_heavy(threshold: u64, events: &[u64], key: u64) -> bool
-    ensures { IsTrue result ↔ (threshold ≤ count key events.now 0 (length events.now)) }
+// A key weighs at least `threshold`.
+fn is_heavy(threshold: u64, events: &[Item], key: u64) -> bool
+    requires few { length events.now ≤ 2 ^ 56 }
+    ensures { IsTrue result ↔ (threshold ≤ weight_in weighed key events.now 0 (length events.now)) }
 {
-    threshold <= count(key, events, 0, events.len())
+    threshold <= weight(key, events, 0, events.len())
 }
 
-// Each report names a key that occurs at least `threshold` times.
-fn are_heavy(threshold: u64, events: &[u64], reports: &[Report]) -> bool
+// Each report names a key that weighs at least `threshold`.
+fn are_heavy(threshold: u64, events: &[Item], reports: &[Report]) -> bool
+    requires few { length events.now ≤ 2 ^ 56 }
     ensures { IsTrue result
-        ↔ All (λ report. threshold ≤ count report.key events.now 0 (length events.now)) reports.now }
+        ↔ All (λ report. threshold ≤ weight_in weighed report.key events.now 0 (length events.now)) reports.now }
 {
     reports
         .iter()
         .all(|report| is_heavy(threshold, events, report.key))
 }
 
-// Each key that occurs at least `threshold` times is reported on time.
-fn are_reported(threshold: u64, bins: u64, events: &[u64], reports: &[Report]) -> bool
+// Each key that weighs at least `threshold` is reported on time.
+fn are_reported(threshold: u64, bins: u64, events: &[Item], reports: &[Report]) -> bool
+    requires few { length events.now ≤ 2 ^ 56 }
     ensures { IsTrue result
-        ↔ All (λ key. threshold ≤ count key events.now 0 (length events.now)
-        → IsReportedOnTime threshold bins events.now reports.now key) events.now }
+        ↔ All (λ event. threshold ≤ weight_in weighed event.key events.now 0 (length events.now)
+        → IsReportedOnTimeIn weighed threshold bins events.now reports.now event.key) events.now }
 {
-    events.iter().all(|key| {
-        !is_heavy(threshold, events, *key)
-            || is_reported_on_time(threshold, bins, events, reports, *key)
+    events.iter().all(|event| {
+        !is_heavy(threshold, events, event.key)
+            || is_reported_on_time(threshold, bins, events, reports, event.key)
     })
 }
 
-// Each key that occurs at least `threshold` times is reported on time, or isn't in the reports and not yet due.
-fn are_reported_so_far(threshold: u64, bins: u64, events: &[u64], reports: &[Report]) -> bool
+// Each key that weighs at least `threshold` is reported on time, or isn't in the reports and not yet due.
+fn are_reported_so_far(threshold: u64, bins: u64, events: &[Item], reports: &[Report]) -> bool
+    requires few { length events.now ≤ 2 ^ 56 }
     ensures { IsTrue result
-        ↔ All (λ key. threshold ≤ count key events.now 0 (length events.now)
-        → IsReportedOnTime threshold bins events.now reports.now key
-        ⊎ IsNotYetDue threshold bins events.now reports.now key) events.now }
+        ↔ All (λ event. threshold ≤ weight_in weighed event.key events.now 0 (length events.now)
+        → IsReportedOnTimeIn weighed threshold bins events.now reports.now event.key
+        ⊎ IsNotYetDueIn weighed threshold bins events.now reports.now event.key) events.now }
 {
-    events.iter().all(|key| {
-        !is_heavy(threshold, events, *key)
-            || is_reported_on_time(threshold, bins, events, reports, *key)
-            || is_not_yet_due(threshold, bins, events, reports, *key)
+    events.iter().all(|event| {
+        !is_heavy(threshold, events, event.key)
+            || is_reported_on_time(threshold, bins, events, reports, event.key)
+            || is_not_yet_due(threshold, bins, events, reports, event.key)
     })
 }
 
 /// The reports are timely for a cone's events.
-pub fn is_timely(threshold: u64, bins: u64, events: &[u64], reports: &[Report]) -> bool
-    requires { 1 ≤ threshold }
-    ensures { IsTrue result ↔ IsTimely threshold bins events.now reports.now }
+pub fn is_timely(threshold: u64, bins: u64, events: &[Item], reports: &[Report]) -> bool
+    requires some { 1 ≤ threshold }
+    requires few { length events.now ≤ 2 ^ 56 }
+    ensures { IsTrue result ↔ IsTimelyIn weighed threshold bins events.now reports.now }
 {
     are_in_order(reports)
         && are_heavy(threshold, events, reports)
@@ -155,9 +162,10 @@ pub fn is_timely(threshold: u64, bins: u64, events: &[u64], reports: &[Report]) 
 }
 
 /// The reports are timely so far: for events of which more may come.
-pub fn is_timely_so_far(threshold: u64, bins: u64, events: &[u64], reports: &[Report]) -> bool
-    requires { 1 ≤ threshold }
-    ensures { IsTrue result ↔ IsTimelySoFar threshold bins events.now reports.now }
+pub fn is_timely_so_far(threshold: u64, bins: u64, events: &[Item], reports: &[Report]) -> bool
+    requires some { 1 ≤ threshold }
+    requires few { length events.now ≤ 2 ^ 56 }
+    ensures { IsTrue result ↔ IsTimelySoFarIn weighed threshold bins events.now reports.now }
 {
     are_in_order(reports)
         && are_heavy(threshold, events, reports)

@@ -1,7 +1,7 @@
 //! The trace format as its definition says it: where bytes leave it, and which keys stand before that.
 
 ghost use Rattle.std.specs.Prelude.{◌≡◌, ◌+◌, ◌*◌, ◌<◌, ◌≤◌, length, option_map, IfOk};
-ghost use Rattle.lert_spec.specs.Trace.{left, key_at, whole_len, whole, keys};
+ghost use Rattle.lert_trace.specs.Trace.{left, key_at, whole_len, whole, keys};
 
 use byteorder::{ByteOrder, LittleEndian};
 use lert_spec::agreed;

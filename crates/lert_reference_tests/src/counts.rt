@@ -1,64 +1,79 @@
-use lert_reference::counts::{count, distinct, first, heavy, nth_occurrence};
+use crate::items::items_of;
+use lert_reference::counts::{distinct, first, heavy, reached_at, weight};
 use std::alloc::Global;
 use std::process::Abort;
 
-const EVENTS: [u64; 5] = [9, 1, 1, 9, 5];
+const EVENTS: [(u64, u8); 5] = [(9, 1), (1, 2), (1, 255), (9, 3), (5, 1)];
 
 #[test]
-fn a_key_is_counted_above_one_position_and_up_to_another(rt: HostRuntime) {
+fn a_key_is_weighed_above_one_position_and_up_to_another(rt: HostRuntime) {
+    let events = items_of(&rt, rt.alloc(), &EVENTS);
+    assert!(rt; events.len() == 5);
     let rows = [
-        (9, 0, 5, 2),
-        (9, 1, 5, 1),
+        (9, 0, 5, 4),
+        (9, 1, 5, 3),
         (9, 1, 3, 0),
-        (9, 3, 4, 1),
-        (1, 1, 3, 2),
+        (9, 3, 4, 3),
+        (1, 1, 3, 257),
         (2, 0, 5, 0),
         (9, 0, 0, 0),
     ];
-    for (key, from, to, times) in rows {
+    for (key, from, to, weighs) in rows {
         assert!(rt; from <= to && to <= 5);
-        assert_eq!(rt; count(key, &EVENTS, from, to), times, "{key}");
+        assert_eq!(rt; weight(key, &events, from, to), weighs, "{key}");
     }
 }
 
 #[test]
-fn occurrences_are_told_by_their_positions(rt: HostRuntime) {
+fn a_key_stands_first_and_reaches_a_weight_at_its_positions(rt: HostRuntime) {
+    let events = items_of(&rt, rt.alloc(), &EVENTS);
+    assert!(rt; events.len() == 5);
     let rows = [
         (1, 9, Some(1)),
         (2, 9, Some(4)),
-        (3, 9, None),
+        (4, 9, Some(4)),
+        (5, 9, None),
         (1, 1, Some(2)),
-        (2, 1, Some(3)),
+        (2, 1, Some(2)),
+        (3, 1, Some(3)),
+        (257, 1, Some(3)),
+        (258, 1, None),
         (1, 5, Some(5)),
         (1, 7, None),
     ];
     for (n, key, position) in rows {
-        let is_first = n != 1 || first(key, &EVENTS) == position;
+        let is_first = n != 1 || first(key, &events) == position;
         assert_eq!(rt;
-            (nth_occurrence(n, key, &EVENTS), is_first),
+            (reached_at(n, key, &events), is_first),
             (position, true),
             "{key}"
         );
     }
 }
 
-// Wants these keys, and these of them twice at least.
-fn check_keys(rt: &impl Abort, alloc: Global, events: &[u64], keys: &[u64], twice: &[u64]) {
-    let found = distinct(alloc, events).expect(rt, "memory");
+// Wants these keys, and these of them that weigh three at least.
+fn check_keys(rt: &impl Abort, alloc: Global, pairs: &[(u64, u8)], keys: &[u64], three: &[u64]) {
+    let events = items_of(rt, alloc, pairs);
+    let found = distinct(alloc, &events).expect(rt, "memory");
     assert_eq!(rt; found.as_slice(), keys);
-    let found = heavy(alloc, 2, events).expect(rt, "memory");
-    assert_eq!(rt; found.as_slice(), twice);
+    assert!(rt; events.len() <= 5);
+    let found = heavy(alloc, 3, &events).expect(rt, "memory");
+    assert_eq!(rt; found.as_slice(), three);
 }
 
 #[test]
 fn keys_ascend_and_stand_once(rt: HostRuntime) {
-    let rows: [(&[u64], &[u64], &[u64]); 4] = [
+    let rows: [(&[(u64, u8)], &[u64], &[u64]); 4] = [
         (&[], &[], &[]),
-        (&[7], &[7], &[]),
+        (&[(7, 2)], &[7], &[]),
         (&EVENTS, &[1, 5, 9], &[1, 9]),
-        (&[u64::MAX, 0, u64::MAX], &[0, u64::MAX], &[u64::MAX]),
+        (
+            &[(u64::MAX, 1), (0, 1), (u64::MAX, 2)],
+            &[0, u64::MAX],
+            &[u64::MAX],
+        ),
     ];
-    for (events, keys, twice) in rows {
-        check_keys(&rt, rt.alloc(), events, keys, twice);
+    for (pairs, keys, three) in rows {
+        check_keys(&rt, rt.alloc(), pairs, keys, three);
     }
 }

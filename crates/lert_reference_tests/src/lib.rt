@@ -6,6 +6,8 @@
 #[cfg(test)]
 mod counts;
 #[cfg(test)]
+mod items;
+#[cfg(test)]
 mod lines;
 #[cfg(test)]
 mod reports;

@@ -72,22 +72,33 @@ fn the_first_broken_rule_is_named(rt: HostRuntime) {
         ..SHIPPED
     };
     let wide = Numbers {
-        cone_bits: 8,
+        cone_bits: 6,
         base: 65_536,
         ..SHIPPED
+    };
+    let widest = Numbers {
+        cone_bits: 5,
+        ..wide
     };
     let full = Numbers {
         cone_bits: 8,
         room: 65_537,
         ..SHIPPED
     };
+    // The oldest level ends at 2,505,375,744, and at half of it.
     let deep = Numbers {
-        ratio: 16,
-        levels: 8,
+        bins: 2,
+        base: 65_536,
+        levels: 7,
         ..SHIPPED
+    };
+    let deepest = Numbers {
+        base: 32_768,
+        ..deep
     };
     let rules = [rule_of(few), rule_of(wide), rule_of(full), rule_of(deep)];
     assert_eq!(rt; rules, [2, 9, 10, 11]);
+    assert_eq!(rt; [rule_of(widest), rule_of(deepest)], [0, 0]);
 }
 
 fn settings(rt: &impl Abort, numbers: Numbers) -> Settings

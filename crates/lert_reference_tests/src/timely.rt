@@ -1,11 +1,31 @@
+use crate::items::items_of;
 use lert_reference::timely::{is_timely, is_timely_so_far};
 use lert_spec::Report;
 use std::alloc::Global;
 use std::process::Abort;
 
-// Key 7 reaches three at position 13, twelve behind its first, and key 8 at position 14, eleven behind its first.
-const EVENTS: [u64; 20] = [
-    7, 7, 8, 8, 105, 106, 107, 108, 109, 110, 111, 112, 7, 8, 115, 116, 117, 118, 119, 120,
+// Key 7 weighs three at position 13, twelve behind its first, and key 8 at position 14, eleven behind its first.
+const EVENTS: [(u64, u8); 20] = [
+    (7, 1),
+    (102, 1),
+    (8, 2),
+    (104, 2),
+    (105, 2),
+    (106, 1),
+    (107, 1),
+    (108, 1),
+    (109, 1),
+    (110, 1),
+    (111, 1),
+    (112, 1),
+    (7, 2),
+    (8, 1),
+    (115, 1),
+    (116, 1),
+    (117, 1),
+    (118, 1),
+    (119, 1),
+    (120, 2),
 ];
 
 fn reports_of(rt: &impl Abort, alloc: Global, pairs: &[(u64, u64)]) -> Vec<Report> {
@@ -21,10 +41,11 @@ fn reports_of(rt: &impl Abort, alloc: Global, pairs: &[(u64, u64)]) -> Vec<Repor
 fn are_timely(rt: &impl Abort, alloc: Global, len: usize, pairs: &[(u64, u64)]) -> (bool, bool) {
     assert!(rt; len <= 20);
     let reports = reports_of(rt, alloc, pairs);
-    let events = &EVENTS[..len];
+    let events = items_of(rt, alloc, &EVENTS[..len]);
+    assert!(rt; events.len() <= 20);
     (
-        is_timely(3, 3, events, &reports),
-        is_timely_so_far(3, 3, events, &reports),
+        is_timely(3, 3, &events, &reports),
+        is_timely_so_far(3, 3, &events, &reports),
     )
 }
 
@@ -48,7 +69,7 @@ fn reports_are_tried_with_threshold_three_and_three_bins(rt: HostRuntime) {
         // In the wrong order, and listed twice.
         (20, &[(7, 16), (8, 15)], false, false),
         (20, &[(7, 16), (7, 16), (8, 19)], false, false),
-        // Of a key that occurs too seldom, and of one that doesn't occur.
+        // Of a key that weighs too little, and of one that doesn't occur.
         (20, &[(7, 16), (8, 19), (105, 20)], false, false),
         (20, &[(7, 16), (8, 19), (9, 20)], false, false),
         // Missing, where the bound hasn't passed.

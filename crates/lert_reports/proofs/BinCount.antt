@@ -1,16 +1,9 @@
 -- How many bins a level has: as many as there are whole spans from its edge up to that of the next younger level.
-use Rattle.std.proofs.Common.{◌≡◌, ℕ, zero, suc, ◌+◌, ◌-◌, ◌*◌, ◌/◌, ◌<◌, ◌≤◌, ◌^◌, Bool, true, false, cond, min, max, refl, ap, sym, subst, ◌∙◌, arith}
-use Rattle.std.proofs.Common.{inl, inr}
-use Rattle.std.specs.Prelude.{nat_lt, count_by}
-use Rattle.std.specs.List.{range_with_len}
-use Rattle.std.proofs.Math.Nat.{mul-le-mul_right, div-mul-le_self, mul-div-le, lt-div-mul-add, mul-div_cancel_left, mul_comm}
-use Rattle.std.proofs.lemmas.Bool.{cases_lt, lt-ltb, le-ltb}
-use Rattle.std.proofs.lemmas.List.Sums.{sum_by-cons}
-use Rattle.lert_spec.specs.declared.numbers.Numbers.{Numbers}
-use Rattle.lert_spec.specs.Edges.{span, offset, edge, capacity}
-use Rattle.lert_spec.specs.Limits.{IsValid}
-use Rattle.lert_spec.proofs.LimitLaws.{span_within}
-use Rattle.lert_spec.proofs.EdgeLaws.{span_pos, edge_descends}
+use Rattle.std.proofs.Common.{◌≡◌, ℕ, zero, suc, ◌+◌, ◌-◌, ◌*◌, ◌/◌, ◌<◌, ◌≤◌, ◌^◌, Bool, true, false, cond, min, max, refl, ap, sym, subst, ◌∙◌, arith, inl, inr}
+use Rattle.std.proofs.{Math.Nat.{mul-le-mul_right, div-mul-le_self, mul-div-le, lt-div-mul-add, mul-div_cancel_left, mul_comm}, lemmas.Bool.{cases_lt, lt-ltb, le-ltb}, lemmas.List.Sums.sum_by-cons}
+use Rattle.std.specs.{Prelude.{nat_lt, count_by}, List.range_with_len}
+use Rattle.lert_spec.specs.{declared.numbers.Numbers.Numbers, Edges.{span, offset, edge, capacity}, Limits.IsValid}
+use Rattle.lert_spec.proofs.{LimitLaws.span_within, EdgeLaws.{span_pos, edge_descends}}
 use Rattle.lert_reports.specs.LogText.{bin_count}
 
 -- numbers pass a test exactly from `a` on, up to `c`

@@ -1,17 +1,12 @@
 -- The log text, computed on the closing record of three keys 7, on a flush, and on payloads that break each rule.
-use Rattle.std.proofs.Common.{◌≡◌, ℕ, zero, suc, ◌+◌, ◌<◌, ◌≤◌, ◌^◌, List, [], ◌∷◌, ◌++◌, take, drop, Some, None, refl, arith, inl}
+use Rattle.std.proofs.{Common.{◌≡◌, ℕ, zero, suc, ◌+◌, ◌<◌, ◌≤◌, ◌^◌, List, [], ◌∷◌, ◌++◌, take, drop, Some, None, refl, arith, inl}, lemmas.List.Elements.All-cons}
 use Rattle.std.specs.Prelude.{slice_index_or}
-use Rattle.std.proofs.lemmas.List.Elements.{All-cons}
-use Rattle.lert_spec.specs.declared.numbers.Numbers.{Numbers}
-use Rattle.lert_spec.specs.Mix.{cone_of, mix}
-use Rattle.lert_reports.specs.declared.log.LogBefore.{LogBefore}
-use Rattle.lert_reports.specs.declared.log.LogKind.{LogKind}
-use Rattle.lert_reports.specs.declared.log.LogParts.{LogParts}
-use Rattle.lert_reports.specs.LogText.{LogRecord, log_payload_of, left_at, log_left, bin_count}
-use Rattle.lert_gatelog.specs.Gated.{Records, No_gate}
+use Rattle.lert_spec.specs.{declared.numbers.Numbers.Numbers, Mix.{cone_of, mix}}
+use Rattle.lert_reports.specs.{declared.log.LogBefore.LogBefore, declared.log.LogKind.LogKind, declared.log.LogParts.LogParts, LogText.{LogRecord, log_payload_of, left_at, log_left, bin_count}}
 use Rattle.lert_reports.specs.Log.{log_header, most_record, before_of, AreRecords, HasLog, IsRepeatedAt, LogLeavesAt, In_header, At_gate, In_payload, Behind_closing}
-use Rattle.lert_reports.proofs.LogLaws.{records_none, records_more}
 use Rattle.lert_reports.specs.LogRules.{AreFrames, AreNew, KeepsRules, record_in}
+use Rattle.lert_gatelog.specs.Gated.{Records, No_gate}
+use Rattle.lert_reports.proofs.LogLaws.{records_none, records_more}
 
 abbrev alone : Numbers
 alone = record { threshold = 3; bins = 3; ratio = 2; base = 4; levels = 2; cone_bits = 0; room = 32; packet = 8 }

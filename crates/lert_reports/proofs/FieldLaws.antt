@@ -1,10 +1,7 @@
 -- The first broken one of several fields.
-use Rattle.std.proofs.Common.{◌≡◌, ℕ, zero, suc, ◌+◌, ◌<◌, ◌≤◌, ◌||◌, not, length, Bool, true, false, cond, Option, Some, None, List, [], ◌∷◌, ◌++◌, refl, ap}
-use Rattle.std.proofs.Common.{ap₂, sym, ◌∙◌, subst, arith, inl, inr}
-use Rattle.std.specs.Prelude.{flat_map, find, option_map, nat_lt}
-use Rattle.std.specs.List.{range_with_len}
-use Rattle.std.proofs.lemmas.Bool.{cases_Bool, cases_lt, true≢false, ltb-false, le-ltb, or_right, not_from_false}
-use Rattle.std.proofs.lemmas.Option.{none-some}
+use Rattle.std.proofs.Common.{◌≡◌, ℕ, zero, suc, ◌+◌, ◌<◌, ◌≤◌, ◌||◌, not, length, Bool, true, false, cond, Option, Some, None, List, [], ◌∷◌, ◌++◌, refl, ap, ap₂, sym, ◌∙◌, subst, arith, inl, inr}
+use Rattle.std.proofs.{lemmas.Bool.{cases_Bool, cases_lt, true≢false, ltb-false, le-ltb, or_right, not_from_false}, lemmas.Option.none-some}
+use Rattle.std.specs.{Prelude.{flat_map, find, option_map, nat_lt}, List.range_with_len}
 use Rattle.lert_reports.specs.LogText.{Field, is_broken, left_at}
 
 module _ (payload : List ℕ) where

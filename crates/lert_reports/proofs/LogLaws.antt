@@ -1,18 +1,10 @@
 -- How a log grows by a record, what its records say together, and how long a payload is.
-use Rattle.std.proofs.Common.{ℕ, ◌≡◌, ◌≢◌, ◌+◌, ◌*◌, Bool, false, cond, List, [], ◌∷◌, ◌++◌, length, map, refl, ap, ap₂, sym, ◌∙◌, arith, inl, inr}
-use Rattle.std.proofs.Common.{◌⊎◌, subst, length-append}
-use Rattle.std.specs.Prelude.{flat_map, fold}
-use Rattle.std.specs.List.{AllPairs}
-use Rattle.std.proofs.lemmas.List.{append-nil, map-append}
-use Rattle.std.proofs.lemmas.List.Concat.{flat_map-cons}
-use Rattle.std.proofs.lemmas.List.Sums.{fold_push, fold-append, sum_by_push}
-use Rattle.std.proofs.lemmas.Grind.{flat_map-append}
+use Rattle.std.proofs.Common.{ℕ, ◌≡◌, ◌≢◌, ◌+◌, ◌*◌, Bool, false, cond, List, [], ◌∷◌, ◌++◌, length, map, refl, ap, ap₂, sym, ◌∙◌, arith, inl, inr, ◌⊎◌, subst, length-append}
+use Rattle.std.proofs.{lemmas.List.{append-nil, map-append}, lemmas.List.Concat.flat_map-cons, lemmas.List.Sums.{fold_push, fold-append, sum_by_push}, lemmas.Grind.flat_map-append}
+use Rattle.std.specs.{Prelude.{flat_map, fold}, List.AllPairs}
 use Rattle.byteorder.specs.Endian.{little_bytes}
-use Rattle.lert_spec.specs.declared.numbers.Numbers.{Numbers}
-use Rattle.lert_spec.specs.declared.report.Report.{Report}
-use Rattle.lert_reports.specs.declared.log.LogKind.{LogKind}
-use Rattle.lert_reports.specs.LogRules.{KeepsRules}
-use Rattle.lert_reports.specs.LogText.{LogRecord, kind_number, report_bytes, log_payload, log_payload_of}
+use Rattle.lert_spec.specs.{declared.numbers.Numbers.Numbers, declared.report.Report.Report}
+use Rattle.lert_reports.specs.{declared.log.LogKind.LogKind, LogRules.KeepsRules, LogText.{LogRecord, kind_number, report_bytes, log_payload, log_payload_of}}
 use Rattle.lert_reports.specs.Log.{is_flush, is_closing, listed_in, last_n0, is_closed, last_directory, last_offset, last_first, last_at, flushes_in, before_of, AreRecords}
 
 -- ---- lists by their last element

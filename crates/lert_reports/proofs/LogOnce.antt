@@ -17,7 +17,7 @@ use Rattle.lert_spec.specs.declared.numbers.Numbers.{Numbers}
 use Rattle.lert_spec.specs.declared.report.Report.{Report}
 use Rattle.lert_spec.specs.Limits.{IsValid}
 use Rattle.lert_spec.specs.Look.{is_listed}
-use Rattle.lert_spec.specs.Trace.{agreed}
+use Rattle.lert_spec.specs.Agreed.{agreed}
 use Rattle.lert_reports.specs.declared.log.LogBefore.{LogBefore}
 use Rattle.lert_reports.specs.LogRules.{KeepsRules}
 use Rattle.lert_reports.specs.LogText.{LogRecord, log_payload_of, number_in, report_in, report_place}

@@ -1,9 +1,7 @@
 -- What stands in a payload from a place on, piece by piece.
-use Rattle.std.proofs.Common.{◌≡◌, ℕ, ◌+◌, ◌<◌, ◌^◌, List, ◌∷◌, ◌++◌, length, drop, get_or, refl, sym, ap, ◌∙◌, arith, length-append}
+use Rattle.std.proofs.{Common.{◌≡◌, ℕ, ◌+◌, ◌<◌, ◌^◌, List, ◌∷◌, ◌++◌, length, drop, get_or, refl, sym, ap, ◌∙◌, arith, length-append}, lemmas.List.{drop-drop, drop_at, get_or-drop}}
 use Rattle.std.specs.Prelude.{slice_index}
-use Rattle.std.proofs.lemmas.List.{drop-drop, drop_at, get_or-drop}
-use Rattle.byteorder.specs.Endian.{little_number, little_bytes}
-use Rattle.byteorder.specs.Numbers.{little_number-reads_back}
+use Rattle.byteorder.specs.{Endian.{little_number, little_bytes}, Numbers.little_number-reads_back}
 use Rattle.lert_reports.specs.LogText.{number_in}
 
 -- from a place on, these bytes are the rest of a payload

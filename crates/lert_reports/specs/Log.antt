@@ -1,17 +1,11 @@
 -- A whole log: its header, the records of its open gates, and the first place at which it leaves the format.
-use Rattle.std.specs.Prelude.{◌≡◌, ◌≢◌, ℕ, ◌+◌, ◌*◌, ◌<◌, ◌≤◌, Bool, true, false, List, [], ◌∷◌, ◌++◌, length, map, flat_map, fold, replicate, count_by}
-use Rattle.std.specs.Prelude.{slice_index, Some}
+use Rattle.std.specs.Prelude.{◌≡◌, ◌≢◌, ℕ, ◌+◌, ◌*◌, ◌<◌, ◌≤◌, Bool, true, false, List, [], ◌∷◌, ◌++◌, length, map, flat_map, fold, replicate, count_by, slice_index, Some}
 use Rattle.std.specs.List.{AllPairs, range_with_len}
 use Rattle.std.proofs.Common.{◌⊎◌}
 use Rattle.lert_bay.specs.Settled.{part}
 use Rattle.lert_gatelog.specs.Gated.{IsGated, IsOpen, BreaksAt, Records}
-use Rattle.lert_spec.specs.declared.numbers.Numbers.{Numbers}
-use Rattle.lert_spec.specs.declared.report.Report.{Report}
-use Rattle.lert_spec.specs.Look.{is_listed}
-use Rattle.lert_spec.specs.Trace.{agreed}
-use Rattle.lert_reports.specs.declared.log.LogBefore.{LogBefore}
-use Rattle.lert_reports.specs.declared.log.LogKind.{LogKind}
-use Rattle.lert_reports.specs.LogRules.{KeepsRules}
+use Rattle.lert_spec.specs.{declared.numbers.Numbers.Numbers, declared.report.Report.Report, Look.is_listed, Agreed.agreed}
+use Rattle.lert_reports.specs.{declared.log.LogBefore.LogBefore, declared.log.LogKind.LogKind, LogRules.KeepsRules}
 use Rattle.lert_reports.specs.LogText.{LogRecord, log_payload_of, log_left, number_in, report_in, report_place, reports_in}
 
 -- the bytes that begin a log: the letters LERTL, and version 1

@@ -1,13 +1,7 @@
 -- The rules of a record of a log, in words of the record alone, and what the parts that are read of a payload say of it.
-use Rattle.std.specs.Prelude.{◌≡◌, ◌≢◌, ℕ, ◌+◌, ◌*◌, ◌<◌, ◌≤◌, ◌^◌, List, [], All, length, map, slice_index_or}
-use Rattle.std.specs.List.{AllPairs, range_with_len}
-use Rattle.lert_spec.specs.declared.numbers.Numbers.{Numbers}
-use Rattle.lert_spec.specs.declared.report.Report.{Report}
-use Rattle.lert_spec.specs.Edges.{edge, capacity}
-use Rattle.lert_spec.specs.Mix.{cone_of}
-use Rattle.lert_reports.specs.declared.log.LogBefore.{LogBefore}
-use Rattle.lert_reports.specs.declared.log.LogKind.{LogKind}
-use Rattle.lert_reports.specs.declared.log.LogParts.{LogParts}
+use Rattle.std.specs.{Prelude.{◌≡◌, ◌≢◌, ℕ, ◌+◌, ◌*◌, ◌<◌, ◌≤◌, ◌^◌, List, [], All, length, map, slice_index_or}, List.{AllPairs, range_with_len}}
+use Rattle.lert_spec.specs.{declared.numbers.Numbers.Numbers, declared.report.Report.Report, Edges.{edge, capacity}, Mix.cone_of}
+use Rattle.lert_reports.specs.{declared.log.LogBefore.LogBefore, declared.log.LogKind.LogKind, declared.log.LogParts.LogParts}
 use Rattle.lert_reports.specs.LogText.{LogRecord, next_flush, bin_count, directory_bytes, frames_in, report_in}
 
 -- after how many events a record is due: a flush at its own position, a closing one from the last record on, before the

@@ -1,26 +1,27 @@
-//! Reports in their order, and a table of the tails of their keys.
+//! Reports in their order, and a table of what their keys are hidden as.
 
-ghost use Rattle.std.specs.Prelude.{◌≡◌, ℕ, ◌^◌, ◌<◌, ◌≤◌, [], ◌∷◌, ◌++◌, All, length, map, IfOk};
-ghost use Rattle.lert_reports.specs.Stored.{AreFewest, IsOfTails};
-ghost use Rattle.lert_spec.specs.Bins.{tallied};
+ghost use Rattle.std.specs.Prelude.{◌≡◌, ℕ, ◌^◌, ◌<◌, ◌≤◌, [], ◌∷◌, ◌++◌, All, length, IfOk};
+ghost use Rattle.lert_reports.specs.Stored.{AreFewest, hidden};
 ghost use Rattle.lert_spec.specs.Look.{is_listed};
-ghost use Rattle.lert_spec.specs.Mix.{cone_of};
 
 use lert_base::{CountTable, Report, Settings};
 use lert_io::OutOfMemory;
-use lert_mixer::tail_of;
+use lert_mixer::mix;
 use std::alloc::Global;
 use std::marker::Model;
 
 /// The reports of one cone in the order in which they were put, seen as its settings and that list.
 ///
-/// Only `new` takes memory: 16 bytes a report of the room, and a table with as many events.
+/// Only `new` takes memory: 16 bytes a report of the room, and a table with as many adds. The table counts values of 64
+/// bits that a secret makes of the keys, since whoever knows how keys are mixed can choose keys that stand beside one
+/// another. Under a secret that they don't know these stand as any others do, and a call takes no longer for them.
 #[derive(Drop)]
 pub struct ReportStore<T: CountTable> {
     settings: Settings,
+    secret: u64,
     reports: Vec<Report>,
-    // How often each tail occurs among the listed keys.
-    tails: T,
+    // How often each value occurs among those of the listed keys.
+    table: T,
 }
 
 impl<T: CountTable> Model for ReportStore<T> {
@@ -31,33 +32,41 @@ impl<T: CountTable> Model for ReportStore<T> {
 
     ghost view = { λ s. record { settings = s.settings; reports = s.reports.items } };
 
-    ghost invariant = { λ s. AreStored s.settings s.reports.items (vec_capacity s.reports)
-        (T.pieces s.tails) (T.room s.tails) (T.quotient_bits s.tails) (T.width s.tails) };
+    ghost invariant = { λ s. AreStored s.settings s.secret s.reports.items (vec_capacity s.reports)
+        (T.pieces s.table) (T.adds s.table) (T.room s.table) (T.quotient_bits s.table) (T.width s.table) };
 }
 
 impl<T: CountTable> ReportStore<T> {
-    /// No report yet, and room for as many as the settings say.
+    /// No report yet, and room for as many as the settings say. The secret is 0, which everybody knows.
     pub fn new(alloc: Global, settings: &Settings) -> Result<ReportStore<T>, OutOfMemory>
         ensures { IfOk result (λ store. store ≡ record { settings = settings.now; reports = [] }) }
     {
         let numbers = settings.numbers();
         let quotient_bits = quotient_bits(numbers.room);
-        let width = 64 - numbers.cone_bits as u32 - quotient_bits;
-        let tails = T::new(alloc, quotient_bits, width, numbers.room)?;
+        let table = T::new(alloc, quotient_bits, 64 - quotient_bits, numbers.room)?;
         let reports = Vec::with_capacity(alloc, numbers.room as usize)?;
         Ok(ReportStore {
             settings: *settings,
+            secret: 0,
             reports,
-            tails,
+            table,
         })
     }
 
-    /// Whether a key is reported, by one look-up of its tail in the table.
+    /// The same store, which has no report yet, under a secret. No answer depends on it, only how long the calls take.
+    pub fn with_secret(mut self, secret: u64) -> ReportStore<T>
+        requires none { self.reports ≡ [] }
+        ensures { result ≡ self }
+    {
+        self.secret = secret;
+        self
+    }
+
+    /// Whether a key is reported, by one look-up in the table.
     pub fn has(&self, key: u64) -> bool
-        requires { All (λ report. cone_of self.now.settings report.key ≡ cone_of self.now.settings key) self.now.reports }
         ensures { result ≡ is_listed key self.now.reports }
     {
-        self.tails.count(tail_of(&self.settings, key)) > 0
+        self.table.count(hidden(self.secret, key)) > 0
     }
 
     /// Puts a report behind the others.
@@ -65,7 +74,7 @@ impl<T: CountTable> ReportStore<T> {
         requires { length self.old.reports < self.old.settings.room }
         ensures { self.new ≡ record self.old { reports = self.old.reports ++ report ∷ [] } }
     {
-        self.tails.add(tail_of(&self.settings, report.key), 1);
+        self.table.add(hidden(self.secret, report.key), 1);
         self.reports.push_reserved(report);
     }
 
@@ -76,15 +85,6 @@ impl<T: CountTable> ReportStore<T> {
         ensures keys { All (λ report. report.key < 2 ^ 64) self.now.reports }
     {
         self.reports.as_slice()
-    }
-
-    /// The table of the tails of the listed keys, with as many events as the room, the least number of quotient bits from 6
-    /// on that gives each of them a quotient, and the other bits of a tail as its width.
-    pub fn tails(&self) -> &T
-        ensures pieces { T.pieces result.now ≡ tallied self.now.settings (map (λ report. report.key) self.now.reports) }
-        ensures of_tails { IsOfTails self.now.settings (T.room result.now) (T.quotient_bits result.now) (T.width result.now) }
-    {
-        &self.tails
     }
 
     /// How many reports there are: at most the room.
@@ -99,9 +99,17 @@ impl<T: CountTable> ReportStore<T> {
     pub fn clear(&mut self)
         ensures { self.new ≡ record self.old { reports = [] } }
     {
-        self.tails.clear();
+        self.table.clear();
         self.reports.clear();
     }
+}
+
+// The value under which the table counts a key, and no other key.
+fn hidden(secret: u64, key: u64) -> u64
+    ensures value { result ≡ hidden secret key }
+    ensures only { (k : ℕ) → k < 2 ^ 64 → hidden secret k ≡ result → key ≡ k }
+{
+    mix(key ^ secret)
 }
 
 // The least number of quotient bits from 6 on that gives each report a quotient.

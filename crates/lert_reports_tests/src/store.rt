@@ -1,7 +1,6 @@
-//! A store over each count table.
+//! A store over each count table, under several secrets.
 
 ghost use Rattle.std.specs.Prelude.{◌≡◌, []};
-ghost use Rattle.lert_spec.specs.Look.{is_listed};
 
 use crate::settings::settings_of;
 use lert_base::{CountTable, Numbers, Report};
@@ -22,21 +21,12 @@ const TWO_REPORTS: Numbers = Numbers {
     packet: 8,
 };
 
-// Whether a key is reported, where there is one cone.
-fn has<T: CountTable>(store: &ReportStore<T>, key: u64) -> bool
-    requires { store.now.settings.cone_bits ≡ 0 }
-    ensures { result ≡ is_listed key store.now.reports }
-{
-    // Its clause bounds the listed keys.
-    let _ = store.list();
-    store.has(key)
-}
+// That of everybody, and three others.
+const SECRETS: [u64; 4] = [0, 1, 0x9e37_79b9_7f4a_7c15, u64::MAX];
 
 // Whether a store has just these reports, and tells of each of the keys 7, 13 and 8 whether it is reported.
-fn has_just<T: CountTable>(store: &ReportStore<T>, reports: &[Report], told: [bool; 3]) -> bool
-    requires { store.now.settings.cone_bits ≡ 0 }
-{
-    let has = [has(store, 7), has(store, 13), has(store, 8)];
+fn has_just<T: CountTable>(store: &ReportStore<T>, reports: &[Report], told: [bool; 3]) -> bool {
+    let has = [store.has(7), store.has(13), store.has(8)];
     store.len() == reports.len() && store.list() == reports && has == told
 }
 
@@ -57,41 +47,29 @@ fn is_its_list<T: CountTable>(store: &mut ReportStore<T>) -> bool
     at_first && filled && cleared && has_just(store, &[thirteen], [false, true, false])
 }
 
-// The same of a store of its own.
-fn is_filled_and_cleared<T: CountTable>(rt: &impl Abort, alloc: Global) -> bool {
+// The same of a store of its own under a secret.
+fn is_filled_and_cleared<T: CountTable>(rt: &impl Abort, alloc: Global, secret: u64) -> bool {
     let settings = settings_of(rt, TWO_REPORTS);
-    let mut store: ReportStore<T> = ReportStore::new(alloc, &settings).expect(rt, "memory");
-    is_its_list(&mut store)
+    let store: ReportStore<T> = ReportStore::new(alloc, &settings).expect(rt, "memory");
+    is_its_list(&mut store.with_secret(secret))
+}
+
+// The same of each secret.
+fn is_its_list_whatever_the_secret<T: CountTable>(rt: &impl Abort, alloc: Global) -> bool {
+    for secret in &SECRETS {
+        if !is_filled_and_cleared::<T>(rt, alloc, *secret) {
+            return false;
+        }
+    }
+    true
 }
 
 #[test]
-fn a_store_is_its_list(rt: HostRuntime) {
-    assert!(rt; is_filled_and_cleared::<PlainTable>(&rt, rt.alloc()));
+fn a_store_is_its_list_whatever_its_secret(rt: HostRuntime) {
+    assert!(rt; is_its_list_whatever_the_secret::<PlainTable>(&rt, rt.alloc()));
 }
 
 #[test]
-fn a_store_over_a_quotient_filter_is_its_list(rt: HostRuntime) {
-    assert!(rt; is_filled_and_cleared::<Cqf>(&rt, rt.alloc()));
-}
-
-// How many quotients and slots the table of a store with room for so many reports has.
-fn lengths(rt: &impl Abort, alloc: Global, room: u64) -> (u64, u64) {
-    let settings = settings_of(
-        rt,
-        Numbers {
-            room,
-            ..TWO_REPORTS
-        },
-    );
-    let store: ReportStore<Cqf> = ReportStore::new(alloc, &settings).expect(rt, "memory");
-    (
-        store.tails().occupied().len(),
-        store.tails().slots().len() as u64,
-    )
-}
-
-#[test]
-fn the_table_of_a_store_has_a_quotient_for_each_report(rt: HostRuntime) {
-    let found = [lengths(&rt, rt.alloc(), 64), lengths(&rt, rt.alloc(), 65)];
-    assert_eq!(rt; found, [(64, 64 + 128), (128, 128 + 130)]);
+fn a_store_over_a_quotient_filter_is_its_list_whatever_its_secret(rt: HostRuntime) {
+    assert!(rt; is_its_list_whatever_the_secret::<Cqf>(&rt, rt.alloc()));
 }

@@ -4,6 +4,7 @@ use lert_top::Status;
 use lert_trials::{Ended, Files, Row, recover_files, recover_form, run_row};
 use std::alloc::Global;
 use std::process::Abort;
+use std::random::RandomSource;
 use std::sync::Wait;
 use std::thread::Threads;
 
@@ -22,13 +23,17 @@ pub fn whole_row<'a>(words: &'a [&'a str], cones: u32, trace: &'a [u8]) -> Row<'
 }
 
 /// What comes of a row over a place that has its trace and its bays.
-pub fn ran(rt: &(impl Abort + Threads + Wait + Sync), alloc: Global, row: &Row) -> Ended {
+pub fn ran(
+    rt: &(impl Abort + Threads + Wait + Sync + RandomSource),
+    alloc: Global,
+    row: &Row,
+) -> Ended {
     run_row(rt, alloc, row).expect(rt, "memory")
 }
 
 /// What comes of a recovery of files with these numbers.
 pub fn recovered(
-    rt: &(impl Abort + Threads + Wait + Sync),
+    rt: &(impl Abort + Threads + Wait + Sync + RandomSource),
     alloc: Global,
     numbers: &[&str; 8],
     files: &Files,

@@ -8,6 +8,7 @@ use lert_top::Status;
 use lert_trials::{Ended, Files, SMALL, bay_of, long_form, run_on, trace, trace_with};
 use std::alloc::Global;
 use std::process::Abort;
+use std::random::RandomSource;
 use std::sync::Wait;
 use std::thread::Threads;
 
@@ -18,7 +19,7 @@ const SEVENS: [u8; 70] =
 // What comes of the long form with these numbers over a trace, empty bays of so many cones, and this one of the next
 // cone.
 fn ran_on(
-    rt: &(impl Abort + Threads + Wait + Sync),
+    rt: &(impl Abort + Threads + Wait + Sync + RandomSource),
     alloc: Global,
     numbers: &[&str; 8],
     trace: &[u8],
@@ -31,7 +32,7 @@ fn ran_on(
 // Runs over the keys 7, 7, 7 and the bay of the one cone, wants the status and the text, and answers what the files
 // hold then.
 fn check_sevens(
-    rt: &(impl Abort + Threads + Wait + Sync),
+    rt: &(impl Abort + Threads + Wait + Sync + RandomSource),
     alloc: Global,
     bay: MemBay,
     status: Status,
@@ -70,7 +71,7 @@ fn has_packets(rt: &impl Abort, alloc: Global, journal: &[u8], want: &[usize]) {
 // Runs the long form with these numbers over so many keys, each of its own, and wants packets of so many
 // keys in the journal.
 fn check_packets(
-    rt: &(impl Abort + Threads + Wait + Sync),
+    rt: &(impl Abort + Threads + Wait + Sync + RandomSource),
     alloc: Global,
     numbers: &[&str; 8],
     len: u8,

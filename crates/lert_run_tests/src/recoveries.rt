@@ -9,12 +9,13 @@ use lert_trials::{
 };
 use std::alloc::Global;
 use std::process::Abort;
+use std::random::RandomSource;
 use std::sync::Wait;
 use std::thread::Threads;
 
 // What a run of the long form left of one cone, over a trace, where no call fails.
 fn left_by_run(
-    rt: &(impl Abort + Threads + Wait + Sync),
+    rt: &(impl Abort + Threads + Wait + Sync + RandomSource),
     alloc: Global,
     trace: &[u8],
     status: Status,
@@ -28,7 +29,7 @@ fn left_by_run(
 
 // Recovers files, wants the status and the text, and answers what it left of the files.
 fn check(
-    rt: &(impl Abort + Threads + Wait + Sync),
+    rt: &(impl Abort + Threads + Wait + Sync + RandomSource),
     alloc: Global,
     files: &Files,
     status: Status,
@@ -48,7 +49,7 @@ fn is_refused(rt: &impl Abort, ended: &Ended, files: &Files, status: Status) {
 
 // Recovers files with these numbers, wants this refusal, and the files as they were.
 fn check_refused(
-    rt: &(impl Abort + Threads + Wait + Sync),
+    rt: &(impl Abort + Threads + Wait + Sync + RandomSource),
     alloc: Global,
     numbers: &[&str; 8],
     files: &Files,
@@ -59,7 +60,11 @@ fn check_refused(
 }
 
 // What a run over the keys 7, 7, 7 left, with this write of the text failing, or none where it is 0.
-fn sevens(rt: &(impl Abort + Threads + Wait + Sync), alloc: Global, failing_write: u64) -> Files {
+fn sevens(
+    rt: &(impl Abort + Threads + Wait + Sync + RandomSource),
+    alloc: Global,
+    failing_write: u64,
+) -> Files {
     let trace = trace(alloc, &[7, 7, 7]).expect(rt, "memory");
     let row = Row {
         words: &long_form(SMALL),
@@ -111,7 +116,7 @@ fn a_run_that_was_full_is_recovered_open(rt: HostRuntime) {
 
 // Runs over these bytes, of which this read fails, or none where it is 0, and recovers what was left.
 fn check_stopped(
-    rt: &(impl Abort + Threads + Wait + Sync),
+    rt: &(impl Abort + Threads + Wait + Sync + RandomSource),
     alloc: Global,
     bytes: &[u8],
     failing_read: u64,
@@ -151,7 +156,7 @@ fn has_files(rt: &impl Abort, ended: &Ended, files: &Files, status: Status) {
 
 // What comes of a run or a recovery of two cones: the first one has these files, and the bay of the second one fails.
 fn before_failing(
-    rt: &(impl Abort + Threads + Wait + Sync),
+    rt: &(impl Abort + Threads + Wait + Sync + RandomSource),
     alloc: Global,
     words: &[&str],
     files: &Files,
@@ -259,7 +264,7 @@ fn refuses(rt: &impl Abort, ended: &Ended, files: &Files, status: Status, what: 
 
 // Changes what a run over the keys 7, 7, 7 left in a file, and wants this refusal of its recovery, and the files as they were.
 fn check_changed(
-    rt: &(impl Abort + Threads + Wait + Sync),
+    rt: &(impl Abort + Threads + Wait + Sync + RandomSource),
     alloc: Global,
     what: &str,
     file: u8,

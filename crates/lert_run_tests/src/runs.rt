@@ -5,6 +5,7 @@ use lert_top::Status;
 use lert_trials::{Ended, Row, long_form};
 use std::alloc::Global;
 use std::process::Abort;
+use std::random::RandomSource;
 use std::sync::Wait;
 use std::thread::Threads;
 
@@ -28,7 +29,7 @@ fn ends_opened(rt: &impl Abort, ended: &Ended, cones: u32, status: Status, text:
 
 // Runs a row over a place that has its trace and its bays, and wants the status and the text.
 fn check(
-    rt: &(impl Abort + Threads + Wait + Sync),
+    rt: &(impl Abort + Threads + Wait + Sync + RandomSource),
     alloc: Global,
     row: &Row,
     status: Status,
@@ -44,7 +45,7 @@ fn cones_of(cone_bits: &str) -> u32 {
 
 // Runs the long form with these numbers over a trace, in which no call fails.
 fn check_long(
-    rt: &(impl Abort + Threads + Wait + Sync),
+    rt: &(impl Abort + Threads + Wait + Sync + RandomSource),
     alloc: Global,
     numbers: &[&str; 8],
     trace: &[u8],

@@ -1,11 +1,7 @@
 -- Reading a run group by group.
-use Rattle.std.proofs.Common.{◌≡◌, ℕ, ◌+◌, ◌-◌, ◌^◌, ◌<◌, ◌≤◌, List, [], ◌∷◌, ◌++◌, length, take, drop, refl, sym, ap, ◌∙◌, subst, inl, inr}
-use Rattle.std.proofs.Common.{◌⊎◌, arith}
-use Rattle.std.proofs.lemmas.List.{append-nil, take_rest, take_all, length-drop, length-take}
-use Rattle.std.proofs.Math.Seq.{take-add}
-use Rattle.lert_counter.specs.Group.{group, IsCount}
-use Rattle.lert_counter.specs.Reading.{IsReadFrom}
-use Rattle.lert_counter.specs.declared.group.Group.{Group}
+use Rattle.std.proofs.Common.{◌≡◌, ℕ, ◌+◌, ◌-◌, ◌^◌, ◌<◌, ◌≤◌, List, [], ◌∷◌, ◌++◌, length, take, drop, refl, sym, ap, ◌∙◌, subst, inl, inr, ◌⊎◌, arith}
+use Rattle.std.proofs.{lemmas.List.{append-nil, take_rest, take_all, length-drop, length-take}, Math.Seq.take-add}
+use Rattle.lert_counter.specs.{Group.{group, IsCount}, Reading.IsReadFrom, declared.group.Group.Group}
 use Rattle.lert_counter.proofs.GroupLemmas.{length_group-positive}
 use Rattle.lert_runs.specs.RunText.{run_text, RemaindersAscend, RemaindersBelow, IsRunText}
 use Rattle.lert_runs.proofs.RunLemmas.{run_text-append}

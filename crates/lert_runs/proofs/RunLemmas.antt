@@ -1,8 +1,6 @@
 -- Laws of run texts.
-use Rattle.std.proofs.Common.{◌≡◌, ℕ, ◌+◌, ◌<◌, ◌≤◌, ◌≢◌, cond, eqb, List, [], ◌∷◌, ◌++◌, refl, sym, ap, ◌∙◌, arith, append_assoc}
-use Rattle.std.proofs.lemmas.Bool.Decides.{nat_tests}
-use Rattle.lert_counter.specs.Group.{group}
-use Rattle.lert_counter.specs.Reading.{HasTwoZeros, Follows}
+use Rattle.std.proofs.{Common.{◌≡◌, ℕ, ◌+◌, ◌<◌, ◌≤◌, ◌≢◌, cond, eqb, List, [], ◌∷◌, ◌++◌, refl, sym, ap, ◌∙◌, arith, append_assoc}, lemmas.Bool.Decides.nat_tests}
+use Rattle.lert_counter.specs.{Group.group, Reading.{HasTwoZeros, Follows}}
 use Rattle.lert_counter.proofs.GroupLemmas.{group-first, group-apart}
 use Rattle.lert_runs.specs.RunText.{run_text, RemaindersAscend, count_in, pairs_below, pairs_plus, group_in}
 

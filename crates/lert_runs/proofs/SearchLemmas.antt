@@ -1,16 +1,9 @@
 -- A search finds the count of a remainder that is greater than each count of a run.
-use Rattle.std.proofs.Common.{◌≡◌, ◌≢◌, ℕ, ◌+◌, ◌-◌, ◌^◌, ◌<◌, ◌≤◌, List, [], ◌∷◌, ◌++◌, length, map, take, drop, get_or, refl, sym, ap, ◌∙◌}
-use Rattle.std.proofs.Common.{subst, inl, inr, arith}
-use Rattle.std.proofs.lemmas.Bool.{cases_eq}
-use Rattle.std.proofs.lemmas.List.{take_rest, drop_more, drop_all}
-use Rattle.std.proofs.lemmas.Bool.Decides.{nat_tests}
-use Rattle.lert_counter.specs.Group.{group, digits, written, digit_base}
-use Rattle.lert_counter.specs.Reading.{Follows}
-use Rattle.lert_counter.proofs.DigitLemmas.{digits-last}
-use Rattle.lert_counter.proofs.GroupLemmas.{shape_of}
-use Rattle.lert_counter.proofs.GroupLemmas.Shape.{one, two, three, zeros, bare, guarded}
-use Rattle.lert_runs.specs.RunText.{run_text, RemaindersAscend, CountsBelow, count_in}
-use Rattle.lert_runs.specs.Search.{count_behind, count_from}
+use Rattle.std.proofs.{Common.{◌≡◌, ◌≢◌, ℕ, ◌+◌, ◌-◌, ◌^◌, ◌<◌, ◌≤◌, List, [], ◌∷◌, ◌++◌, length, map, take, drop, get_or, refl, sym, ap, ◌∙◌, subst, inl, inr, arith}, lemmas.Bool.cases_eq}
+use Rattle.std.proofs.{lemmas.List.{take_rest, drop_more, drop_all}, lemmas.Bool.Decides.nat_tests}
+use Rattle.lert_counter.specs.{Group.{group, digits, written, digit_base}, Reading.Follows}
+use Rattle.lert_counter.proofs.{DigitLemmas.digits-last, GroupLemmas.shape_of, GroupLemmas.Shape.{one, two, three, zeros, bare, guarded}}
+use Rattle.lert_runs.specs.{RunText.{run_text, RemaindersAscend, CountsBelow, count_in}, Search.{count_behind, count_from}}
 use Rattle.lert_runs.proofs.RunLemmas.{run_follows, count_in-here, count_in-later}
 
 -- a slot that isn't x, and one that is

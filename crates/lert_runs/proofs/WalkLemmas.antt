@@ -1,13 +1,9 @@
 -- A walk over the groups of a run text.
-use Rattle.std.proofs.Common.{◌≡◌, ℕ, ◌+◌, ◌-◌, ◌<◌, ◌≤◌, ◌≢◌, List, [], ◌∷◌, ◌++◌, length, take, drop, refl, sym, ap, ◌∙◌, arith, length-append}
-use Rattle.std.proofs.Common.{append_assoc}
+use Rattle.std.proofs.Common.{◌≡◌, ℕ, ◌+◌, ◌-◌, ◌<◌, ◌≤◌, ◌≢◌, List, [], ◌∷◌, ◌++◌, length, take, drop, refl, sym, ap, ◌∙◌, arith, length-append, append_assoc}
 use Rattle.std.proofs.lemmas.List.{append-nil, drop_at, take_rest}
-use Rattle.lert_counter.specs.Group.{group, IsCount}
-use Rattle.lert_counter.specs.Reading.{Follows}
+use Rattle.lert_counter.specs.{Group.{group, IsCount}, Reading.Follows}
 use Rattle.lert_counter.proofs.GroupLemmas.{length_group-positive}
-use Rattle.lert_runs.specs.RunText.{run_text, RemaindersAscend, IsTextOf, count_in, pairs_below}
-use Rattle.lert_runs.specs.Place.{IsPlaceOf}
-use Rattle.lert_runs.specs.declared.place.Place.{Place}
+use Rattle.lert_runs.specs.{RunText.{run_text, RemaindersAscend, IsTextOf, count_in, pairs_below}, Place.IsPlaceOf, declared.place.Place.Place}
 use Rattle.lert_runs.proofs.RunLemmas.{run_text-append, run_follows, count_in-below, count_in-here, count_in-later, pairs_below-more, pairs_below-none, group_in-there, group_in-absent}
 
 -- the walk stands behind the pairs `done` and before the pairs `rest`

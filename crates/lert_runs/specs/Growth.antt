@@ -1,8 +1,7 @@
 -- What has to be written so that a remainder's count rises.
 use Rattle.std.specs.Prelude.{ℕ, ◌+◌, ◌≡◌, ◌≤◌, List, ◌++◌, length, take, drop}
 use Rattle.lert_counter.specs.Group.{group}
-use Rattle.lert_runs.specs.RunText.{run_text, count_in, pairs_below, pairs_plus, group_in}
-use Rattle.lert_runs.specs.declared.grow.Growth.{Growth}
+use Rattle.lert_runs.specs.{RunText.{run_text, count_in, pairs_below, pairs_plus, group_in}, declared.grow.Growth.Growth}
 
 -- the text in place of the old slots gives the run with n more of x
 pub record IsGrowthOf (width x n : ℕ) (run : List ℕ) (ps : List (ℕ × ℕ)) (growth : Growth) : Type 0 where

@@ -1,7 +1,6 @@
 -- Where a remainder stands in a run text.
 use Rattle.std.specs.Prelude.{ℕ, ◌≡◌, List, length}
-use Rattle.lert_runs.specs.RunText.{run_text, count_in, pairs_below, group_in}
-use Rattle.lert_runs.specs.declared.place.Place.{Place}
+use Rattle.lert_runs.specs.{RunText.{run_text, count_in, pairs_below, group_in}, declared.place.Place.Place}
 
 -- the group of x stands here, or would begin here if it is absent
 pub record IsPlaceOf (width x : ℕ) (ps : List (ℕ × ℕ)) (place : Place) : Type 0 where

@@ -1,13 +1,8 @@
 -- Counting the set bits of a row.
-use Rattle.std.proofs.Common.{◌≡◌, ℕ, suc, zero, ◌+◌, ◌-◌, ◌*◌, ◌/◌, ◌%◌, ◌^◌, ◌<◌, ◌≤◌, Bool, true, false, cond, ◌==◌, List, [], ◌∷◌, ◌++◌}
-use Rattle.std.proofs.Common.{length, take, drop, get_or, refl, sym, ap, ◌∙◌, arith}
-use Rattle.std.specs.Prelude.{count_ones}
-use Rattle.std.specs.Int.{bit_at}
-use Rattle.std.proofs.lemmas.List.{drop_at, take-append-le, drop-drop, take_all, get_or-drop, length-drop}
-use Rattle.std.proofs.lemmas.List.Sums.{sum_by-append, sum_by-cons, sum_by_more}
-use Rattle.std.proofs.Math.Seq.{take-add}
-use Rattle.std.proofs.Math.Nat.{mod-eq_of_lt}
-use Rattle.std.proofs.lemmas.Nat.{ones_cat, mod-pow-add, mod_below}
+use Rattle.std.proofs.Common.{◌≡◌, ℕ, suc, zero, ◌+◌, ◌-◌, ◌*◌, ◌/◌, ◌%◌, ◌^◌, ◌<◌, ◌≤◌, Bool, true, false, cond, ◌==◌, List, [], ◌∷◌, ◌++◌, length, take, drop, get_or, refl, sym, ap, ◌∙◌, arith}
+use Rattle.std.proofs.{lemmas.List.{drop_at, take-append-le, drop-drop, take_all, get_or-drop, length-drop}, lemmas.List.Sums.{sum_by-append, sum_by-cons, sum_by_more}, Math.Seq.take-add}
+use Rattle.std.proofs.{Math.Nat.mod-eq_of_lt, lemmas.Nat.{ones_cat, mod-pow-add, mod_below}}
+use Rattle.std.specs.{Prelude.count_ones, Int.bit_at}
 use Rattle.lert_slotbits.specs.Bits.{bits_in, word_bits, row_of, trues}
 use Rattle.lert_slotbits.proofs.RowLemmas.{length_row, length_word_bits, bit_of_word}
 

@@ -1,14 +1,9 @@
 -- Bits of a kind in a word.
-use Rattle.std.proofs.Common.{◌≡◌, ℕ, suc, zero, ◌+◌, ◌-◌, ◌*◌, ◌/◌, ◌%◌, ◌^◌, ◌<◌, ◌≤◌, ◌≢◌, Bool, true, false, cond, ◌==◌, List, length}
-use Rattle.std.proofs.Common.{get_or, refl, sym, ap, ◌∙◌, inl, inr, arith}
+use Rattle.std.proofs.Common.{◌≡◌, ℕ, suc, zero, ◌+◌, ◌-◌, ◌*◌, ◌/◌, ◌%◌, ◌^◌, ◌<◌, ◌≤◌, ◌≢◌, Bool, true, false, cond, ◌==◌, List, length, get_or, refl, sym, ap, ◌∙◌, inl, inr, arith}
+use Rattle.std.proofs.{lemmas.Bool.{cases_lt, false≢true}, lemmas.Nat.{shl_whole, shr_below, pow_pos}, lemmas.Nat.Bits.{bit_at-lt, bit_at_cat_low, bit_at_cat_high, bit_at-zero}}
 use Rattle.std.specs.Int.{bit_at}
-use Rattle.std.proofs.lemmas.Bool.{cases_lt, false≢true}
-use Rattle.std.proofs.lemmas.Nat.{shl_whole, shr_below, pow_pos}
-use Rattle.std.proofs.lemmas.Nat.Bits.{bit_at-lt, bit_at_cat_low, bit_at_cat_high, bit_at-zero}
 use Rattle.lert_slotbits.specs.Bits.{row_of, IsFirst}
-use Rattle.lert_slotbits.proofs.RowLemmas.{length_row}
-use Rattle.lert_slotbits.proofs.GapLemmas.{row_bit}
-use Rattle.lert_slotbits.proofs.WordLemmas.{bit_at-div}
+use Rattle.lert_slotbits.proofs.{RowLemmas.length_row, GapLemmas.row_bit, WordLemmas.bit_at-div}
 
 -- a marked bit is one of the kind
 pub mark_tells : (on : Bool) (b m : ℕ) → b < 2 → m ≡ cond on b (1 - b) → m ≡ 1 → (b == 1) ≡ on

@@ -1,9 +1,8 @@
 -- Bits of one word.
 use Rattle.std.proofs.Common.{◌≡◌, ℕ, ◌+◌, ◌-◌, ◌*◌, ◌/◌, ◌%◌, ◌^◌, ◌<◌, ◌≤◌, sym, ap, ◌∙◌, arith, bit_and, bit_or}
-use Rattle.std.specs.Int.{bit_at}
 use Rattle.std.proofs.lemmas.Nat.{one_shl, and_mask, or_shifted, shl_whole, shr_below, shr_split, shr-shr, pow_pos, pow-add, mod_below}
-use Rattle.std.proofs.lemmas.Nat.Bits.{bit_at_cat_low, bit_at_cat_high, bit_at_lowest}
-use Rattle.std.proofs.Math.Pow.{pow_mono}
+use Rattle.std.proofs.{lemmas.Nat.Bits.{bit_at_cat_low, bit_at_cat_high, bit_at_lowest}, Math.Pow.pow_mono}
+use Rattle.std.specs.Int.{bit_at}
 
 -- `high << width | low`
 pub joined_is : (high width low : ℕ) → width < 64 → low < 2 ^ width → high < 2 ^ (64 - width) → bit_or (high * 2 ^ width % 18446744073709551616) low ≡ high * 2 ^ width + low

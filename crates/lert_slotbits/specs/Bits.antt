@@ -1,6 +1,5 @@
 -- A row of bits in words of 64, the lowest bit first.
-use Rattle.std.specs.Prelude.{ℕ, zero, suc, ◌/◌, ◌%◌, ◌≡◌, ◌<◌, ◌≤◌, ◌==◌, Bool, false, List, [], ◌∷◌, ◌++◌, length, slice_index_or, insert, remove}
-use Rattle.std.specs.Prelude.{count_by}
+use Rattle.std.specs.Prelude.{ℕ, zero, suc, ◌/◌, ◌%◌, ◌≡◌, ◌<◌, ◌≤◌, ◌==◌, Bool, false, List, [], ◌∷◌, ◌++◌, length, slice_index_or, insert, remove, count_by}
 
 -- the lowest bits of a number, as many as are asked for
 abbrev pub bits_in : ℕ → ℕ → List Bool

@@ -1,10 +1,7 @@
 -- The bytes of the number in some bytes are these bytes.
-use Rattle.std.proofs.Common.{◌≡◌, ℕ, zero, suc, ◌+◌, ◌*◌, ◌/◌, ◌%◌, ◌<◌, ◌≤◌, ◌^◌, List, ◌∷◌, length, take, drop, refl, sym, ap, ap₂, arith}
-use Rattle.std.proofs.Common.{◌∙◌}
-use Rattle.std.specs.Prelude.{slice_index}
-use Rattle.std.specs.Int.{bytes_low_first, byte_at}
-use Rattle.std.proofs.lemmas.List.{drop_more}
+use Rattle.std.proofs.{Common.{◌≡◌, ℕ, zero, suc, ◌+◌, ◌*◌, ◌/◌, ◌%◌, ◌<◌, ◌≤◌, ◌^◌, List, ◌∷◌, length, take, drop, refl, sym, ap, ap₂, arith, ◌∙◌}, lemmas.List.drop_more}
 use Rattle.std.proofs.Math.Nat.{div-div-eq-div-mul, pow-succ'}
+use Rattle.std.specs.{Prelude.slice_index, Int.{bytes_low_first, byte_at}}
 use Rattle.byteorder.specs.Endian.{little_bytes, little_from}
 
 -- a byte of a number with one byte more below it

@@ -1,6 +1,5 @@
 -- The first number of a range that passes a test.
-use Rattle.std.proofs.Common.{ℕ, ◌≡◌, ◌≢◌, ◌+◌, ◌<◌, ◌≤◌, zero, suc, Bool, true, false, cond, Some, ap, sym, ◌∙◌, arith, inl, inr, find}
-use Rattle.std.proofs.lemmas.Bool.{cases_lt, cases_Bool, false≢true}
+use Rattle.std.proofs.{Common.{ℕ, ◌≡◌, ◌≢◌, ◌+◌, ◌<◌, ◌≤◌, zero, suc, Bool, true, false, cond, Some, ap, sym, ◌∙◌, arith, inl, inr, find}, lemmas.Bool.{cases_lt, cases_Bool, false≢true}}
 use Rattle.std.specs.List.{range_with_len}
 
 -- the first number of a range that passes a test

@@ -1,13 +1,7 @@
 -- Pieces that a stream gave: one more, a wider limit, the first ones; and that this is a fact.
-use Rattle.std.proofs.Common.{ℕ, zero, suc, ◌≡◌, ◌+◌, ◌^◌, ◌≤◌, ◌++◌, [], ◌∷◌, List, length, take, get_or, arith, sym, ap, ◌∙◌, subst, inl, inr}
-use Rattle.std.proofs.Common.{length-append}
-use Rattle.std.proofs.Math.ListN.{get_or-append}
-use Rattle.std.proofs.Math.Seq.{get_or-append_seam}
-use Rattle.std.proofs.Props.{props}
-use Rattle.std.proofs.lemmas.Bool.{cases_lt}
-use Rattle.std.proofs.lemmas.List.Elements.{All-take}
-use Rattle.lert_spec.specs.declared.piece.Piece.{Piece}
-use Rattle.lert_spec.specs.Table.{AreGiven, AscendsFrom}
+use Rattle.std.proofs.{Common.{ℕ, zero, suc, ◌≡◌, ◌+◌, ◌^◌, ◌≤◌, ◌++◌, [], ◌∷◌, List, length, take, get_or, arith, sym, ap, ◌∙◌, subst, inl, inr, length-append}, Math.ListN.get_or-append}
+use Rattle.std.proofs.{Math.Seq.get_or-append_seam, Props.props, lemmas.Bool.cases_lt, lemmas.List.Elements.All-take}
+use Rattle.lert_spec.specs.{declared.piece.Piece.Piece, Table.{AreGiven, AscendsFrom}}
 
 ascends_more : (least limit : ℕ) (pieces : List Piece) (p : Piece) → AscendsFrom least limit pieces → least ≤ p.tail → limit ≤ p.tail → 1 ≤ p.count →
     AscendsFrom least (p.tail + 1) (pieces ++ p ∷ [])

@@ -9,8 +9,9 @@ pub mod LimitLaws
 pub mod MixLaws
 pub mod ReportLaws
 pub mod Tables
+pub mod CostLaws
 pub mod TailLaws
 pub mod TallyLaws
+pub mod TextLaws
 pub mod TimeBound
-pub mod TraceLaws
 pub mod WindowLaws

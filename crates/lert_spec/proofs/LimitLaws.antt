@@ -70,9 +70,9 @@ IsValid-from_none s limits none =
     let kept = sums_kept s in
     record {
       limits = limits;
-      tables_fit = leb-true (2 ^ s.cone_bits * s.bins * s.base) (2 ^ 24) (holds 9 0 kept none (lit< tt));
+      tables_fit = leb-true (2 ^ s.cone_bits * s.bins * s.base) (2 ^ 23) (holds 9 0 kept none (lit< tt));
       reports_fit = leb-true (2 ^ s.cone_bits * s.room) (2 ^ 24) (holds 9 1 kept none (lit< tt));
-      positions_fit = leb-true (offset s s.levels + span s s.levels) (2 ^ 32) (holds 9 2 kept none (lit< tt));
+      positions_fit = leb-true (offset s s.levels + span s s.levels) (2 ^ 31) (holds 9 2 kept none (lit< tt));
     }
 
 -- numbers that break no rule are settings
@@ -112,7 +112,7 @@ span_le-spans : (s : Numbers) (level : ℕ) → span s level ≤ spans s level
 span_le-spans s zero = omega arith
 span_le-spans s (suc level) = omega arith
 
--- a cone takes some events, and fewer than 2^32
+-- a cone takes some events, and fewer than 2^31
 pub capacity_from : (s : Numbers) → IsValid s → 1 ≤ capacity s
 capacity_from s valid =
     let wide = span_pos s s.levels (omega (arith, valid.limits.base_from)) (omega (arith, valid.limits.ratio_from)) in
@@ -121,7 +121,7 @@ capacity_from s valid =
     let some = mul-le 1 1 s.threshold s.room valid.limits.threshold_from valid.limits.room_from in
     omega arith
 
-pub capacity_to : (s : Numbers) → IsValid s → capacity s < 2 ^ 32
+pub capacity_to : (s : Numbers) → IsValid s → capacity s < 2 ^ 31
 capacity_to s valid =
     let wide = span_pos s s.levels (omega (arith, valid.limits.base_from)) (omega (arith, valid.limits.ratio_from)) in
     omega (arith, valid.positions_fit)
@@ -130,16 +130,18 @@ capacity_to s valid =
 pub span_grows : (s : Numbers) (level older : ℕ) → 1 ≤ s.ratio → level ≤ older → span s level ≤ span s older
 span_grows s level older ratio before = mul-le-mul_left s.base (pow-le-pow_right ratio before)
 
--- a span within the positions of a cone
-span_in_positions : (s : Numbers) (level : ℕ) → span s level ≤ span s s.levels → IsValid s → span s level ≤ 2 ^ 32
-span_in_positions s level grows valid = omega (arith, valid.positions_fit)
+-- a span within the positions of a cone: the oldest level's offset is no less than its span
+pub span_in_positions : (s : Numbers) (level : ℕ) → span s level ≤ span s s.levels → IsValid s → span s level ≤ 2 ^ 30
+span_in_positions s level grows valid =
+    let far = mul-le 1 (span s s.levels) (s.bins - 1) (spans s s.levels) (omega (arith, valid.limits.bins_from)) (span_le-spans s s.levels) in
+    omega (arith, valid.positions_fit)
 
 span_from_base : (s : Numbers) → IsValid s → 4 ≤ span s 0
 span_from_base s valid = mul-le 4 1 s.base (s.ratio ^ 0) valid.limits.base_from (one-le-pow 0 s.ratio (omega (arith, valid.limits.ratio_from)))
 
 -- the least number of bits by the zeros in front of the last event of a span
 pub quotient_bits_by_zeros : (s : Numbers) (level : ℕ) → IsValid s → level ≤ s.levels → (max (64 - count_leading_zeros 64 (span s level - 1)) 6 ≡ quotient_bits s level)
-    × (max (64 - count_leading_zeros 64 (span s level - 1)) 6 ≤ 32)
+    × (max (64 - count_leading_zeros 64 (span s level - 1)) 6 ≤ 30)
 quotient_bits_by_zeros s level valid within =
     let ratio : 1 ≤ s.ratio = omega (arith, valid.limits.ratio_from) in
     let grows = span_grows s level s.levels ratio within in
@@ -148,9 +150,9 @@ quotient_bits_by_zeros s level valid within =
     let wide = span_from_base s valid in
     let top = leading_top 64 (span s level - 1) (omega arith) (omega arith) in
     let j = top.0 in
-    let few : suc j ≤ 32 = elim (cases_lt j 32) [
+    let few : suc j ≤ 30 = elim (cases_lt j 30) [
       | inl less ↦ less
-      | inr more ↦ absurd (let power = pow-le-pow_right {n = 2} (lit< tt) {i = 32} {j = j} more in omega (arith, top.2))
+      | inr more ↦ absurd (let power = pow-le-pow_right {n = 2} (lit< tt) {i = 30} {j = j} more in omega (arith, top.2))
     ] in
     elim (cases_lt 6 (suc j)) [
       | inl above ↦ (

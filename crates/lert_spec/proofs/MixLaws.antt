@@ -1,10 +1,9 @@
 -- The mixed value is a bijection of the numbers below 2^64, and a key comes back from its cone and its tail.
-use Rattle.std.proofs.Common.{ℕ, ◌≡◌, ◌+◌, ◌-◌, ◌*◌, ◌/◌, ◌%◌, ◌^◌, ◌<◌, ◌≤◌, refl, ap, ap₂, sym, ◌∙◌, arith, lit<, bit_xor}
-use Rattle.std.specs.Int.Bits.{xor_self, xor_zero_r, xor_assoc}
+use Rattle.std.proofs.Common.{ℕ, ◌≡◌, ◌+◌, ◌*◌, ◌/◌, ◌%◌, ◌^◌, ◌<◌, ◌≤◌, refl, ap, ap₂, sym, ◌∙◌, arith, lit<, bit_xor}
 use Rattle.std.proofs.Math.Nat.{mod-eq_of_lt, mod-lt, mul_assoc, mul_comm, div-add-mod, div-eq_of_lt-le}
 use Rattle.std.proofs.lemmas.Nat.{xor_shr, xor_lt, shr-shr, shr_le, mul-mod_first, mul-mod_second, shr_below, pow_pos}
-use Rattle.lert_spec.specs.declared.numbers.Numbers.{Numbers}
-use Rattle.lert_spec.specs.Mix.{folded, scaled, mix, cone_of, tail_of}
+use Rattle.std.specs.Int.Bits.{xor_self, xor_zero_r, xor_assoc}
+use Rattle.lert_spec.specs.{Edges.tail_bits, declared.numbers.Numbers.Numbers, Mix.{folded, scaled, mix, cone_of, tail_of}}
 
 -- the other way: what gives a key back from its mixed value
 unfoldable pub unmixed : ℕ → ℕ
@@ -36,9 +35,10 @@ scaled_back factor inverse n unit below =
     ∙ ap (λ x. x % 2 ^ 64) (let same : n * 1 ≡ n = omega arith in same)
     ∙ mod-eq_of_lt below
 
-pub mix_below : (key : ℕ) → key < 2 ^ 64 → mix key < 2 ^ 64
+-- a mixed value has 64 bits, whatever the key
+pub mix_below : (key : ℕ) → mix key < 2 ^ 64
 unfolding mix
-mix_below key below = folded_below _ (scaled_below 0xc4ceb9fe1a85ec53 _)
+mix_below key = folded_below _ (scaled_below 0xc4ceb9fe1a85ec53 _)
 
 pub unmixed_below : (m : ℕ) → m < 2 ^ 64 → unmixed m < 2 ^ 64
 unfolding unmixed
@@ -75,18 +75,18 @@ pub mix_is_one_to_one : (a b : ℕ) → a < 2 ^ 64 → b < 2 ^ 64 → mix a ≡ 
 mix_is_one_to_one a b a_below b_below same = sym (unmixed-mix a a_below) ∙ ap unmixed same ∙ unmixed-mix b b_below
 
 -- a mixed value is its cone and its tail
-pub mix_parts : (s : Numbers) (key : ℕ) → cone_of s key * 2 ^ (64 - s.cone_bits) + tail_of s key ≡ mix key
-mix_parts s key = omega (arith, div-add-mod (mix key) (2 ^ (64 - s.cone_bits)), mul_comm (2 ^ (64 - s.cone_bits)) (cone_of s key))
+pub mix_parts : (s : Numbers) (key : ℕ) → cone_of s key * 2 ^ tail_bits s + tail_of s key ≡ mix key
+mix_parts s key = omega (arith, div-add-mod (mix key) (2 ^ tail_bits s), mul_comm (2 ^ tail_bits s) (cone_of s key))
 
 -- two keys of one cone and one tail are one
 pub one_key : (s : Numbers) (a b : ℕ) → a < 2 ^ 64 → b < 2 ^ 64 → cone_of s a ≡ cone_of s b → tail_of s a ≡ tail_of s b → a ≡ b
 one_key s a b a_below b_below cones tails =
     mix_is_one_to_one a b a_below b_below
-    (sym (mix_parts s a) ∙ ap₂ (λ cone tail. cone * 2 ^ (64 - s.cone_bits) + tail) cones tails ∙ mix_parts s b)
+    (sym (mix_parts s a) ∙ ap₂ (λ cone tail. cone * 2 ^ tail_bits s + tail) cones tails ∙ mix_parts s b)
 
 -- cones and tails lie in their ranges
 pub cone_below : (s : Numbers) (key : ℕ) → s.cone_bits ≤ 64 → key < 2 ^ 64 → cone_of s key < 2 ^ s.cone_bits
-cone_below s key within below = shr_below (mix key) s.cone_bits (64 - s.cone_bits) (let bits : s.cone_bits + (64 - s.cone_bits) ≡ 64 = omega arith in rw bits (mix_below key below))
+cone_below s key within below = shr_below (mix key) s.cone_bits (tail_bits s) (let bits : s.cone_bits + tail_bits s ≡ 64 = omega arith in rw bits (mix_below key))
 
-pub tail_below : (s : Numbers) (key : ℕ) → tail_of s key < 2 ^ (64 - s.cone_bits)
-tail_below s key = mod-lt (mix key) {m = 2 ^ (64 - s.cone_bits)} (pow_pos (64 - s.cone_bits))
+pub tail_below : (s : Numbers) (key : ℕ) → tail_of s key < 2 ^ tail_bits s
+tail_below s key = mod-lt (mix key) {m = 2 ^ tail_bits s} (pow_pos (tail_bits s))

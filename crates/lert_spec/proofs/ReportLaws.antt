@@ -6,8 +6,8 @@ use Rattle.std.proofs.lemmas.Bool.Decides.{nat_tests}
 use Rattle.std.proofs.lemmas.List.{take-append-drop}
 use Rattle.std.proofs.lemmas.List.Sums.{sum_by-append, sum_by-cons}
 use Rattle.lert_spec.specs.declared.report.Report.{Report}
-use Rattle.lert_spec.specs.Counts.{count}
-use Rattle.lert_spec.specs.Look.{insert_mixed, mixed_order, is_listed, is_due, with_due}
+use Rattle.lert_spec.specs.Counts.{Measure, plain, weight_for, weight_in, count}
+use Rattle.lert_spec.specs.Look.{insert_mixed, mixed_in, is_listed, is_due_in, with_due_in}
 use Rattle.lert_spec.specs.Mix.{mix}
 use Rattle.lert_spec.specs.Timely.{times_listed}
 
@@ -27,25 +27,6 @@ times-cons_other key other keys differs =
     times-cons key other keys
     ∙ ap (λ (t : Bool). cond {A = ℕ} t 1 0 + times key keys) (ne_eqb other key differs)
     ∙ omega arith
-
--- a part of a list has no more
-times-take : (key n : ℕ) (keys : List ℕ) → times key (take n keys) ≤ times key keys
-times-take key n keys =
-    let one : ℕ → ℕ = λ x. cond (eqb x key) 1 0 in
-    let whole = ap (sum_by one) (take-append-drop n keys) in
-    omega (arith, sum_by-append one (take n keys) (drop n keys))
-
-times-drop : (key n : ℕ) (keys : List ℕ) → times key (drop n keys) ≤ times key keys
-times-drop key n keys =
-    let one : ℕ → ℕ = λ x. cond (eqb x key) 1 0 in
-    let whole = ap (sum_by one) (take-append-drop n keys) in
-    omega (arith, sum_by-append one (take n keys) (drop n keys))
-
--- a window has no more of a key than the whole list
-pub count_le-times : (key : ℕ) (events : List ℕ) (from to : ℕ) → count key events from to ≤ times key events
-count_le-times key events from to =
-    let short = times-take key (to - from) (drop from events) in
-    let late = times-drop key from events in omega arith
 
 -- keys in the order of their mixed values, from `low` on
 abbrev pub MixedFrom : ℕ → List ℕ → Type 0
@@ -72,9 +53,9 @@ MixedFrom-insert_mixed low key (other ∷ others) above ordered =
       ]
     ]
 
-pub MixedFrom-mixed_order : (events : List ℕ) → MixedFrom 0 (mixed_order events)
-MixedFrom-mixed_order [] = tt
-MixedFrom-mixed_order (event ∷ events) = MixedFrom-insert_mixed 0 event (mixed_order events) (omega arith) (MixedFrom-mixed_order events)
+pub MixedFrom-mixed_order : {A : Type 0} (by : Measure A) (events : List A) → MixedFrom 0 (mixed_in by events)
+MixedFrom-mixed_order by [] = tt
+MixedFrom-mixed_order by (event ∷ events) = MixedFrom-insert_mixed 0 (by.key event) (mixed_in by events) (omega arith) (MixedFrom-mixed_order by events)
 
 -- a key with a lesser mixed value isn't among them
 pub times-below : (low key : ℕ) (keys : List ℕ) → mix key < low → MixedFrom low keys → times key keys ≡ 0
@@ -122,26 +103,78 @@ times-insert_same low key (next ∷ keys) ordered once =
       ]
     ]
 
--- among the ordered keys each stands at most once, and one that occurs stands there
-pub times-mixed_order_le : (key : ℕ) (events : List ℕ) → times key (mixed_order events) ≤ 1
-times-mixed_order_le key [] = omega arith
-times-mixed_order_le key (event ∷ events) =
-    elim (cases_eq event key) [
-      | inl same ↦ (
-          let once = times-insert_same 0 key (mixed_order events) (MixedFrom-mixed_order events) (times-mixed_order_le key events) in
-          let moved = ap (λ k. times key (insert_mixed k (mixed_order events))) same in omega arith)
-      | inr differs ↦ omega (arith, times-insert_other key event (mixed_order events) differs, times-mixed_order_le key events)
-    ]
+-- how often a key stands among items
+abbrev pub times_in : {A : Type 0} → Measure A → ℕ → List A → ℕ
+times_in by key events = count_by (λ item. eqb (by.key item) key) events
 
-pub times-mixed_order : (key : ℕ) (events : List ℕ) → 1 ≤ times key events → times key (mixed_order events) ≡ 1
-times-mixed_order key [] occurs = absurd (omega arith)
-times-mixed_order key (event ∷ events) occurs =
-    elim (cases_eq event key) [
-      | inl same ↦ ap (λ k. times key (insert_mixed k (mixed_order events))) same
-          ∙ times-insert_same 0 key (mixed_order events) (MixedFrom-mixed_order events) (times-mixed_order_le key events)
-      | inr differs ↦ times-insert_other key event (mixed_order events) differs
-          ∙ times-mixed_order key events (omega (arith, times-cons_other key event events differs))
-    ]
+module _ {A : Type 0} (by : Measure A) where
+  pub times_in-cons : (key : ℕ) (event : A) (events : List A) → times_in by key (event ∷ events) ≡ cond (eqb (by.key event) key) 1 0 + times_in by key events
+  times_in-cons key event events = sum_by-cons (λ item. cond (eqb (by.key item) key) 1 0) event events
+
+  pub times_in-other : (key : ℕ) (event : A) (events : List A) → by.key event ≢ key → times_in by key (event ∷ events) ≡ times_in by key events
+  times_in-other key event events differs =
+      times_in-cons key event events
+      ∙ ap (λ t. cond {A = ℕ} t 1 0 + times_in by key events) (ne_eqb (by.key event) key differs)
+      ∙ omega arith
+
+  -- a key that weighs something in a window stands among the items
+  weighs_none : (key : ℕ) (events : List A) → times_in by key events ≡ 0 → sum_by (weight_for by key) events ≡ 0
+  weighs_none key [] none = refl
+  weighs_none key (event ∷ events) none =
+      let parts = times_in-cons key event events in
+      elim (cases_eq (by.key event) key) [
+        | inl same ↦ absurd (omega (arith, none, parts, ap (λ t. cond {A = ℕ} t 1 0) (eq-eqb (by.key event) key same)))
+        | inr differs ↦ omega (
+          arith,
+          sum_by-cons (weight_for by key) event events,
+          ap (λ t. cond {A = ℕ} t (by.weight event) 0) (ne_eqb (by.key event) key differs),
+          weighs_none key events (omega (arith, none, times_in-other key event events differs)),
+        )
+      ]
+
+  pub window_le : (key : ℕ) (events : List A) (from to : ℕ) → weight_in by key events from to ≤ sum_by (weight_for by key) events
+  window_le key events from to =
+      let w : A → ℕ = weight_for by key in
+      let late = drop from events in
+      omega (
+        arith,
+        sum_by-append w (take (to - from) late) (drop (to - from) late),
+        ap (sum_by w) (take-append-drop (to - from) late),
+        sum_by-append w (take from events) late,
+        ap (sum_by w) (take-append-drop from events),
+      )
+
+  pub occurs : (key : ℕ) (events : List A) (from to : ℕ) → 1 ≤ weight_in by key events from to → 1 ≤ times_in by key events
+  occurs key events from to weighs =
+      elim (cases_lt 0 (times_in by key events)) [
+        | inl some ↦ some
+        | inr none ↦ absurd (omega (arith, weighs, window_le key events from to, weighs_none key events (omega arith)))
+      ]
+
+  -- among the ordered keys each stands at most once, and one that occurs stands there
+  pub times-mixed_order_le : (key : ℕ) (events : List A) → times key (mixed_in by events) ≤ 1
+  times-mixed_order_le key [] = omega arith
+  times-mixed_order_le key (event ∷ events) =
+      elim (cases_eq (by.key event) key) [
+        | inl same ↦ (
+            let once = times-insert_same 0 key (mixed_in by events) (MixedFrom-mixed_order by events) (times-mixed_order_le key events) in
+            let moved = ap (λ k. times key (insert_mixed k (mixed_in by events))) same in omega arith)
+        | inr differs ↦ omega (arith, times-insert_other key (by.key event) (mixed_in by events) differs, times-mixed_order_le key events)
+      ]
+
+  pub times-mixed_order : (key : ℕ) (events : List A) → 1 ≤ times_in by key events → times key (mixed_in by events) ≡ 1
+  times-mixed_order key [] occurs = absurd (omega arith)
+  times-mixed_order key (event ∷ events) occurs =
+      elim (cases_eq (by.key event) key) [
+        | inl same ↦ ap (λ k. times key (insert_mixed k (mixed_in by events))) same
+            ∙ times-insert_same 0 key (mixed_in by events) (MixedFrom-mixed_order by events) (times-mixed_order_le key events)
+        | inr differs ↦ times-insert_other key (by.key event) (mixed_in by events) differs
+            ∙ times-mixed_order key events (omega (arith, times_in-other key event events differs))
+      ]
+
+-- a window of keys has no more of a key than the whole list
+pub count_le-times : (key : ℕ) (events : List ℕ) (from to : ℕ) → count key events from to ≤ times key events
+count_le-times key events from to = window_le plain key events from to
 
 -- a filter keeps all of a key or none
 pub times-filter : (key : ℕ) (test : ℕ → Bool) (keys : List ℕ) → times key (filter test keys) ≡ cond (test key) (times key keys) 0
@@ -201,9 +234,10 @@ is_listed-times key (report ∷ reports) =
     ap (λ b. eqb report.key key || b) rest ∙ one_or_more (eqb report.key key) (times_listed key reports) ∙ ap (ltb 0) (sym parts)
 
 -- what a window adds to the reports of a key
-pub times_listed-with_due : (threshold : ℕ) (events : List ℕ) (from to : ℕ) (reports : List Report) (key : ℕ) →
-    times_listed key (with_due threshold events from to reports) ≡ times_listed key reports + cond (is_due threshold events from to reports key) (times key (mixed_order events)) 0
-times_listed-with_due threshold events from to reports key =
-    let due = filter (is_due threshold events from to reports) (mixed_order events) in
+pub times_listed-with_due : {A : Type 0} (by : Measure A) (threshold : ℕ) (events : List A) (from to : ℕ) (reports : List Report) (key : ℕ) →
+    times_listed key (with_due_in by threshold events from to reports)
+    ≡ times_listed key reports + cond (is_due_in by threshold events from to reports key) (times key (mixed_in by events)) 0
+times_listed-with_due by threshold events from to reports key =
+    let due = filter (is_due_in by threshold events from to reports) (mixed_in by events) in
     times_listed-append key reports (map (λ k. record { key = k; at = to }) due)
-    ∙ ap (λ n. times_listed key reports + n) (times_listed-map key to due ∙ times-filter key (is_due threshold events from to reports) (mixed_order events))
+    ∙ ap (λ n. times_listed key reports + n) (times_listed-map key to due ∙ times-filter key (is_due_in by threshold events from to reports) (mixed_in by events))

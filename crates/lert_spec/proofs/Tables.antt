@@ -1,9 +1,7 @@
 -- Laws of count tables.
-use Rattle.std.proofs.Common.{ℕ, ◌≡◌, ◌+◌, ◌<◌, ◌≤◌, suc, cond, eqb, List, [], ◌∷◌, length, get_or, refl, arith, inl, inr, subst, zero}
-use Rattle.std.proofs.lemmas.Bool.{cases_order, cases_eq}
+use Rattle.std.proofs.{Common.{ℕ, ◌≡◌, ◌+◌, ◌<◌, ◌≤◌, suc, cond, eqb, List, [], ◌∷◌, length, get_or, refl, arith, inl, inr, subst, zero}, lemmas.Bool.{cases_order, cases_eq}}
 use Rattle.std.proofs.lemmas.Bool.Decides.{nat_tests}
-use Rattle.lert_spec.specs.Table.{count_of, total, plus, AscendsFrom}
-use Rattle.lert_spec.specs.declared.piece.Piece.{Piece}
+use Rattle.lert_spec.specs.{Table.{count_of, total, plus, AscendsFrom}, declared.piece.Piece.Piece}
 
 -- where a new piece is put: at its tail, before a greater one, or behind
 pub plus_here : (p : Piece) (ps : List Piece) (tail n : ℕ) → p.tail ≡ tail → plus (p ∷ ps) tail n ≡ record { tail = tail; count = p.count + n } ∷ ps

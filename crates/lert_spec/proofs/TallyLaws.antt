@@ -1,14 +1,9 @@
--- The counts of the tails of a list of keys, as a count table.
-use Rattle.std.proofs.Common.{ℕ, ◌≡◌, ◌≢◌, ◌+◌, ◌-◌, ◌^◌, cond, eqb, List, [], ◌∷◌, ◌++◌, length, refl, ap, ap₂, sym, ◌∙◌, arith, inl, inr, subst}
-use Rattle.std.proofs.Common.{count_by, fold}
-use Rattle.std.proofs.lemmas.Bool.{cases_lt, cases_order, eq-eqb, ne_eqb}
-use Rattle.std.proofs.lemmas.List.Sums.{sum_by-cons, sum_by-append, fold-append}
-use Rattle.lert_spec.specs.declared.numbers.Numbers.{Numbers}
-use Rattle.lert_spec.specs.declared.piece.Piece.{Piece}
-use Rattle.lert_spec.specs.Bins.{tallied}
-use Rattle.lert_spec.specs.Mix.{tail_of}
-use Rattle.lert_spec.specs.Table.{count_of, total, plus, AscendsFrom, IsTable}
-use Rattle.lert_spec.proofs.MixLaws.{tail_below}
+-- What the tails of a list of items weigh, as a count table.
+use Rattle.std.proofs.Common.{ℕ, ◌≡◌, ◌≢◌, suc, ◌+◌, ◌^◌, ◌<◌, ◌≤◌, cond, eqb, List, [], ◌∷◌, ◌++◌, length, refl, ap, ap₂, sym, ◌∙◌, arith, inl, inr, subst, fold, sum_by}
+use Rattle.std.proofs.{lemmas.Bool.{cases_lt, cases_order, eq-eqb, ne_eqb}, lemmas.List.Sums.{sum_by-cons, sum_by-append, fold-append}}
+use Rattle.lert_spec.specs.{Edges.tail_bits, declared.numbers.Numbers.Numbers, declared.piece.Piece.Piece, Mix.tail_of, Table.{costs, count_of, total, plus, AscendsFrom, IsTable}}
+use Rattle.lert_spec.specs.{Bins.{tally, tallied}, Counts.{Measure, plain, weight_of, AreWeighed}}
+use Rattle.lert_spec.proofs.{CostLaws.{cost_one, costs-plus}, MixLaws.tail_below}
 use Rattle.lert_spec.proofs.Tables.{AscendsFrom-plus, count_of-plus, count_of-below, total-plus}
 
 -- a piece at the front counts for its tail alone
@@ -52,58 +47,144 @@ one_table least limit (p ∷ ps) (q ∷ qs) ascends others same =
       ))
     ]
 
--- how often a tail occurs among the keys
+-- what the items of a tail weigh
+abbrev pub tail_weight : {A : Type 0} → Measure A → Numbers → ℕ → A → ℕ
+tail_weight by s tail item = cond (eqb (tail_of s (by.key item)) tail) (by.weight item) 0
+
+abbrev pub tails_in : {A : Type 0} → Measure A → Numbers → ℕ → List A → ℕ
+tails_in by s tail items = sum_by (tail_weight by s tail) items
+
+-- how often a tail occurs among keys
 abbrev pub tails : Numbers → ℕ → List ℕ → ℕ
-tails s tail keys = count_by (λ key. eqb (tail_of s key) tail) keys
+tails s tail keys = tails_in plain s tail keys
 
--- keys added to a table one by one
-abbrev added : Numbers → List Piece → List ℕ → List Piece
-added s pieces keys = fold (λ table key. plus table (tail_of s key) 1) pieces keys
+-- each item weighs something
+abbrev pub WeighSome : {A : Type 0} → Measure A → List A → Type 0
+WeighSome by [] = Unit {0}
+WeighSome by (item ∷ items) = (1 ≤ by.weight item) × WeighSome by items
 
-added-table : (s : Numbers) (pieces : List Piece) (keys : List ℕ) → IsTable (2 ^ (64 - s.cone_bits)) pieces → IsTable (2 ^ (64 - s.cone_bits)) (added s pieces keys)
-added-table s pieces [] table = table
-added-table s pieces (key ∷ keys) table =
-    added-table s (plus pieces (tail_of s key) 1) keys
-    (AscendsFrom-plus 0 (2 ^ (64 - s.cone_bits)) pieces (tail_of s key) 1 (omega arith) (tail_below s key) (omega arith) table)
+pub keys_weigh : (keys : List ℕ) → WeighSome plain keys
+keys_weigh [] = tt
+keys_weigh (key ∷ keys) = (omega arith, keys_weigh keys)
 
-count_of-added : (s : Numbers) (pieces : List Piece) (keys : List ℕ) (tail : ℕ) → IsTable (2 ^ (64 - s.cone_bits)) pieces →
-    count_of (added s pieces keys) tail ≡ count_of pieces tail + tails s tail keys
-count_of-added s pieces [] tail table = omega arith
-count_of-added s pieces (key ∷ keys) tail table =
-    let limit = 2 ^ (64 - s.cone_bits) in
-    let next = AscendsFrom-plus 0 limit pieces (tail_of s key) 1 (omega arith) (tail_below s key) (omega arith) table in
-    let rest = count_of-added s (plus pieces (tail_of s key) 1) keys tail next in
-    let here = count_of-plus 0 limit pieces (tail_of s key) 1 tail table in
-    let parts = sum_by-cons (λ k. cond {A = ℕ} (eqb (tail_of s k) tail) 1 0) key keys in
-    omega arith
+-- items added to a table one by one, each under the number that a function gives its key
+abbrev pub added : {A : Type 0} → Measure A → (ℕ → ℕ) → List Piece → List A → List Piece
+added by part pieces items = fold (λ table item. plus table (part (by.key item)) (by.weight item)) pieces items
 
--- the counts of a list of keys are a count table
-pub IsTable-tallied : (s : Numbers) (keys : List ℕ) → IsTable (2 ^ (64 - s.cone_bits)) (tallied s keys)
-IsTable-tallied s keys = added-table s [] keys tt
+module _ {A : Type 0} (by : Measure A) (part : ℕ → ℕ) where
+  -- what the items weigh that are given a number
+  abbrev pub weight_under : ℕ → List A → ℕ
+  weight_under number items = sum_by (λ item. cond (eqb (part (by.key item)) number) (by.weight item) 0) items
 
--- of each tail as often as it occurs
+  module _ (limit : ℕ) (below : (key : ℕ) → part key < limit) where
+    added-table : (pieces : List Piece) (items : List A) → WeighSome by items → IsTable limit pieces → IsTable limit (added by part pieces items)
+    added-table pieces [] some table = table
+    added-table pieces (item ∷ items) some table =
+        added-table (plus pieces (part (by.key item)) (by.weight item)) items some.1
+        (AscendsFrom-plus 0 limit pieces (part (by.key item)) (by.weight item) (omega arith) (below (by.key item)) some.0 table)
+
+    count_of-added : (pieces : List Piece) (items : List A) (number : ℕ) → WeighSome by items → IsTable limit pieces →
+        count_of (added by part pieces items) number ≡ count_of pieces number + weight_under number items
+    count_of-added pieces [] number some table = omega arith
+    count_of-added pieces (item ∷ items) number some table =
+        let next = AscendsFrom-plus 0 limit pieces (part (by.key item)) (by.weight item) (omega arith) (below (by.key item)) some.0 table in
+        let rest = count_of-added (plus pieces (part (by.key item)) (by.weight item)) items number some.1 next in
+        let here = count_of-plus 0 limit pieces (part (by.key item)) (by.weight item) number table in
+        let parts = sum_by-cons (λ each. cond {A = ℕ} (eqb (part (by.key each)) number) (by.weight each) 0) item items in
+        omega arith
+
+    -- added to no piece they are a count table, of each number as much as is given it
+    pub IsTable-added : (items : List A) → WeighSome by items → IsTable limit (added by part [] items)
+    IsTable-added items some = added-table [] items some tt
+
+    pub count_of-each : (items : List A) (number : ℕ) → WeighSome by items → count_of (added by part [] items) number ≡ weight_under number items
+    count_of-each items number some = omega (arith, count_of-added [] items number some tt)
+
+  total-added : (pieces : List Piece) (items : List A) → total (added by part pieces items) ≡ total pieces + weight_of by items
+  total-added pieces [] = omega arith
+  total-added pieces (item ∷ items) =
+      omega (
+        arith,
+        total-added (plus pieces (part (by.key item)) (by.weight item)) items,
+        total-plus pieces (part (by.key item)) (by.weight item),
+        sum_by-cons by.weight item items,
+      )
+
+  -- where each weighs at most 255 they cost no more than their number
+  costs-added : (pieces : List Piece) (items : List A) → AreWeighed by items → costs 2 (added by part pieces items) ≤ costs 2 pieces + length items
+  costs-added pieces [] weighed = omega arith
+  costs-added pieces (item ∷ items) weighed =
+      let one = cost_one 2 (by.weight item) (weighed 0 item (omega arith)).0 (weighed 0 item (omega arith)).1 refl in
+      omega (
+        arith,
+        costs-added (plus pieces (part (by.key item)) (by.weight item)) items (λ k d below. weighed (suc k) d (omega (arith, below))),
+        costs-plus 2 pieces (part (by.key item)) (by.weight item),
+        one,
+      )
+
+module _ {A : Type 0} (by : Measure A) where
+  -- the weights of a list of items are a count table
+  pub tally_table : (s : Numbers) (items : List A) → WeighSome by items → IsTable (2 ^ tail_bits s) (tally by s items)
+  tally_table s items some = IsTable-added by (tail_of s) (2 ^ tail_bits s) (tail_below s) items some
+
+  -- of each tail as much as its items weigh
+  pub count_of-tally : (s : Numbers) (items : List A) (tail : ℕ) → WeighSome by items → count_of (tally by s items) tail ≡ tails_in by s tail items
+  count_of-tally s items tail some = count_of-each by (tail_of s) (2 ^ tail_bits s) (tail_below s) items tail some
+
+  pub tails_in-append : (s : Numbers) (tail : ℕ) (items others : List A) → tails_in by s tail (items ++ others) ≡ tails_in by s tail items + tails_in by s tail others
+  tails_in-append s tail items others = sum_by-append (tail_weight by s tail) items others
+
+  -- in all as much as they weigh
+  pub total-tally : (s : Numbers) (items : List A) → total (tally by s items) ≡ weight_of by items
+  total-tally s items = omega (arith, total-added by (tail_of s) [] items)
+
+  -- where each weighs at most 255 they cost no more than their number
+  pub costs-tally : (s : Numbers) (items : List A) → AreWeighed by items → costs 2 (tally by s items) ≤ length items
+  costs-tally s items weighed = omega (arith, costs-added by (tail_of s) [] items weighed)
+
+  -- one more item is as much more of its tail
+  pub tally-push : (s : Numbers) (items : List A) (item : A) → tally by s (items ++ item ∷ []) ≡ plus (tally by s items) (tail_of s (by.key item)) (by.weight item)
+  tally-push s items item = fold-append (λ table each. plus table (tail_of s (by.key each)) (by.weight each)) [] items (item ∷ [])
+
+  WeighSome-append : (items others : List A) → WeighSome by items → WeighSome by others → WeighSome by (items ++ others)
+  WeighSome-append [] others some more = more
+  WeighSome-append (item ∷ items) others some more = (some.0, WeighSome-append items others some.1 more)
+
+  -- a table with the weights of two lists together is that of the joined list
+  pub tally-append : (s : Numbers) (items others : List A) (pieces : List Piece) → WeighSome by items → WeighSome by others → IsTable (2 ^ tail_bits s) pieces →
+      ((tail : ℕ) → count_of pieces tail ≡ count_of (tally by s items) tail + count_of (tally by s others) tail) → pieces ≡ tally by s (items ++ others)
+  tally-append s items others pieces some more table sums =
+      let both = WeighSome-append items others some more in
+      one_table 0 (2 ^ tail_bits s) pieces (tally by s (items ++ others)) table (tally_table s (items ++ others) both)
+      (λ tail. omega (
+        arith,
+        sums tail,
+        count_of-tally s items tail some,
+        count_of-tally s others tail more,
+        count_of-tally s (items ++ others) tail both,
+        tails_in-append s tail items others,
+      ))
+
+-- the same of a list of keys, each of which is one more of its tail
+pub IsTable-tallied : (s : Numbers) (keys : List ℕ) → IsTable (2 ^ tail_bits s) (tallied s keys)
+IsTable-tallied s keys = tally_table plain s keys (keys_weigh keys)
+
 pub count_of-tallied : (s : Numbers) (keys : List ℕ) (tail : ℕ) → count_of (tallied s keys) tail ≡ tails s tail keys
-count_of-tallied s keys tail = omega (arith, count_of-added s [] keys tail tt)
+count_of-tallied s keys tail = count_of-tally plain s keys tail (keys_weigh keys)
 
 pub tails-append : (s : Numbers) (tail : ℕ) (keys others : List ℕ) → tails s tail (keys ++ others) ≡ tails s tail keys + tails s tail others
-tails-append s tail keys others = sum_by-append (λ key. cond {A = ℕ} (eqb (tail_of s key) tail) 1 0) keys others
+tails-append s tail keys others = tails_in-append plain s tail keys others
 
-total-added : (s : Numbers) (pieces : List Piece) (keys : List ℕ) → total (added s pieces keys) ≡ total pieces + length keys
-total-added s pieces [] = omega arith
-total-added s pieces (key ∷ keys) =
-    omega (arith, total-added s (plus pieces (tail_of s key) 1) keys, total-plus pieces (tail_of s key) 1)
-
--- in all as many as there are keys
 pub total-tallied : (s : Numbers) (keys : List ℕ) → total (tallied s keys) ≡ length keys
-total-tallied s keys = omega (arith, total-added s [] keys)
+total-tallied s keys = total-tally plain s keys ∙ sum_by-one keys
+  where
+    sum_by-one : (xs : List ℕ) → weight_of plain xs ≡ length xs
+    sum_by-one [] = refl
+    sum_by-one (x ∷ xs) = omega (arith, sum_by-cons plain.weight x xs, sum_by-one xs)
 
--- one more key is one more of its tail
 pub tallied-push : (s : Numbers) (keys : List ℕ) (key : ℕ) → tallied s (keys ++ key ∷ []) ≡ plus (tallied s keys) (tail_of s key) 1
-tallied-push s keys key = fold-append (λ table k. plus table (tail_of s k) 1) [] keys (key ∷ [])
+tallied-push s keys key = tally-push plain s keys key
 
--- a table with the counts of two lists together is that of the joined list
-pub tallied-append : (s : Numbers) (keys others : List ℕ) (pieces : List Piece) → IsTable (2 ^ (64 - s.cone_bits)) pieces →
+pub tallied-append : (s : Numbers) (keys others : List ℕ) (pieces : List Piece) → IsTable (2 ^ tail_bits s) pieces →
     ((tail : ℕ) → count_of pieces tail ≡ count_of (tallied s keys) tail + count_of (tallied s others) tail) → pieces ≡ tallied s (keys ++ others)
-tallied-append s keys others pieces table sums =
-    one_table 0 (2 ^ (64 - s.cone_bits)) pieces (tallied s (keys ++ others)) table (IsTable-tallied s (keys ++ others))
-    (λ tail. omega (arith, sums tail, count_of-tallied s keys tail, count_of-tallied s others tail, count_of-tallied s (keys ++ others) tail, tails-append s tail keys others))
+tallied-append s keys others pieces table sums = tally-append plain s keys others pieces (keys_weigh keys) (keys_weigh others) table sums

@@ -2,9 +2,20 @@
 --
 -- Level 0 holds the positions above its edge, and an older level those above its edge up to the edge of the next
 -- younger level.
-use Rattle.std.specs.Prelude.{ℕ, zero, suc, ◌+◌, ◌-◌, ◌*◌, ◌/◌, ◌^◌, ◌==◌, nat_le, min, find, unwrap_or, if◌then◌else◌}
-use Rattle.std.specs.List.{range_with_len}
+use Rattle.std.specs.{Prelude.{ℕ, zero, suc, ◌+◌, ◌-◌, ◌*◌, ◌/◌, ◌^◌, ◌==◌, nat_le, min, find, unwrap_or, if◌then◌else◌}, List.range_with_len}
 use Rattle.lert_spec.specs.declared.numbers.Numbers.{Numbers}
+
+-- the bits of a key
+abbrev pub key_bits : Numbers → ℕ
+key_bits s = 64
+
+-- keys are below this number
+abbrev pub key_limit : Numbers → ℕ
+key_limit s = 2 ^ key_bits s
+
+-- the bits of a tail: those of a mixed value that don't name the cone
+abbrev pub tail_bits : Numbers → ℕ
+tail_bits s = key_bits s - s.cone_bits
 
 -- the width of a level's bins
 abbrev pub span : Numbers → ℕ → ℕ
@@ -23,9 +34,13 @@ offset s level = (s.bins - 1) * spans s level
 abbrev pub edge : Numbers → ℕ → ℕ → ℕ
 edge s level n = span s level * ((n - offset s level) / span s level)
 
--- how many events a cone takes: the edge of its oldest level never moves, and no more keys than the room reach the threshold
+-- how much weight a cone takes: no more keys than the room reach the threshold
+abbrev pub weight_room : Numbers → ℕ
+weight_room s = s.threshold * s.room
+
+-- how many events a cone takes: the edge of its oldest level never moves, and each weighs at least 1
 abbrev pub capacity : Numbers → ℕ
-capacity s = min (offset s s.levels + span s s.levels - 1) (s.threshold * s.room)
+capacity s = min (offset s s.levels + span s s.levels - 1) (weight_room s)
 
 -- the greatest of the levels up to `level` for which the edge of the next younger level moves at position m, or 0
 abbrev pub deepest : Numbers → ℕ → ℕ → ℕ
@@ -46,4 +61,4 @@ quotient_bits s level = unwrap_or (find (λ q. nat_le (span s level) (2 ^ q)) (r
 
 -- the width of a level's tables: the bits of a key that name neither the cone nor the quotient
 abbrev pub width : Numbers → ℕ → ℕ
-width s level = 64 - s.cone_bits - quotient_bits s level
+width s level = tail_bits s - quotient_bits s level

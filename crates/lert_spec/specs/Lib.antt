@@ -1,3 +1,4 @@
+pub mod Agreed
 pub mod Bins
 pub mod Counts
 pub mod Edges
@@ -7,4 +8,3 @@ pub mod Look
 pub mod Mix
 pub mod Table
 pub mod Timely
-pub mod Trace

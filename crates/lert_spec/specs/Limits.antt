@@ -1,8 +1,6 @@
 -- The limits of the settings, in the order in which they are tested.
-use Rattle.std.specs.Prelude.{ℕ, ◌+◌, ◌*◌, ◌^◌, ◌≤◌, ◌&&◌, Bool, nat_le, not, List, [], ◌∷◌, ◌++◌, Option}
-use Rattle.std.specs.List.{position_from}
-use Rattle.lert_spec.specs.declared.numbers.Numbers.{Numbers}
-use Rattle.lert_spec.specs.Edges.{offset, span}
+use Rattle.std.specs.{Prelude.{ℕ, ◌+◌, ◌*◌, ◌^◌, ◌≤◌, ◌&&◌, Bool, nat_le, not, List, [], ◌∷◌, ◌++◌, Option}, List.position_from}
+use Rattle.lert_spec.specs.{declared.numbers.Numbers.Numbers, Edges.{offset, span}}
 
 -- a number lies from `least` to `most`
 abbrev pub lies : ℕ → ℕ → ℕ → Bool
@@ -25,9 +23,9 @@ limits_kept s =
 -- positions up to the first move of the oldest level's edge
 abbrev pub sums_kept : Numbers → List Bool
 sums_kept s =
-    nat_le (2 ^ s.cone_bits * s.bins * s.base) (2 ^ 24)
+    nat_le (2 ^ s.cone_bits * s.bins * s.base) (2 ^ 23)
     ∷ nat_le (2 ^ s.cone_bits * s.room) (2 ^ 24)
-    ∷ nat_le (offset s s.levels + span s s.levels) (2 ^ 32)
+    ∷ nat_le (offset s s.levels + span s s.levels) (2 ^ 31)
     ∷ []
 
 -- the first broken rule, counted from 1, none where all are kept
@@ -55,6 +53,6 @@ pub record IsInLimits (s : Numbers) : Type 0 where
 -- the numbers are settings: no rule is broken
 pub record IsValid (s : Numbers) : Type 0 where
   pub limits : IsInLimits s
-  pub tables_fit : 2 ^ s.cone_bits * s.bins * s.base ≤ 2 ^ 24
+  pub tables_fit : 2 ^ s.cone_bits * s.bins * s.base ≤ 2 ^ 23
   pub reports_fit : 2 ^ s.cone_bits * s.room ≤ 2 ^ 24
-  pub positions_fit : offset s s.levels + span s s.levels ≤ 2 ^ 32
+  pub positions_fit : offset s s.levels + span s s.levels ≤ 2 ^ 31

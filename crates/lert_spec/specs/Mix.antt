@@ -1,5 +1,6 @@
 -- A key's mixed value, and its two parts: the cone, and the tail within it.
-use Rattle.std.specs.Prelude.{ℕ, ◌-◌, ◌*◌, ◌/◌, ◌%◌, ◌^◌, ◌==◌, bit_xor, filter, List}
+use Rattle.std.specs.Prelude.{ℕ, ◌*◌, ◌/◌, ◌%◌, ◌^◌, ◌==◌, bit_xor, filter, List}
+use Rattle.lert_spec.specs.{Counts.{Measure, plain}, Edges.tail_bits}
 use Rattle.lert_spec.specs.declared.numbers.Numbers.{Numbers}
 
 -- a number with its 31 highest bits laid over its lowest
@@ -16,12 +17,16 @@ mix key = folded (scaled 0xc4ceb9fe1a85ec53 (folded (scaled 0xff51afd7ed558ccd (
 
 -- the cone of a key: its mixed value's highest bits, as many as name a cone
 abbrev pub cone_of : Numbers → ℕ → ℕ
-cone_of s key = mix key / 2 ^ (64 - s.cone_bits)
+cone_of s key = mix key / 2 ^ tail_bits s
 
 -- the tail of a key: the other bits of its mixed value
 abbrev pub tail_of : Numbers → ℕ → ℕ
-tail_of s key = mix key % 2 ^ (64 - s.cone_bits)
+tail_of s key = mix key % 2 ^ tail_bits s
 
--- the part of a cone: those of the keys that belong to it, in their order
+-- the part of a cone: those of the items whose keys belong to it, in their order
+abbrev pub part_in : {A : Type 0} → Measure A → Numbers → ℕ → List A → List A
+part_in by s cone items = filter (λ item. cone_of s (by.key item) == cone) items
+
+-- the same of a list of keys
 abbrev pub part_of : Numbers → ℕ → List ℕ → List ℕ
-part_of s cone keys = filter (λ key. cone_of s key == cone) keys
+part_of s cone keys = part_in plain s cone keys

@@ -1,5 +1,5 @@
 -- A count table: pieces in ascending tails, each with a count of at least 1.
-use Rattle.std.specs.Prelude.{ℕ, ◌+◌, ◌<◌, ◌≤◌, ◌==◌, ◌^◌, All, List, [], ◌∷◌, nat_lt, if◌then◌else◌}
+use Rattle.std.specs.Prelude.{ℕ, ◌+◌, ◌/◌, ◌<◌, ◌≤◌, ◌==◌, ◌^◌, All, List, [], ◌∷◌, nat_lt, if◌then◌else◌}
 use Rattle.lert_spec.specs.declared.piece.Piece.{Piece}
 
 -- how often a tail stands in the table, 0 where it is absent
@@ -11,6 +11,16 @@ count_of (p ∷ ps) tail = if p.tail == tail then p.count else count_of ps tail
 abbrev pub total : List Piece → ℕ
 total [] = 0
 total (p ∷ ps) = p.count + total ps
+
+-- what a piece of a count costs of the items that made it: with version 1 of the files each weighs 1, and with a later
+-- one at most 255
+abbrev pub cost : ℕ → ℕ → ℕ
+cost version count = if version == 1 then count else (count + 254) / 255
+
+-- the sum of all costs: at least so many items made the table
+abbrev pub costs : ℕ → List Piece → ℕ
+costs version [] = 0
+costs version (p ∷ ps) = cost version p.count + costs version ps
 
 -- the table with `n` more of a tail: its count is raised, or a new piece stands in its place
 abbrev pub plus : List Piece → ℕ → ℕ → List Piece

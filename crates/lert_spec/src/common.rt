@@ -1,7 +1,7 @@
 //! What two texts have in common.
 
 ghost use Rattle.std.specs.Prelude.{◌≡◌};
-ghost use Rattle.lert_spec.specs.Trace.{agreed};
+ghost use Rattle.lert_spec.specs.Agreed.{agreed};
 
 /// How many bytes two texts have in common, from the front on. The formats of all files use it to name the first byte that
 /// leaves them.

@@ -7,7 +7,7 @@ use Rattle.lert_frames.specs.Place.{tail_limit}
 use Rattle.lert_spec.specs.declared.piece.Piece.{Piece}
 use Rattle.lert_spec.specs.Edges.{span}
 use Rattle.lert_spec.specs.Table.{plus, total}
-use Rattle.lert_spec.proofs.Tables.{total-plus}
+use Rattle.lert_spec.proofs.{Tables.total-plus, CostLaws.{cost_to, costs_to}}
 use Rattle.lert_levels.specs.declared.landing.landing.Landing.{Landing}
 use Rattle.lert_levels.specs.landing.Landed.{taken, CanTake}
 use Rattle.lert_levels.specs.landing.Landings.{Home, home}
@@ -34,7 +34,7 @@ module _ (last left : ℕ) (piece : Piece) (above : last ≤ piece.tail) (fits :
         ascends = up_to last piece.tail (taken l) above ready.ascends;
         below = omega (arith, limit, word);
         some = some;
-        fits = omega (arith, ready.fits, fits);
+        fits = omega (arith, costs_to l.writer.version (taken l), cost_to l.writer.version piece.count, ready.fits, fits);
       }
 
   -- one of the landings took the piece

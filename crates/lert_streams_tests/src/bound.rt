@@ -12,7 +12,7 @@ const GENERATION: u64 = 8192;
 /// Adds a tail so many times.
 fn add_times(bound: &mut Bound, tail: u64, times: u64) {
     for _ in 0..times {
-        bound.add(tail);
+        bound.add(tail, 1);
     }
 }
 
@@ -43,6 +43,34 @@ fn holds_rows(rt: &impl Abort, bound: &mut Bound) {
             "{count} of {times} after {turns} turns"
         );
     }
+}
+
+/// Asserts the rows: two weights of a tail, a count, and whether it may be reached.
+fn holds_weights(rt: &impl Abort, bound: &mut Bound) {
+    for (one, other, count, answer) in [
+        (1u8, 255u8, 255, true),
+        (254, 0, 255, false),
+        (200, 54, 254, true),
+        (200, 54, 255, false),
+        (200, 55, 255, true),
+        (255, 255, u64::MAX, true),
+    ] {
+        bound.clear();
+        bound.add(7, one);
+        bound.add(7, other);
+        assert_eq!(rt;
+            bound.may_reach(7, count),
+            answer,
+            "{count} of {one} and {other}"
+        );
+    }
+}
+
+#[test]
+fn weights_add_up_to_a_byte(rt: HostRuntime) -> Result<(), Fail> {
+    let mut four = Bound::new(rt.alloc(), 4)?;
+    holds_weights(&rt, &mut four);
+    Ok(())
 }
 
 #[test]
@@ -95,7 +123,7 @@ fn add_drawn(rt: &impl Abort, bound: &mut Bound, alone: bool) {
             present = [0; 512];
         }
         let tail = drawn_tail(draw);
-        bound.add(tail);
+        bound.add(tail, 1);
         present[tail as usize] = present[tail as usize].saturating_add(1);
         if draw % 512 == 511 {
             bounds_counts(rt, bound, alone, &before, &present);

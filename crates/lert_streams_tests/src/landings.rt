@@ -32,7 +32,7 @@ fn landing_of(
     ensures { IsReady 0 EVENTS result }
 {
     let mut landing = Landing::new(alloc, settings, level).expect(rt, "memory");
-    landing.start(frame);
+    landing.start(1, frame);
     landing
 }
 

@@ -76,7 +76,7 @@ fn ordered(
 fn merged(rt: &impl Abort, alloc: Global, bay: &mut MemBay, is_written: bool) -> Vec<(u64, u64)> {
     let young = tables(rt, alloc);
     let room = StreamRoom::new(alloc, &settings_of(rt, SMALL)).expect(rt, "memory");
-    let mut streams = room.begin(&young);
+    let mut streams = room.begin(1, &young);
     streams.read(1, 1, WIDTH);
     streams.read(1, 2, WIDTH);
     let ahead = Ahead::new(alloc, 4).expect(rt, "memory");
@@ -99,7 +99,7 @@ fn sorted(rt: &impl Abort, alloc: Global, first: &[Piece], second: &[Piece]) -> 
 // Whether two tables and two frames come in order, with or without writes into frame 3.
 fn is_sorted(rt: &impl Abort, alloc: Global, is_written: bool) -> bool {
     let settings = settings_of(rt, SMALL);
-    assert_eq!(rt; frame_place(&settings, 1, 3), ELSEWHERE);
+    assert_eq!(rt; frame_place(&settings, 1, 1, 3), ELSEWHERE);
     let first = pieces_of(alloc, &[1, 1, 200], 57, 4, WIDTH).expect(rt, "memory");
     let second = pieces_of(alloc, &[], WIDTH, 6, WIDTH).expect(rt, "memory");
     let mut bay = empty_bay(rt, alloc);

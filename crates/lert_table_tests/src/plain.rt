@@ -1,6 +1,6 @@
 //! Tables that are sorted lists.
 
-ghost use Rattle.std.specs.Prelude.{◌≡◌};
+ghost use Rattle.std.specs.Prelude.{◌≡◌, ◌^◌, ◌≤◌};
 ghost use Rattle.lert_spec.specs.Table.{total};
 
 use lert_base::{CountTable, Piece};
@@ -16,8 +16,8 @@ fn counts_are_those_of_the_vector(rt: HostRuntime) {
     table.add(773, 1);
     assert_eq!(rt; [before, table.count(773), table.count(774)], [1, 2, 0]);
     assert_eq!(rt;
-        [table.count(777), table.count(1025), table.events()],
-        [2, 1, 5]
+        [table.count(777), table.count(1025), table.adds()],
+        [2, 1, 4]
     );
 }
 
@@ -42,14 +42,15 @@ fn pieces_come_in_ascending_tails(rt: HostRuntime) {
     );
     table.clear();
     let mut cursor = table.start();
-    assert_eq!(rt; (table.events(), table.step(&mut cursor)), (0, None));
+    assert_eq!(rt; (table.adds(), table.step(&mut cursor)), (0, None));
 }
 
 // The sum of the counts of any table, piece by piece.
 fn sum_of<T: CountTable>(table: &T) -> u64
+    requires { T.room table.now ≤ 2 ^ 39 }
     ensures { result ≡ total (T.pieces table.now) }
 {
-    let _fits = table.events();
+    let _few = table.adds();
     let mut cursor = table.start();
     let mut sum = 0;
     while let Some(piece) = table.step(&mut cursor) {

@@ -15,4 +15,4 @@ pub(crate) use bays::{find_stale, open_bays, put_back_bays};
 pub(crate) use cones::{bring_back, make_cones};
 pub(crate) use finish::finish_cones;
 pub(crate) use print::print_cones;
-pub(crate) use rooms::{make_rooms, make_rooms_alone};
+pub(crate) use rooms::{draw_secret, make_rooms, make_rooms_alone};

@@ -27,10 +27,11 @@ use lert_ingest::Status;
 use lert_io::Sink;
 use lert_place::Place;
 use std::alloc::Global;
+use std::random::RandomSource;
 use std::sync::Wait;
 use std::thread::Threads;
 
-/// Does what the line asks for.
+/// Does what the line asks for. Of the random bytes that it takes of the system nothing depends but how long it takes.
 ///
 /// `run` reports each key that occurs as often as the line's threshold says, in all traces together, soon after it does. It
 /// opens the line's traces in their order and then the bays of all cones in its directory, looks whether these are empty,
@@ -42,7 +43,7 @@ use std::thread::Threads;
 ///
 /// `recover` opens what runs left, as `recover_to` does; `gen` writes a trace of generated keys, as `gen_to` does; `drill` does
 /// what a run does over generated keys and bays in memory, and prints a summary.
-pub fn run<P: Place, K: Sink, R: Threads + Wait + Sync>(
+pub fn run<P: Place, K: Sink, R: Threads + Wait + Sync + RandomSource>(
     rt: &R,
     alloc: Global,
     words: &Words,
@@ -106,7 +107,7 @@ pub fn run<P: Place, K: Sink, R: Threads + Wait + Sync>(
             run_line(rt, alloc, &settings, words, job, place, out)
         }
         Line::Recover { settings, dir } => {
-            recover_to(alloc, &settings, words.word(dir), place, out)
+            recover_to(rt, alloc, &settings, words.word(dir), place, out)
         }
         Line::Gen { seed, events } => gen_to(seed, events, out),
         Line::Drill {

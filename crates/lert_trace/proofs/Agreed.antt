@@ -1,6 +1,6 @@
 -- How many bytes two texts have in common, from the front on.
 use Rattle.std.proofs.Common.{◌≡◌, ℕ, suc, ◌≤◌, true, false, eqb, cond, List, [], ◌∷◌, ◌++◌, length, refl, ap, arith}
-use Rattle.lert_spec.specs.Trace.{agreed}
+use Rattle.lert_spec.specs.Agreed.{agreed}
 
 pub agreed-le_text : (xs ys : List ℕ) → agreed xs ys ≤ length xs
 agreed-le_text [] ys = omega arith

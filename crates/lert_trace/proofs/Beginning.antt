@@ -1,16 +1,11 @@
 -- What a reader knows once the header was taken, or couldn't be.
-use Rattle.std.proofs.Common.{◌≡◌, ℕ, ◌+◌, ◌-◌, ◌*◌, ◌/◌, ◌%◌, ◌<◌, ◌≤◌, Bool, true, false, ltb, eqb, cond, List, ◌++◌, length, drop, Option, Some, None}
-use Rattle.std.proofs.Common.{ap, sym, ◌∙◌, subst, inl, inr, arith, lt-ltb}
+use Rattle.std.proofs.Common.{◌≡◌, ℕ, ◌+◌, ◌-◌, ◌*◌, ◌/◌, ◌%◌, ◌<◌, ◌≤◌, Bool, true, false, ltb, eqb, cond, List, ◌++◌, length, drop, Option, Some, None, ap, sym, ◌∙◌, subst, inl, inr, arith, lt-ltb}
 use Rattle.std.proofs.lemmas.Bool.{cases_lt}
-use Rattle.lert_io.specs.Fault.{HasRisen}
-use Rattle.lert_io.specs.Reading.{IfTold}
-use Rattle.lert_spec.specs.Trace.{agreed, trace_header}
-use Rattle.lert_trace.specs.declared.fault.TraceFault.{TraceFault}
-use Rattle.lert_trace.specs.declared.fault.TraceFault.TheVariants.{ReadFailed, BadHeader, CutKey, TooLong}
-use Rattle.lert_trace.specs.Header.{HeaderFault}
+use Rattle.lert_io.specs.{Fault.HasRisen, Reading.IfTold}
+use Rattle.lert_spec.specs.Agreed.{agreed}
+use Rattle.lert_trace.specs.{Trace.trace_header, declared.fault.TraceFault.TraceFault, declared.fault.TraceFault.TheVariants.{ReadFailed, BadHeader, CutKey, TooLong}, Header.HeaderFault}
 use Rattle.lert_trace.specs.Reader.{IsReader, LeavesAt, Means, Stands}
-use Rattle.lert_trace.proofs.Agreed.{agreed-le_bytes}
-use Rattle.lert_trace.proofs.Standing.{length-whole}
+use Rattle.lert_trace.proofs.{Agreed.agreed-le_bytes, Standing.length-whole}
 
 -- bytes that differ from a header leave the format there, and have no whole key
 LeavesAt-header : (bytes : List ℕ) (at given : ℕ) → agreed trace_header bytes ≡ at → at < 8 → given ≡ 0 → LeavesAt bytes at given

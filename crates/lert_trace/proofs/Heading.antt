@@ -1,8 +1,7 @@
 -- The header's bytes in front of a window.
-use Rattle.std.proofs.Common.{◌≡◌, ℕ, ◌≤◌, Bool, true, false, List, [], ◌++◌, length, drop, Option, Some, sym, ap, ◌∙◌, arith, append-nil, refl}
-use Rattle.std.proofs.lemmas.List.{drop-append-le}
-use Rattle.lert_spec.specs.Trace.{agreed, trace_header}
-use Rattle.lert_trace.specs.Window.{StillAhead, IsAtEnd}
+use Rattle.std.proofs.{Common.{◌≡◌, ℕ, ◌≤◌, Bool, true, false, List, [], ◌++◌, length, drop, Option, Some, sym, ap, ◌∙◌, arith, append-nil, refl}, lemmas.List.drop-append-le}
+use Rattle.lert_spec.specs.Agreed.{agreed}
+use Rattle.lert_trace.specs.{Trace.trace_header, Window.{StillAhead, IsAtEnd}}
 use Rattle.lert_trace.proofs.Agreed.{agreed-le_text, agreed-le_bytes, agreed-append}
 
 -- what the pending bytes have in common with the header is what the source's do, once eight are pending or none is left

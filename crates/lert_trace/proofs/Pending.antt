@@ -1,9 +1,6 @@
 -- The pending bytes of a window: those from one place of its block up to another.
-use Rattle.std.proofs.Common.{◌≡◌, ℕ, ◌+◌, ◌-◌, ◌≤◌, List, [], ◌++◌, length, take, drop, Option, Some, None}
-use Rattle.std.proofs.Common.{refl, ap, sym, ◌∙◌, subst, arith, length-drop, length-append, append_assoc}
-use Rattle.std.proofs.Math.Seq.{take-append-add}
-use Rattle.std.proofs.lemmas.List.{length-take-le, take-append-le, take-append-drop, take-take}
-use Rattle.std.proofs.lemmas.Slice.{between_is, take-put_mid_below}
+use Rattle.std.proofs.Common.{◌≡◌, ℕ, ◌+◌, ◌-◌, ◌≤◌, List, [], ◌++◌, length, take, drop, Option, Some, None, refl, ap, sym, ◌∙◌, subst, arith, length-drop, length-append, append_assoc}
+use Rattle.std.proofs.{Math.Seq.take-append-add, lemmas.List.{length-take-le, take-append-le, take-append-drop, take-take}, lemmas.Slice.{between_is, take-put_mid_below}}
 use borrow.Rule.Slice.PartMut.{mid_of, put_mid, post_of, mid_len, same_len_mid}
 use Rattle.lert_io.specs.Reading.{HandsOut}
 use Rattle.lert_trace.specs.Window.{IsBlock, StillAhead}

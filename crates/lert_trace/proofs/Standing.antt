@@ -7,8 +7,9 @@ use Rattle.std.proofs.lemmas.Bool.{ne_eqb}
 use Rattle.std.proofs.lemmas.Option.{slice_get-get_or}
 use Rattle.byteorder.specs.Endian.{little_from}
 use Rattle.byteorder.specs.Numbers.{little_from-append}
-use Rattle.lert_spec.specs.Trace.{agreed, key_at, left, trace_header, whole, whole_len}
-use Rattle.lert_spec.proofs.TraceLaws.{little_from-drop}
+use Rattle.lert_spec.specs.Agreed.{agreed}
+use Rattle.lert_trace.specs.Trace.{key_at, left, trace_header, whole, whole_len}
+use Rattle.lert_spec.proofs.TextLaws.{little_from-drop}
 use Rattle.lert_trace.specs.declared.fault.TraceFault.{TraceFault}
 use Rattle.lert_trace.specs.Reader.{IsReader, IsTraceOf, LeavesAt, Stands}
 use Rattle.lert_trace.specs.Window.{StillAhead, IsAtEnd}

@@ -1,9 +1,7 @@
 -- What a step of a reader keeps.
 use Rattle.std.proofs.Common.{◌≡◌, ◌≢◌, ℕ, ◌+◌, ◌*◌, ◌≤◌, Option, Some, None, Result, Ok, Err, refl, sym, ap, ◌∙◌, subst, arith}
 use Rattle.std.specs.Prelude.{IfErr, IfSome}
-use Rattle.lert_trace.specs.declared.fault.TraceFault.{TraceFault}
-use Rattle.lert_trace.specs.declared.fault.TraceFault.TheVariants.{ReadFailed, CutKey, TooLong}
-use Rattle.lert_trace.specs.Reader.{Reading, IsSameReader}
+use Rattle.lert_trace.specs.{declared.fault.TraceFault.TraceFault, declared.fault.TraceFault.TheVariants.{ReadFailed, CutKey, TooLong}, Reader.{Reading, IsSameReader}}
 
 -- one step after another
 pub same_again : {S : Type 0} (old mid new : Reading S) → IsSameReader old mid → IsSameReader mid new → IsSameReader old new

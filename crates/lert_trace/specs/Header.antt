@@ -1,10 +1,8 @@
 -- Why a header can't be taken.
 use Rattle.std.specs.Prelude.{◌≡◌, ℕ, ◌<◌, ◌++◌, List, Option}
-use Rattle.lert_io.specs.Fault.{HasRisen}
-use Rattle.lert_io.specs.Reading.{IfTold}
-use Rattle.lert_spec.specs.Trace.{agreed, trace_header}
-use Rattle.lert_trace.specs.declared.fault.TraceFault.{TraceFault}
-use Rattle.lert_trace.specs.declared.fault.TraceFault.TheVariants.{ReadFailed, BadHeader, CutKey, TooLong}
+use Rattle.lert_io.specs.{Fault.HasRisen, Reading.IfTold}
+use Rattle.lert_spec.specs.Agreed.{agreed}
+use Rattle.lert_trace.specs.{Trace.trace_header, declared.fault.TraceFault.TraceFault, declared.fault.TraceFault.TheVariants.{ReadFailed, BadHeader, CutKey, TooLong}}
 
 -- a read failed, or what is ahead leaves the header at that place
 abbrev pub HeaderFault : Option (List ℕ) → List ℕ → ℕ → ℕ → TraceFault → Type 0

@@ -1,3 +1,4 @@
 pub mod Header
 pub mod Reader
+pub mod Trace
 pub mod Window

@@ -1,10 +1,8 @@
 -- What a trace reader is seen as, and what each of its faults says.
 use Rattle.std.specs.Prelude.{◌≡◌, ℕ, ◌+◌, ◌*◌, ◌<◌, ◌≤◌, Bool, true, false, List, ◌++◌, length, drop, Option, Some, None}
-use Rattle.lert_io.specs.Fault.{HasRisen}
-use Rattle.lert_io.specs.Reading.{IfTold}
-use Rattle.lert_spec.specs.Trace.{agreed, left, trace_header, whole}
-use Rattle.lert_trace.specs.declared.fault.TraceFault.{TraceFault}
-use Rattle.lert_trace.specs.declared.fault.TraceFault.TheVariants.{ReadFailed, BadHeader, CutKey, TooLong}
+use Rattle.lert_io.specs.{Fault.HasRisen, Reading.IfTold}
+use Rattle.lert_spec.specs.Agreed.{agreed}
+use Rattle.lert_trace.specs.{Trace.{left, trace_header, whole}, declared.fault.TraceFault.TraceFault, declared.fault.TraceFault.TheVariants.{ReadFailed, BadHeader, CutKey, TooLong}}
 
 -- a reader: its source as it is and as it was when the reader was made, the most keys that it gives, whether it took the
 -- header, how many keys it gave, and the fault that it met

@@ -2,7 +2,8 @@
 
 ghost use Rattle.std.specs.Prelude.{◌≡◌, ◌≤◌, ◌++◌, ℕ, List, drop, Some, None, IfErr, OnOk, OnErr};
 ghost use Rattle.lert_io.specs.Reading.{IfTold};
-ghost use Rattle.lert_spec.specs.Trace.{agreed, trace_header};
+ghost use Rattle.lert_spec.specs.Agreed.{agreed};
+ghost use Rattle.lert_trace.specs.Trace.{trace_header};
 ghost use Rattle.lert_trace.specs.Header.{HeaderFault};
 ghost use Rattle.lert_trace.specs.Window.{StillAhead};
 

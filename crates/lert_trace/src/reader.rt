@@ -3,7 +3,7 @@
 ghost use Rattle.std.specs.Prelude.{◌≡◌, ◌+◌, ◌<◌, ◌≤◌, ◌^◌, [], length, slice_get, Some, None, Ok, Err, true, false, IsOk, OnOk, IsErrOf, IfOk, IfErr, IfSome, IfNone};
 ghost use Rattle.lert_io.specs.Fault.{HasRisen};
 ghost use Rattle.lert_io.specs.Reading.{IfTold};
-ghost use Rattle.lert_spec.specs.Trace.{whole};
+ghost use Rattle.lert_trace.specs.Trace.{whole};
 
 use crate::fault::TraceFault;
 use crate::header::read_header;

@@ -3,7 +3,7 @@
 ghost use Rattle.std.specs.Prelude.{◌≡◌, ◌+◌, ◌-◌, ◌<◌, ◌≤◌, [], length, take, drop, IsTrue, false, IfOk};
 ghost use Rattle.byteorder.specs.Endian.{little_from};
 ghost use Rattle.lert_io.specs.Fault.{HasCause};
-ghost use Rattle.lert_spec.specs.Trace.{agreed};
+ghost use Rattle.lert_spec.specs.Agreed.{agreed};
 ghost use Rattle.lert_trace.specs.Window.{StillAhead, IsAtEnd};
 
 use byteorder::{ByteOrder, LittleEndian};

@@ -9,6 +9,7 @@ use lert_io::{MemSink, OutOfMemory, PairedSource};
 use lert_place::PairPlace;
 use lert_top::{Status, run};
 use std::alloc::Global;
+use std::random::RandomSource;
 use std::sync::Wait;
 use std::thread::Threads;
 
@@ -25,7 +26,7 @@ fn pair_place(alloc: Global, bytes: &[u8], cut: usize, turns: u64) -> Result<Pai
 /// Runs the line of these words over two sources of the same bytes and an empty bay, whatever the names are. The first read of
 /// each waits for the other one's, for at most so many turns, and fails where it doesn't come; it gives at most `cut` bytes. It
 /// answers the status and the text.
-pub fn run_pair<R: Threads + Wait + Sync>(
+pub fn run_pair<R: Threads + Wait + Sync + RandomSource>(
     rt: &R,
     alloc: Global,
     words: &Words,
@@ -39,7 +40,7 @@ pub fn run_pair<R: Threads + Wait + Sync>(
     run_pair_at(rt, alloc, words, &mut place)
 }
 
-fn run_pair_at<R: Threads + Wait + Sync>(
+fn run_pair_at<R: Threads + Wait + Sync + RandomSource>(
     rt: &R,
     alloc: Global,
     words: &Words,
@@ -53,7 +54,7 @@ fn run_pair_at<R: Threads + Wait + Sync>(
 }
 
 // The call alone, so that what it says stands in no goal of its caller.
-fn run_on_pair<R: Threads + Wait + Sync>(
+fn run_on_pair<R: Threads + Wait + Sync + RandomSource>(
     rt: &R,
     alloc: Global,
     words: &Words,

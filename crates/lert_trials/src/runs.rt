@@ -8,6 +8,7 @@ use lert_bay::MemBay;
 use lert_io::{CallList, MemSink, MemSource, OutOfMemory};
 use lert_top::{MemPlace, Status, run};
 use std::alloc::Global;
+use std::random::RandomSource;
 use std::sync::Wait;
 use std::thread::Threads;
 
@@ -113,7 +114,7 @@ fn files_back(alloc: Global, place: &MemPlace) -> Result<Files, OutOfMemory> {
 }
 
 /// Runs these words over a place that was asked for nothing yet, with this write of the text failing, or none where it is 0.
-pub fn run_at<R: Threads + Wait + Sync>(
+pub fn run_at<R: Threads + Wait + Sync + RandomSource>(
     rt: &R,
     alloc: Global,
     texts: &[&str],
@@ -126,7 +127,7 @@ pub fn run_at<R: Threads + Wait + Sync>(
     run_into_new(rt, alloc, &words, place, failing_write)
 }
 
-fn run_into_new<R: Threads + Wait + Sync>(
+fn run_into_new<R: Threads + Wait + Sync + RandomSource>(
     rt: &R,
     alloc: Global,
     words: &Words,
@@ -162,7 +163,7 @@ fn what_came(
 }
 
 // The call alone, so that what it says stands in no goal of its callers.
-fn run_words<R: Threads + Wait + Sync>(
+fn run_words<R: Threads + Wait + Sync + RandomSource>(
     rt: &R,
     alloc: Global,
     words: &Words,
@@ -175,7 +176,7 @@ fn run_words<R: Threads + Wait + Sync>(
 }
 
 /// Runs a row over a place that has its trace and its bays.
-pub fn run_row<R: Threads + Wait + Sync>(
+pub fn run_row<R: Threads + Wait + Sync + RandomSource>(
     rt: &R,
     alloc: Global,
     row: &Row,
@@ -184,7 +185,7 @@ pub fn run_row<R: Threads + Wait + Sync>(
     run_row_at(rt, alloc, row, &mut place)
 }
 
-fn run_row_at<R: Threads + Wait + Sync>(
+fn run_row_at<R: Threads + Wait + Sync + RandomSource>(
     rt: &R,
     alloc: Global,
     row: &Row,
@@ -198,7 +199,7 @@ fn run_row_at<R: Threads + Wait + Sync>(
 }
 
 /// Runs these words over a trace, the empty bays of so many cones, and behind them this bay of the next cone.
-pub fn run_on<R: Threads + Wait + Sync>(
+pub fn run_on<R: Threads + Wait + Sync + RandomSource>(
     rt: &R,
     alloc: Global,
     texts: &[&str],
@@ -210,7 +211,7 @@ pub fn run_on<R: Threads + Wait + Sync>(
     run_on_at(rt, alloc, texts, trace, empty, bay, &mut place)
 }
 
-fn run_on_at<R: Threads + Wait + Sync>(
+fn run_on_at<R: Threads + Wait + Sync + RandomSource>(
     rt: &R,
     alloc: Global,
     texts: &[&str],
@@ -230,7 +231,7 @@ fn run_on_at<R: Threads + Wait + Sync>(
 
 /// Runs these words, of a run or a recovery, over a trace, a bay of cone 0 that has these files, and an empty one of cone 1, of which
 /// this call fails.
-pub fn run_before_failing<R: Threads + Wait + Sync>(
+pub fn run_before_failing<R: Threads + Wait + Sync + RandomSource>(
     rt: &R,
     alloc: Global,
     texts: &[&str],
@@ -242,7 +243,7 @@ pub fn run_before_failing<R: Threads + Wait + Sync>(
     run_before_failing_at(rt, alloc, texts, trace, files, failing_call, &mut place)
 }
 
-fn run_before_failing_at<R: Threads + Wait + Sync>(
+fn run_before_failing_at<R: Threads + Wait + Sync + RandomSource>(
     rt: &R,
     alloc: Global,
     texts: &[&str],
@@ -270,7 +271,7 @@ fn add_failing_bay(alloc: Global, place: &mut MemPlace, call: u64) -> Result<(),
 }
 
 /// Runs these words, of a recovery, over a place with a bay of cone 0 that has these files.
-pub fn recover_files<R: Threads + Wait + Sync>(
+pub fn recover_files<R: Threads + Wait + Sync + RandomSource>(
     rt: &R,
     alloc: Global,
     texts: &[&str],
@@ -280,7 +281,7 @@ pub fn recover_files<R: Threads + Wait + Sync>(
     recover_at(rt, alloc, texts, files, &mut place)
 }
 
-fn recover_at<R: Threads + Wait + Sync>(
+fn recover_at<R: Threads + Wait + Sync + RandomSource>(
     rt: &R,
     alloc: Global,
     texts: &[&str],
@@ -302,7 +303,7 @@ pub struct Two<'a> {
 }
 
 /// Runs these words over two traces and an empty bay.
-pub fn run_two<R: Threads + Wait + Sync>(
+pub fn run_two<R: Threads + Wait + Sync + RandomSource>(
     rt: &R,
     alloc: Global,
     texts: &[&str],
@@ -312,7 +313,7 @@ pub fn run_two<R: Threads + Wait + Sync>(
     run_two_at(rt, alloc, texts, two, &mut place)
 }
 
-fn run_two_at<R: Threads + Wait + Sync>(
+fn run_two_at<R: Threads + Wait + Sync + RandomSource>(
     rt: &R,
     alloc: Global,
     texts: &[&str],

@@ -1,8 +1,6 @@
 -- The values of options among those that are given.
 use Rattle.std.proofs.Common.{◌≡◌, ℕ, zero, suc, ◌<◌, Bool, true, false, cond, ◌||◌, List, [], ◌∷◌, ◌++◌, length, get_or, map, replicate, Option, Some, None, refl, ap, ap₂, sym, ◌∙◌, arith, Bor}
-use Rattle.std.specs.Prelude.{is_some, option_map}
-use Rattle.std.specs.List.{find}
-use Rattle.std.specs.Str.{bytes_eq}
+use Rattle.std.specs.{Prelude.{is_some, option_map}, List.find, Str.bytes_eq}
 use Rattle.lert_args.specs.Said.{Given, is_among}
 use Rattle.lert_words_tests.specs.Steps.{names_of_given, value_among}
 use Rattle.lert_args.proofs.Texts.{equal_texts, text_swap}

@@ -1,16 +1,8 @@
 -- One word more of what words say, where the state after the words before it is known.
-use Rattle.std.specs.Prelude.{◌≡◌, ℕ, ◌<◌, List, [], ◌∷◌, ◌++◌, map, Option, Some, None, option_map, Result, IfOk, IfErr, slice_index_or, if◌then◌else◌}
-use Rattle.std.specs.Borrow.{Bor}
-use Rattle.std.specs.List.{find}
-use Rattle.std.specs.Str.{bytes_eq}
-use Rattle.lert_args.specs.Lookups.{texts}
-use Rattle.lert_args.specs.Word.{is_late_name, number_of}
-use Rattle.lert_args.specs.Said.{Given, Kind, ends, awaits, valued, named, refused, Reading, between, value_of, behind, is_among, kind_of}
-use Rattle.lert_words_tests.specs.declared.by_hand.Given.{Given as Held}
-use Rattle.lert_words_tests.specs.declared.by_hand.Stage.{Stage}
-use Rattle.lert_words_tests.specs.declared.by_hand.Stage.TheVariants.{Between, ValueOf, Behind}
-use Rattle.lert_words_tests.specs.declared.by_hand.HandFault.{HandFault}
-use Rattle.lert_words_tests.specs.declared.by_hand.HandFault.TheVariants.{Faulty}
+use Rattle.std.specs.{Prelude.{◌≡◌, ℕ, ◌<◌, List, [], ◌∷◌, ◌++◌, map, Option, Some, None, option_map, Result, IfOk, IfErr, slice_index_or, if◌then◌else◌}, Borrow.Bor, List.find, Str.bytes_eq}
+use Rattle.lert_args.specs.{Lookups.texts, Word.{is_late_name, number_of}, Said.{Given, Kind, ends, awaits, valued, named, refused, Reading, between, value_of, behind, is_among, kind_of}}
+use Rattle.lert_words_tests.specs.{declared.by_hand.Given.Given as Held, declared.by_hand.Stage.Stage, declared.by_hand.Stage.TheVariants.{Between, ValueOf, Behind}}
+use Rattle.lert_words_tests.specs.{declared.by_hand.HandFault.HandFault, declared.by_hand.HandFault.TheVariants.Faulty}
 
 -- what words say so far, and where the reading stands
 pub record State : Type 0 where

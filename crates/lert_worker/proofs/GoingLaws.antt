@@ -1,26 +1,16 @@
 -- A run on its way: it begins, goes on with the next trace, stops at one, and ends.
-use Rattle.std.proofs.Common.{◌≡◌, ◌≢◌, ℕ, ◌+◌, ◌^◌, ◌<◌, ◌≤◌, List, [], length, set, replicate, Option, Some, slice_get}
-use Rattle.std.proofs.Common.{refl, ap, sym, ◌∙◌, subst, inl, inr, arith, length-set}
+use Rattle.std.proofs.Common.{◌≡◌, ◌≢◌, ℕ, ◌+◌, ◌^◌, ◌<◌, ◌≤◌, List, [], length, set, replicate, Option, Some, slice_get, refl, ap, sym, ◌∙◌, subst, inl, inr, arith, length-set}
+use Rattle.std.proofs.{lemmas.Bool.cases_eq, lemmas.List.{get_or-replicate, length-replicate}, lemmas.Option.{get_or_from_slice_get, slice_get_within, same_Some}}
 use Rattle.std.specs.List.Sorted.{IsStrictlyIncreasing}
-use Rattle.std.proofs.lemmas.Bool.{cases_eq}
-use Rattle.std.proofs.lemmas.List.{get_or-replicate, length-replicate}
-use Rattle.std.proofs.lemmas.Option.{get_or_from_slice_get, slice_get_within, same_Some}
 use Rattle.lert_conelock.specs.Sight.{Sight}
-use Rattle.lert_fleet.specs.Cones.{FleetPassSight, FleetSight, IsPassOf}
-use Rattle.lert_fleet.specs.Each.{EachThree}
+use Rattle.lert_fleet.specs.{Cones.{FleetPassSight, FleetSight, IsPassOf}, Each.EachThree}
 use Rattle.lert_fleet.proofs.Places.{slice_get-set_other, slice_get-set_same, some_at}
 use Rattle.lert_spec.specs.declared.numbers.Numbers.{Numbers}
 use Rattle.lert_trace.specs.Reader.{Reading}
 use Rattle.lert_base.specs.declared.cone_fault.ConeFault.{ConeFault}
-use Rattle.lert_worker.specs.Ends.{IsAtEnd, Stopped, StoppedAt, WasRead}
-use Rattle.lert_worker.specs.Ran.{HasRun, Working}
-use Rattle.lert_worker.specs.Runs.{BroughtIn, HasEnded, RunsSoFar}
-use Rattle.lert_worker.specs.Sending.{AreSent}
-use Rattle.lert_worker.specs.Trace.{EndsBy, IsNamed}
-use Rattle.lert_worker.specs.declared.end.WorkerEnd.{WorkerEnd}
-use Rattle.lert_worker.specs.declared.end.WorkerEnd.TheVariants.{Ran, Trace, Cone}
-use Rattle.lert_worker.proofs.ReadLaws.{was_new}
-use Rattle.lert_worker.proofs.RunLaws.{brought_more, brought_none, ran_in, stopped_in}
+use Rattle.lert_worker.specs.{Ends.{IsAtEnd, Stopped, StoppedAt, WasRead}, Ran.{HasRun, Working}, Runs.{BroughtIn, HasEnded, RunsSoFar}, Sending.AreSent, Trace.{EndsBy, IsNamed}}
+use Rattle.lert_worker.specs.{declared.end.WorkerEnd.WorkerEnd, declared.end.WorkerEnd.TheVariants.{Ran, Trace, Cone}}
+use Rattle.lert_worker.proofs.{ReadLaws.was_new, RunLaws.{brought_more, brought_none, ran_in, stopped_in}}
 
 -- of no trace any key was read
 none_read : (n place : ℕ) (keys : List ℕ) → slice_get (replicate n []) place ≡ Some keys → keys ≡ []

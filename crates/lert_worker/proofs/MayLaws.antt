@@ -1,19 +1,12 @@
 -- Rings that may still go to the cones, after a step.
 use Rattle.std.proofs.Common.{◌≡◌, ℕ, ◌*◌, ◌^◌, ◌<◌, ◌≤◌, List, [], length, Some, slice_get, refl, ap, sym, ◌∙◌, subst, length-set}
-use Rattle.lert_base.specs.declared.cone_fault.ConeFault.{ConeFault}
-use Rattle.lert_base.specs.declared.entry.Entry.{Entry}
-use Rattle.lert_base.specs.declared.held.Held.{Ghosts as HeldOf}
-use Rattle.lert_base.specs.Keys.{Keys}
-use Rattle.lert_base.specs.Packet.{Packet}
+use Rattle.lert_base.specs.{declared.cone_fault.ConeFault.ConeFault, declared.entry.Entry.Entry, declared.held.Held.Ghosts as HeldOf, Keys.Keys, Packet.Packet}
 use Rattle.lert_buffers.specs.Rings.{Rings, ring_of, with_keys, with_ring}
 use Rattle.lert_conelock.specs.Sight.{LockSight}
 use Rattle.lert_fleet.specs.Cones.{ChangesOnly, FleetPassSight, FleetSight, IsPassOf}
 use Rattle.lert_journal.specs.Payload.{IsJournaled}
 use Rattle.lert_spec.specs.declared.numbers.Numbers.{Numbers}
-use Rattle.lert_worker.specs.Outbox.{IsIdle, IsResting, IsSame, IsSameOutbox, IsSendable, MaySend}
-use Rattle.lert_worker.specs.Ran.{MayRun, Working}
-use Rattle.lert_worker.specs.Sending.{packet_with}
-use Rattle.lert_worker.specs.declared.outbox.Outbox.{Outbox}
+use Rattle.lert_worker.specs.{Outbox.{IsIdle, IsResting, IsSame, IsSameOutbox, IsSendable, MaySend}, Ran.{MayRun, Working}, Sending.packet_with, declared.outbox.Outbox.Outbox}
 use Rattle.lert_worker.proofs.TakeLaws.{ring_here}
 
 -- as many rings, for packets of the same size

@@ -1,13 +1,10 @@
 -- What a call of the fleet tells of the cone that it names.
-use Rattle.std.proofs.Common.{Result, Ok, Err, OnOk, IfErr, MatchResult, ◌≡◌, ◌+◌, ℕ, ◌<◌, List, [], length, set, ap, sym, ◌∙◌, subst}
-use Rattle.lert_base.specs.declared.held.Held.{Ghosts as HeldOf}
-use Rattle.lert_base.specs.Packet.{Packet}
+use Rattle.std.proofs.{Common.{Result, Ok, Err, OnOk, IfErr, MatchResult, ◌≡◌, ◌+◌, ℕ, ◌<◌, List, [], length, set, ap, sym, ◌∙◌, subst}, lemmas.List.{set-set, set-get_or}}
+use Rattle.lert_base.specs.{declared.held.Held.Ghosts as HeldOf, Packet.Packet}
 use Rattle.lert_conelock.specs.Sight.{Sight, Keeps, Loses, Acted, Declined}
 use Rattle.lert_fleet.specs.Cones.{FleetSight, FleetPassSight, AtCone}
-use Rattle.lert_buffers.specs.Rings.{Rings, ring_of, with_ring}
-use Rattle.lert_buffers.specs.declared.buffers.Fill.{Fill}
+use Rattle.lert_buffers.specs.{Rings.{Rings, ring_of, with_ring}, declared.buffers.Fill.Fill}
 use Rattle.lert_fleet.proofs.Places.{some_at}
-use Rattle.std.proofs.lemmas.List.{set-set, set-get_or}
 use Rattle.lert_worker.specs.Sending.{AtOwn, IsBrought, WasBusy, WasTaken, WasTurned, waits_at}
 
 module _ {H T R F : Type 0} (held : HeldOf H T R F) (fleet : FleetSight H) (cone : ℕ) (within : cone < length fleet)

@@ -1,18 +1,11 @@
 -- A reader of a trace, one call later.
-use Rattle.std.proofs.Common.{◌≡◌, ℕ, ◌+◌, ◌-◌, ◌<◌, ◌≤◌, List, [], ◌∷◌, ◌++◌, length, take, drop, Option, Some, None, slice_get}
-use Rattle.std.proofs.Common.{refl, ap, sym, ◌∙◌, subst, arith, length-drop}
-use Rattle.std.proofs.lemmas.List.{take_more, get_or-drop, length_push}
-use Rattle.std.proofs.lemmas.Option.{get_or_from_slice_get, slice_get_within}
+use Rattle.std.proofs.Common.{◌≡◌, ℕ, ◌+◌, ◌-◌, ◌<◌, ◌≤◌, List, [], ◌∷◌, ◌++◌, length, take, drop, Option, Some, None, slice_get, refl, ap, sym, ◌∙◌, subst, arith, length-drop}
+use Rattle.std.proofs.{lemmas.List.{take_more, get_or-drop, length_push}, lemmas.Option.{get_or_from_slice_get, slice_get_within}}
 use Rattle.std.specs.Prelude.{IfSome}
 use Rattle.lert_io.specs.Reading.{IfTold}
-use Rattle.lert_spec.specs.Trace.{whole}
-use Rattle.lert_trace.specs.Reader.{IsTraceOf, Means, Reading}
-use Rattle.lert_trace.specs.declared.fault.TraceFault.{TraceFault}
+use Rattle.lert_trace.specs.{Trace.whole, Reader.{IsTraceOf, Means, Reading}, declared.fault.TraceFault.TraceFault}
 use Rattle.lert_base.specs.declared.cone_fault.ConeFault.{ConeFault}
-use Rattle.lert_worker.specs.Ends.{IsAtEnd, WasRead}
-use Rattle.lert_worker.specs.Trace.{EndsBy, IsByCone, IsNamed}
-use Rattle.lert_worker.specs.declared.end.WorkerEnd.{WorkerEnd}
-use Rattle.lert_worker.specs.declared.end.WorkerEnd.TheVariants.{Cone}
+use Rattle.lert_worker.specs.{Ends.{IsAtEnd, WasRead}, Trace.{EndsBy, IsByCone, IsNamed}, declared.end.WorkerEnd.WorkerEnd, declared.end.WorkerEnd.TheVariants.Cone}
 
 -- the next of some keys
 taken_more : (all : List ℕ) (from n key : ℕ) → slice_get all (from + n) ≡ Some key → take (n + 1) (drop from all) ≡ take n (drop from all) ++ key ∷ []

@@ -1,21 +1,14 @@
 -- All cones at the end of a trace: the rests of the rings, in ascending cones.
-use Rattle.std.proofs.Common.{◌≡◌, ◌≢◌, ◌⊎◌, ℕ, zero, suc, ◌+◌, ◌^◌, ◌<◌, ◌≤◌, List, [], ◌∷◌, length, set}
-use Rattle.std.proofs.Common.{Some, slice_get, refl, ap, sym, ◌∙◌, subst, inl, inr, arith}
-use Rattle.std.proofs.lemmas.Bool.{cases_eq}
-use Rattle.std.proofs.lemmas.List.{set-get_or}
-use Rattle.std.proofs.lemmas.Option.{slice_get_within}
+use Rattle.std.proofs.{Common.{◌≡◌, ◌≢◌, ◌⊎◌, ℕ, zero, suc, ◌+◌, ◌^◌, ◌<◌, ◌≤◌, List, [], ◌∷◌, length, set, Some, slice_get, refl, ap, sym, ◌∙◌, subst, inl, inr, arith}, lemmas.Bool.cases_eq}
+use Rattle.std.proofs.{lemmas.List.set-get_or, lemmas.Option.slice_get_within}
 use Rattle.lert_buffers.specs.Rings.{Rings, ring_of, with_ring}
 use Rattle.lert_conelock.specs.Sight.{Sight}
 use Rattle.lert_fleet.specs.Cones.{FleetPassSight, ChangesOnly}
 use Rattle.lert_fleet.proofs.Places.{some_at}
 use Rattle.lert_spec.specs.declared.numbers.Numbers.{Numbers}
 use Rattle.lert_base.specs.declared.cone_fault.ConeFault.{ConeFault}
-use Rattle.lert_worker.specs.Outbox.{HasRoom, HaveRoom, IsSendable}
-use Rattle.lert_worker.specs.Sending.{AreSent, AtOwn, Goes, Lane, Lanes, SentIn, WasTurned}
-use Rattle.lert_worker.specs.declared.end.WorkerEnd.TheVariants.{Ran, Cone}
-use Rattle.lert_worker.proofs.LaneLaws.{ringed}
-use Rattle.lert_worker.proofs.TakeLaws.{ring_else, room_none, room_with}
-use Rattle.lert_worker.proofs.SentLaws.{lane_empty, lane_rest, lane_stopped, lane_turned, rested_stopped}
+use Rattle.lert_worker.specs.{Outbox.{HasRoom, HaveRoom, IsSendable}, Sending.{AreSent, AtOwn, Goes, Lane, Lanes, SentIn, WasTurned}, declared.end.WorkerEnd.TheVariants.{Ran, Cone}}
+use Rattle.lert_worker.proofs.{LaneLaws.ringed, TakeLaws.{ring_else, room_none, room_with}, SentLaws.{lane_empty, lane_rest, lane_stopped, lane_turned, rested_stopped}}
 
 pub nil_is : {X : Type 0} (xs : List X) → length xs ≡ 0 → xs ≡ []
 nil_is [] is = refl

@@ -1,22 +1,12 @@
 -- What the keys of a trace brought to one cone: all of them at its end, and a beginning of them where the worker stopped.
-use Rattle.std.proofs.Common.{◌≡◌, ◌≢◌, ℕ, ◌+◌, ◌<◌, ◌≤◌, List, [], ◌∷◌, ◌++◌, length, refl, ap, sym, ◌∙◌, arith, append-nil, append_assoc}
+use Rattle.std.proofs.{Common.{◌≡◌, ◌≢◌, ℕ, ◌+◌, ◌<◌, ◌≤◌, List, [], ◌∷◌, ◌++◌, length, refl, ap, sym, ◌∙◌, arith, append-nil, append_assoc}, lemmas.List.Elements.All-push}
 use Rattle.std.specs.Prelude.{All, sum_by}
-use Rattle.std.proofs.lemmas.List.Elements.{All-push}
-use Rattle.lert_base.specs.Beginning.{BeginsWith}
-use Rattle.lert_base.specs.Packet.{Packet, events_of}
-use Rattle.lert_base.specs.Weave.{AreCut}
+use Rattle.lert_base.specs.{Beginning.BeginsWith, Packet.{Packet, events_of}, Weave.AreCut, declared.cone_fault.ConeFault.ConeFault}
 use Rattle.lert_conelock.specs.Sight.{Sight}
-use Rattle.lert_spec.specs.declared.numbers.Numbers.{Numbers}
-use Rattle.lert_spec.specs.Mix.{part_of}
-use Rattle.lert_base.specs.declared.cone_fault.ConeFault.{ConeFault}
-use Rattle.lert_worker.specs.Brings.{late_tries}
-use Rattle.lert_worker.specs.Outbox.{IsSendable}
-use Rattle.lert_worker.specs.Ran.{IsTurned}
-use Rattle.lert_worker.specs.Sending.{IsOf, Lane, SentIn, WasTaken, WasTurned}
-use Rattle.lert_worker.specs.declared.end.WorkerEnd.{WorkerEnd}
+use Rattle.lert_spec.specs.{declared.numbers.Numbers.Numbers, Mix.part_of}
+use Rattle.lert_worker.specs.{Brings.late_tries, Outbox.IsSendable, Ran.IsTurned, Sending.{IsOf, Lane, SentIn, WasTaken, WasTurned}, declared.end.WorkerEnd.WorkerEnd}
 use Rattle.lert_worker.specs.declared.end.WorkerEnd.TheVariants.{Ran, Cone}
-use Rattle.lert_worker.proofs.Counts.{counts_on}
-use Rattle.lert_worker.proofs.LaneLaws.{cut_push, cut_whole, full_push, joined_more, met_more, own_packet, ringed, with_none}
+use Rattle.lert_worker.proofs.{Counts.counts_on, LaneLaws.{cut_push, cut_whole, full_push, joined_more, met_more, own_packet, ringed, with_none}}
 
 module _ {H : Type 0} (s : Numbers) (number cone trace : ℕ) where
   -- the cone refused a packet before: the trace is left where it is

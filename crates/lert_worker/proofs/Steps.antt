@@ -1,21 +1,13 @@
 -- Steps of an outbox, one behind the other.
-use Rattle.std.proofs.Common.{◌≡◌, ◌≢◌, ℕ, ◌+◌, ◌^◌, ◌<◌, ◌≤◌, List, [], length, refl, ap, sym, ◌∙◌, subst, inl, inr, arith}
-use Rattle.std.proofs.lemmas.Bool.{cases_eq}
-use Rattle.std.proofs.lemmas.Option.{slice_get_within, same_Some}
+use Rattle.std.proofs.{Common.{◌≡◌, ◌≢◌, ℕ, ◌+◌, ◌^◌, ◌<◌, ◌≤◌, List, [], length, refl, ap, sym, ◌∙◌, subst, inl, inr, arith}, lemmas.Bool.cases_eq, lemmas.Option.{slice_get_within, same_Some}}
 use Rattle.lert_buffers.specs.Rings.{Rings, ring_of, with_ring}
 use Rattle.lert_conelock.specs.Sight.{Sight}
 use Rattle.lert_fleet.specs.Cones.{FleetPassSight}
 use Rattle.lert_spec.specs.declared.numbers.Numbers.{Numbers}
 use Rattle.lert_base.specs.declared.cone_fault.ConeFault.{ConeFault}
-use Rattle.lert_worker.specs.Outbox.{AreDrained, HasRoom, HaveRoom, IsResting, IsSame, IsSameOutbox}
-use Rattle.lert_worker.specs.Ran.{IsTurned}
-use Rattle.lert_worker.specs.Sending.{AreSent, Lane, Lanes}
-use Rattle.lert_worker.specs.declared.end.WorkerEnd.{WorkerEnd}
-use Rattle.lert_worker.specs.declared.end.WorkerEnd.TheVariants.{Ran}
-use Rattle.lert_worker.specs.declared.outbox.Outbox.{Outbox}
-use Rattle.lert_worker.proofs.LaneLaws.{lane_start}
-use Rattle.lert_worker.proofs.SentLaws.{lane_stopped}
-use Rattle.lert_worker.proofs.TakeLaws.{ring_else, ring_here, room_none}
+use Rattle.lert_worker.specs.{Outbox.{AreDrained, HasRoom, HaveRoom, IsResting, IsSame, IsSameOutbox}, Ran.IsTurned, Sending.{AreSent, Lane, Lanes}, declared.end.WorkerEnd.WorkerEnd}
+use Rattle.lert_worker.specs.{declared.end.WorkerEnd.TheVariants.Ran, declared.outbox.Outbox.Outbox}
+use Rattle.lert_worker.proofs.{LaneLaws.lane_start, SentLaws.lane_stopped, TakeLaws.{ring_else, ring_here, room_none}}
 
 -- what is said of the settings, the number and the trace of an outbox, of the same one later, and back
 pub to_new : (P : Numbers → ℕ → ℕ → Type 0) (old new : Outbox) → IsSameOutbox old new → P old.settings old.entry.by old.entry.trace → P new.settings new.entry.by new.entry.trace

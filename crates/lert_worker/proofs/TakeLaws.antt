@@ -1,27 +1,16 @@
 -- All cones while a trace is read: a key more.
-use Rattle.std.proofs.Common.{◌≡◌, ◌≢◌, ◌⊎◌, ℕ, ◌+◌, ◌*◌, ◌^◌, ◌<◌, ◌≤◌, cond, eqb, List, [], ◌∷◌, ◌++◌, length}
-use Rattle.std.proofs.Common.{Some, slice_get, refl, ap, sym, ◌∙◌, subst, inl, inr, arith, length-append}
+use Rattle.std.proofs.Common.{◌≡◌, ◌≢◌, ◌⊎◌, ℕ, ◌+◌, ◌*◌, ◌^◌, ◌<◌, ◌≤◌, cond, eqb, List, [], ◌∷◌, ◌++◌, length, Some, slice_get, refl, ap, sym, ◌∙◌, subst, inl, inr, arith, length-append}
+use Rattle.std.proofs.{lemmas.Bool.{cases_eq, eq-eqb}, lemmas.List.{get_or-set_same, get_or-set_other, length-set, set-set}, lemmas.List.Elements.{All-push, All-nil}, lemmas.Option.slice_get_within}
 use Rattle.std.specs.Prelude.{All}
-use Rattle.std.proofs.lemmas.Bool.{cases_eq, eq-eqb}
-use Rattle.std.proofs.lemmas.List.{get_or-set_same, get_or-set_other, length-set, set-set}
-use Rattle.std.proofs.lemmas.List.Elements.{All-push, All-nil}
-use Rattle.std.proofs.lemmas.Option.{slice_get_within}
-use Rattle.lert_base.specs.Packet.{Packet}
-use Rattle.lert_base.specs.Weave.{IsWhole}
-use Rattle.lert_buffers.specs.Rings.{Rings, fill_of, ring_of, with_ring}
-use Rattle.lert_buffers.specs.declared.buffers.Fill.{Fill}
-use Rattle.lert_buffers.specs.declared.buffers.Fill.TheVariants.{Low, MustGo, Ready}
+use Rattle.lert_base.specs.{Packet.Packet, Weave.IsWhole, declared.cone_fault.ConeFault.ConeFault}
+use Rattle.lert_buffers.specs.{Rings.{Rings, fill_of, ring_of, with_ring}, declared.buffers.Fill.Fill, declared.buffers.Fill.TheVariants.{Low, MustGo, Ready}}
 use Rattle.lert_conelock.specs.Sight.{Sight}
 use Rattle.lert_fleet.specs.Cones.{FleetPassSight, ChangesOnly}
 use Rattle.lert_fleet.proofs.Places.{some_at}
-use Rattle.lert_spec.specs.declared.numbers.Numbers.{Numbers}
-use Rattle.lert_spec.specs.Mix.{cone_of}
-use Rattle.lert_base.specs.declared.cone_fault.ConeFault.{ConeFault}
-use Rattle.lert_worker.specs.Outbox.{HasRoom, HaveRoom, IsSendable}
-use Rattle.lert_worker.specs.Sending.{AreSent, AtOwn, Goes, IsBrought, Lane, Lanes, SentIn, Stays, WasTaken, WasTurned, waits_at}
+use Rattle.lert_spec.specs.{declared.numbers.Numbers.Numbers, Mix.cone_of}
+use Rattle.lert_worker.specs.{Outbox.{HasRoom, HaveRoom, IsSendable}, Sending.{AreSent, AtOwn, Goes, IsBrought, Lane, Lanes, SentIn, Stays, WasTaken, WasTurned, waits_at}}
 use Rattle.lert_worker.specs.declared.end.WorkerEnd.TheVariants.{Cone}
-use Rattle.lert_worker.proofs.Counts.{AreWhole, low_short, low_still, must_whole, one_of, ready_short, ready_whole}
-use Rattle.lert_worker.proofs.LaneLaws.{lane_other, lane_same, lane_stays, lane_taken, lane_tried, ringed}
+use Rattle.lert_worker.proofs.{Counts.{AreWhole, low_short, low_still, must_whole, one_of, ready_short, ready_whole}, LaneLaws.{lane_other, lane_same, lane_stays, lane_taken, lane_tried, ringed}}
 use Rattle.lert_worker.proofs.SentLaws.{lane_stopped, lane_turned}
 
 -- rings, one of which has other keys

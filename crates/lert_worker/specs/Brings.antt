@@ -1,11 +1,7 @@
 -- What a worker brings to a cone: packets of its traces, one trace after the other.
-use Rattle.std.specs.Prelude.{◌≡◌, ℕ, ◌+◌, ◌-◌, ◌*◌, ◌/◌, ◌==◌, ◌≤◌, List, length, map, count_by, All, Contains, Some, slice_get}
-use Rattle.std.specs.List.Sorted.{IsNonDecreasing}
-use Rattle.lert_base.specs.Beginning.{BeginsWith}
-use Rattle.lert_base.specs.Packet.{Packet, events_of, of_trace}
-use Rattle.lert_base.specs.Weave.{AreCut, IsWhole}
-use Rattle.lert_spec.specs.declared.numbers.Numbers.{Numbers}
-use Rattle.lert_spec.specs.Mix.{part_of}
+use Rattle.std.specs.{Prelude.{◌≡◌, ℕ, ◌+◌, ◌-◌, ◌*◌, ◌/◌, ◌==◌, ◌≤◌, List, length, map, count_by, All, Contains, Some, slice_get}, List.Sorted.IsNonDecreasing}
+use Rattle.lert_base.specs.{Beginning.BeginsWith, Packet.{Packet, events_of, of_trace}, Weave.{AreCut, IsWhole}}
+use Rattle.lert_spec.specs.{declared.numbers.Numbers.Numbers, Mix.part_of}
 
 -- a packet has some keys, at most four times as many as the settings name, of one of the worker's traces, under its number
 pub record IsOwn (s : Numbers) (number : ℕ) (traces : List ℕ) (packet : Packet) : Type 0 where

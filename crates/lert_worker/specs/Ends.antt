@@ -1,11 +1,8 @@
 -- How a worker ends, and what that says of its readers.
 use Rattle.std.specs.Prelude.{◌≡◌, ℕ, ◌+◌, ◌<◌, ◌≤◌, List, [], length, take, drop, Option, Some, None, slice_get}
 use Rattle.lert_io.specs.Reading.{IfTold}
-use Rattle.lert_spec.specs.Trace.{whole}
-use Rattle.lert_trace.specs.Reader.{Reading, IsTraceOf, Means}
-use Rattle.lert_trace.specs.declared.fault.TraceFault.{TraceFault}
-use Rattle.lert_worker.specs.declared.end.WorkerEnd.{WorkerEnd}
-use Rattle.lert_worker.specs.declared.end.WorkerEnd.TheVariants.{Ran, Trace, Cone}
+use Rattle.lert_trace.specs.{Trace.whole, Reader.{Reading, IsTraceOf, Means}, declared.fault.TraceFault.TraceFault}
+use Rattle.lert_worker.specs.{declared.end.WorkerEnd.WorkerEnd, declared.end.WorkerEnd.TheVariants.{Ran, Trace, Cone}}
 
 module _ {S : Type 0} (remaining : S → Option (List ℕ)) (faults mark : S → ℕ) where
   -- The same reader later, and the keys that it gave since: what its trace had still to give begins with them. A fault says

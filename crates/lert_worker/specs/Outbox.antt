@@ -1,14 +1,11 @@
 -- Keys on their way to the cones: the rings of all cones, and the entry that a ring goes out in.
 use Rattle.std.specs.Prelude.{◌≡◌, ℕ, ◌*◌, ◌^◌, ◌<◌, ◌≤◌, All, List, [], length, Some, slice_get}
-use Rattle.lert_base.specs.declared.held.Held.{Ghosts as HeldOf}
-use Rattle.lert_base.specs.Packet.{Packet}
+use Rattle.lert_base.specs.{declared.held.Held.Ghosts as HeldOf, Packet.Packet}
 use Rattle.lert_buffers.specs.Rings.{Rings, ring_of}
 use Rattle.lert_conelock.specs.Sight.{LockSight}
 use Rattle.lert_fleet.specs.Cones.{FleetSight, FleetPassSight, IsPassOf}
 use Rattle.lert_journal.specs.Payload.{IsJournaled}
-use Rattle.lert_spec.specs.declared.numbers.Numbers.{Numbers}
-use Rattle.lert_spec.specs.Limits.{IsValid}
-use Rattle.lert_spec.specs.Mix.{cone_of}
+use Rattle.lert_spec.specs.{declared.numbers.Numbers.Numbers, Limits.IsValid, Mix.cone_of}
 use Rattle.lert_worker.specs.declared.outbox.Outbox.{Outbox}
 
 -- there is a ring for each cone of the settings, and the entry has no keys, and room for those of a ring

@@ -1,18 +1,12 @@
 -- What a run of a worker leaves.
-use Rattle.std.specs.Prelude.{◌≡◌, ◌≢◌, ℕ, ◌+◌, ◌^◌, ◌<◌, ◌≤◌, All, List, [], ◌∷◌, ◌++◌, length, map, sum_by, Option, Some, slice_get}
-use Rattle.std.specs.List.Sorted.{IsStrictlyIncreasing}
-use Rattle.lert_base.specs.declared.held.Held.{Ghosts as HeldOf}
-use Rattle.lert_base.specs.Packet.{Packet}
+use Rattle.std.specs.{Prelude.{◌≡◌, ◌≢◌, ℕ, ◌+◌, ◌^◌, ◌<◌, ◌≤◌, All, List, [], ◌∷◌, ◌++◌, length, map, sum_by, Option, Some, slice_get}, List.Sorted.IsStrictlyIncreasing}
+use Rattle.lert_base.specs.{declared.held.Held.Ghosts as HeldOf, Packet.Packet, declared.cone_fault.ConeFault.ConeFault}
 use Rattle.lert_conelock.specs.Sight.{Sight, LockSight, Counts}
-use Rattle.lert_fleet.specs.Cones.{FleetSight, FleetPassSight, IsPassOf}
-use Rattle.lert_fleet.specs.Each.{EachThree}
+use Rattle.lert_fleet.specs.{Cones.{FleetSight, FleetPassSight, IsPassOf}, Each.EachThree}
 use Rattle.lert_journal.specs.Payload.{IsJournaled}
 use Rattle.lert_spec.specs.declared.numbers.Numbers.{Numbers}
 use Rattle.lert_trace.specs.Reader.{Reading}
-use Rattle.lert_base.specs.declared.cone_fault.ConeFault.{ConeFault}
-use Rattle.lert_worker.specs.Brings.{Brings, BringsPart, HasNoRest, full_packets, late_tries}
-use Rattle.lert_worker.specs.Ends.{Stopped, WasRead}
-use Rattle.lert_worker.specs.declared.end.WorkerEnd.{WorkerEnd}
+use Rattle.lert_worker.specs.{Brings.{Brings, BringsPart, HasNoRest, full_packets, late_tries}, Ends.{Stopped, WasRead}, declared.end.WorkerEnd.WorkerEnd}
 use Rattle.lert_worker.specs.declared.end.WorkerEnd.TheVariants.{Ran, Trace, Cone}
 
 -- A worker over readers and a pass of any kind: its number, its settings, the numbers of its traces and their readers, its

@@ -1,17 +1,11 @@
 -- A run over several traces, on its way and once it ended.
 use Rattle.std.specs.Prelude.{◌≡◌, ℕ, ◌+◌, ◌^◌, ◌<◌, ◌≤◌, All, List, [], ◌++◌, length, sum_by, Option, Some, slice_get}
-use Rattle.lert_base.specs.Packet.{Packet}
+use Rattle.lert_base.specs.{Packet.Packet, declared.cone_fault.ConeFault.ConeFault}
 use Rattle.lert_conelock.specs.Sight.{Sight, Counts}
-use Rattle.lert_fleet.specs.Cones.{FleetPassSight}
-use Rattle.lert_fleet.specs.Each.{EachThree}
+use Rattle.lert_fleet.specs.{Cones.FleetPassSight, Each.EachThree}
 use Rattle.lert_spec.specs.declared.numbers.Numbers.{Numbers}
 use Rattle.lert_trace.specs.Reader.{Reading}
-use Rattle.lert_base.specs.declared.cone_fault.ConeFault.{ConeFault}
-use Rattle.lert_worker.specs.Brings.{Brings, full_packets, late_tries}
-use Rattle.lert_worker.specs.Ends.{IsAtEnd, Stopped, WasRead}
-use Rattle.lert_worker.specs.Ran.{RanIn}
-use Rattle.lert_worker.specs.Trace.{IsNamed}
-use Rattle.lert_worker.specs.declared.end.WorkerEnd.{WorkerEnd}
+use Rattle.lert_worker.specs.{Brings.{Brings, full_packets, late_tries}, Ends.{IsAtEnd, Stopped, WasRead}, Ran.RanIn, Trace.IsNamed, declared.end.WorkerEnd.WorkerEnd}
 
 -- what the first so many traces of a worker brought to a cone: all that was read of them
 pub record BroughtIn {H F : Type 0} (s : Numbers) (number cone : ℕ) (traces : List ℕ) (reads : List (List ℕ)) (done : ℕ) (old new : Sight H F) : Type 0 where

@@ -1,21 +1,11 @@
 -- How the keys of one trace go to the cones, ring by ring.
 use Rattle.std.specs.Prelude.{◌≡◌, ◌⊎◌, ℕ, ◌+◌, ◌*◌, ◌<◌, ◌≤◌, All, List, [], ◌∷◌, ◌++◌, length, map, sum_by, Some, slice_get}
-use Rattle.lert_base.specs.Beginning.{BeginsWith}
-use Rattle.lert_base.specs.Packet.{Packet, events_of}
-use Rattle.lert_base.specs.Weave.{AreCut, IsWhole}
-use Rattle.lert_buffers.specs.Rings.{Rings, ring_of, with_ring}
-use Rattle.lert_buffers.specs.declared.buffers.Fill.{Fill}
-use Rattle.lert_buffers.specs.declared.buffers.Fill.TheVariants.{Low, MustGo, Ready}
+use Rattle.lert_base.specs.{Beginning.BeginsWith, Packet.{Packet, events_of}, Weave.{AreCut, IsWhole}, declared.cone_fault.ConeFault.ConeFault}
+use Rattle.lert_buffers.specs.{Rings.{Rings, ring_of, with_ring}, declared.buffers.Fill.Fill, declared.buffers.Fill.TheVariants.{Low, MustGo, Ready}}
 use Rattle.lert_conelock.specs.Sight.{Sight, Counts, Loses}
 use Rattle.lert_fleet.specs.Cones.{FleetPassSight}
-use Rattle.lert_spec.specs.declared.numbers.Numbers.{Numbers}
-use Rattle.lert_spec.specs.Mix.{part_of}
-use Rattle.lert_base.specs.declared.cone_fault.ConeFault.{ConeFault}
-use Rattle.lert_worker.specs.Brings.{full_packets, late_tries}
-use Rattle.lert_worker.specs.Ran.{IsTurned, StillOpen}
-use Rattle.lert_worker.specs.declared.end.WorkerEnd.{WorkerEnd}
-use Rattle.lert_worker.specs.declared.end.WorkerEnd.TheVariants.{Ran}
-use Rattle.lert_worker.specs.declared.outbox.Outbox.{Outbox}
+use Rattle.lert_spec.specs.{declared.numbers.Numbers.Numbers, Mix.part_of}
+use Rattle.lert_worker.specs.{Brings.{full_packets, late_tries}, Ran.{IsTurned, StillOpen}, declared.end.WorkerEnd.WorkerEnd, declared.end.WorkerEnd.TheVariants.Ran, declared.outbox.Outbox.Outbox}
 
 -- the packet of some keys of an outbox
 abbrev pub packet_with : Outbox → List ℕ → Packet

@@ -4,11 +4,7 @@ use Rattle.lert_buffers.specs.Rings.{Rings}
 use Rattle.lert_fleet.specs.Cones.{FleetPassSight}
 use Rattle.lert_trace.specs.Reader.{Reading}
 use Rattle.lert_base.specs.declared.cone_fault.ConeFault.{ConeFault}
-use Rattle.lert_worker.specs.Ends.{IsAtEnd, WasRead}
-use Rattle.lert_worker.specs.Sending.{AreSent, Lanes}
-use Rattle.lert_worker.specs.declared.end.WorkerEnd.{WorkerEnd}
-use Rattle.lert_worker.specs.declared.end.WorkerEnd.TheVariants.{Ran, Trace, Cone}
-use Rattle.lert_worker.specs.declared.outbox.Outbox.{Outbox}
+use Rattle.lert_worker.specs.{Ends.{IsAtEnd, WasRead}, Sending.{AreSent, Lanes}, declared.end.WorkerEnd.WorkerEnd, declared.end.WorkerEnd.TheVariants.{Ran, Trace, Cone}, declared.outbox.Outbox.Outbox}
 
 -- what an end says of the reader of the trace at which it came
 abbrev pub EndsBy : {S : Type 0} → (S → Option (List ℕ)) → WorkerEnd → ℕ → Reading S → Type 0

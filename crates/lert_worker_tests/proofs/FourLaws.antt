@@ -1,18 +1,13 @@
 -- What four workers bring and leave.
-use Rattle.std.proofs.Common.{◌≡◌, ℕ, zero, suc, ◌+◌, ◌≤◌, ◌<◌, ◌^◌, List, [], ◌∷◌, length, Option, Some, None, All, refl, sym, ap, ◌∙◌, subst, arith}
-use Rattle.std.specs.Prelude.{slice_get}
-use Rattle.std.proofs.lemmas.List.Elements.{All-nil, All-cons}
+use Rattle.std.proofs.{Common.{◌≡◌, ℕ, zero, suc, ◌+◌, ◌≤◌, ◌<◌, ◌^◌, List, [], ◌∷◌, length, Option, Some, None, All, refl, sym, ap, ◌∙◌, subst, arith}, lemmas.List.Elements.{All-nil, All-cons}}
 use Rattle.std.proofs.lemmas.Option.{none-some, same_Some, slice_get_within}
-use Rattle.lert_base.specs.declared.cone_fault.ConeFault.{ConeFault}
-use Rattle.lert_base.specs.declared.held.Held.{Ghosts as HeldOf}
-use Rattle.lert_base.specs.Packet.{Packet}
-use Rattle.lert_fleet.specs.Cones.{FleetSight, FleetPassSight, IsPassOf}
-use Rattle.lert_fleet.specs.Each.{EachTwo}
+use Rattle.std.specs.Prelude.{slice_get}
+use Rattle.lert_base.specs.{declared.cone_fault.ConeFault.ConeFault, declared.held.Held.Ghosts as HeldOf, Packet.Packet}
+use Rattle.lert_fleet.specs.{Cones.{FleetSight, FleetPassSight, IsPassOf}, Each.EachTwo}
 use Rattle.lert_fleet.proofs.Places.{some_at}
 use Rattle.lert_spec.specs.declared.numbers.Numbers.{Numbers}
 use Rattle.lert_worker.specs.Ran.{HasRun, MayRun, Working}
-use Rattle.lert_worker_tests.specs.Fours.{AreBack, AreHired, IsBack, IsHired}
-use Rattle.lert_worker_tests.specs.Pairs.{IsStarted}
+use Rattle.lert_worker_tests.specs.{Fours.{AreBack, AreHired, IsBack, IsHired}, Pairs.IsStarted}
 
 -- what holds at each place holds of each
 pub all_of : {A : Type 0} (P : A → Type 0) (xs : List A) → ((place : ℕ) (x : A) → slice_get xs place ≡ Some x → P x) → All P xs

@@ -1,7 +1,6 @@
 -- Two callers of a lock or of a fleet, and two workers over a fleet, that has no other.
 use Rattle.std.specs.Prelude.{◌≡◌, ℕ, List, [], ◌∷◌, Option, Some, slice_get}
-use Rattle.lert_base.specs.declared.cone_fault.ConeFault.{ConeFault}
-use Rattle.lert_base.specs.declared.held.Held.{Ghosts as HeldOf}
+use Rattle.lert_base.specs.{declared.cone_fault.ConeFault.ConeFault, declared.held.Held.Ghosts as HeldOf}
 use Rattle.lert_conelock.specs.Sight.{BelongsTo, LockSight, Sight}
 use Rattle.lert_fleet.specs.Cones.{FleetSight, FleetPassSight, IsPassOf}
 use Rattle.lert_spec.specs.declared.numbers.Numbers.{Numbers}

@@ -64,9 +64,9 @@ pub fn broken_sum(numbers: &Numbers, end: u64) -> Option<u8>
     first_false(
         9,
         &[
-            cones * numbers.bins * numbers.base <= 1 << 24,
+            cones * numbers.bins * numbers.base <= 1 << 23,
             cones * numbers.room <= 1 << 24,
-            end <= 1 << 32,
+            end <= 1 << 31,
         ],
     )
 }

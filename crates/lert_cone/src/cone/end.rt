@@ -1,18 +1,16 @@
 //! The end of a cone, and its reports.
 
-ghost use Rattle.std.specs.Prelude.{◌≡◌, ◌↔◌, ℕ, List, length, true, false, None, Err, IfOk, IfErr, OnOk, OnErr, IsErrOf};
+ghost use Rattle.std.specs.Prelude.{◌≡◌, ℕ, List, length, true, false, None, Err, IfOk, IfErr, OnOk};
 ghost use Rattle.lert_base.specs.Packet.{Packet, events_of};
-ghost use Rattle.lert_bay.specs.Files.{Files, IfTold, Turns};
-ghost use Rattle.lert_bay.specs.Kept.{KeepsBay};
+ghost use Rattle.lert_bay.specs.Files.{Files, IfTold};
 ghost use Rattle.lert_bay.specs.declared.bay.TheConstants.{FRAMES};
-ghost use Rattle.lert_io.specs.Fault.{HasRisen};
 ghost use Rattle.lert_levels.specs.rows.Checked.{rows_left};
 ghost use Rattle.lert_spec.specs.Look.{look, closing};
 ghost use Rattle.lert_spec.specs.Timely.{IsTimely, IsTimelySoFar};
 ghost use Rattle.lert_cone.specs.Sound.{IsSound, IsSoundClosed, IsKept};
-ghost use Rattle.lert_cone.specs.Stands.{StandsFor, WasSound, IsSameCone, is_broken, is_refusal};
-ghost use Rattle.lert_cone.specs.Tally.{Shows};
-ghost use Rattle.lert_cone.specs.Wrote.{Anything};
+ghost use Rattle.lert_cone.specs.Stands.{StandsFor, WasSound, is_broken, is_refusal};
+ghost use Rattle.lert_cone.specs.Steps.{StepsCone};
+ghost use Rattle.lert_levels.specs.OnDisk.{written};
 
 use crate::cone::{Cone, broken_by};
 use crate::keys::finish;
@@ -23,7 +21,8 @@ use lert_reports::ReportStore;
 
 impl<B: Bay, T: CountTable> Cone<B, T> {
     /// Ends the cone: scans all levels, makes the reports that are left, and answers how many stand then. The closing record
-    /// stands in the log then: four calls of the bay beside those of the scan.
+    /// stands in the log then: four calls of the bay beside those of the scan. What it says of its refusals, of a fault in the
+    /// middle and of the bay is what each call says that steps a cone on: `StepsCone`.
     pub fn finish(&mut self) -> Result<u64, ConeFault>
         ensures stands_for { OnOk result ((h : List Packet) → StandsFor B.files B.leaves B.faults self.old h →
             StandsFor B.files B.leaves B.faults self.new h) }
@@ -43,10 +42,8 @@ impl<B: Bay, T: CountTable> Cone<B, T> {
             IfTold (B.files self.old.bay) (λ _. IsTimely self.old.listing.settings.threshold self.old.listing.settings.bins
             (events_of h) self.new.reports)) }
 
-        // A refusal leaves the list, and the first two leave all.
-        ensures stays { OnErr result ((h : List Packet) → StandsFor B.files B.leaves B.faults self.old h →
-            StandsFor B.files B.leaves B.faults self.new h) }
-        ensures unchanged { IfErr result (λ fault. is_refusal fault ≡ true → self.new ≡ self.old) }
+        // A refusal before the first step leaves all, and any other error the list.
+        ensures step { StepsCone B.Bay self.old self.new result }
         ensures broke { IfErr result (λ fault. is_refusal fault ≡ false → self.new ≡ record self.old {
           bay = self.new.bay;
           listing = record self.old.listing { closed = self.new.listing.closed };
@@ -54,22 +51,10 @@ impl<B: Bay, T: CountTable> Cone<B, T> {
           state = self.new.state;
           log = self.new.log;
         }) }
-
-        ensures same_cone { IsSameCone self.old self.new }
-
-        // Why it refuses.
-        ensures closed { (result ≡ Err ConeFault.Closed) ↔ (self.old.state ≡ ConeState.Finished) }
-        ensures broken { (result ≡ Err ConeFault.Broken) ↔ (is_broken self.old.state ≡ true) }
         ensures never_full { (n len : ℕ) → result ≡ Err (ConeFault.CapacityFull n len) → ⊥ }
-        ensures bay_failed { IsErrOf result ConeFault.BayFailed →
-            (self.new.state ≡ ConeState.BrokenByBay) × HasRisen (B.faults self.old.bay) (B.faults self.new.bay) }
-        ensures unsound { (file at : ℕ) → IsErrOf result (ConeFault.Unsound file at) → (self.new.state ≡ ConeState.BrokenByRead file at)
-            × ((h : List Packet) → StandsFor B.files B.leaves B.faults self.old h → WasSound B.files self.old → B.files self.old.bay ≡ None) }
-        ensures shows { (file at : ℕ) → IsErrOf result (ConeFault.Unsound file at) →
-            IfTold (B.files self.new.bay) (λ seen. Shows self.new.listing.settings self.new.rows self.new.reports (seen FRAMES) file at) }
 
         // Where the bay tells its files, Ok comes only where each frame that the levels name was in its format to the end.
-        ensures whole { IfTold (B.files self.old.bay) (λ seen. OnOk result (rows_left self.old.listing.settings (seen FRAMES) self.old.rows ≡ None)) }
+        ensures whole { IfTold (B.files self.old.bay) (λ seen. OnOk result (rows_left self.old.listing.settings written (seen FRAMES) self.old.rows ≡ None)) }
 
         // In each image of each moment of the call the files are sound for the list, and after Ok they are closed.
         ensures each_moment { is_broken self.old.state ≡ false → WasSound B.files self.old → IfTold (B.files self.old.bay) (λ _. (h : List Packet) →
@@ -77,8 +62,6 @@ impl<B: Bay, T: CountTable> Cone<B, T> {
             B.left_since self.new.bay (B.moment self.old.bay) image → IsSound self.old.listing.settings self.old.listing.cone h image) }
         ensures sound_closed { OnOk result (WasSound B.files self.old → IfTold (B.files self.new.bay) (λ seen. (h : List Packet) → StandsFor B.files B.leaves B.faults self.old h →
             IsKept (B.leaves self.new.bay) seen (IsSoundClosed self.old.listing.settings self.old.listing.cone h))) }
-        ensures seen { Turns Anything (B.files self.old.bay) (B.files self.new.bay) }
-        ensures kept { KeepsBay B.Bay self.old.bay self.new.bay (IsErrOf result ConeFault.BayFailed) }
     {
         self.test_state()?;
         if let Err(fault) = finish(

@@ -2,7 +2,7 @@
 
 ghost use Rattle.std.specs.Prelude.{◌≡◌, ◌+◌, ◌-◌, ◌^◌, ◌<◌, ◌≤◌, nat_lt, [], ◌∷◌, ◌++◌, All, length, if◌then◌else◌};
 ghost use Rattle.lert_levels.specs.rows.Young.{IsNextPosition, with_event};
-ghost use Rattle.lert_spec.specs.Edges.{edge, capacity};
+ghost use Rattle.lert_spec.specs.Edges.{edge, capacity, tail_bits};
 ghost use Rattle.lert_spec.specs.Mix.{cone_of};
 ghost use Rattle.lert_cone.specs.Tally.{IsRecounted};
 
@@ -56,9 +56,9 @@ impl<B: Bay, T: CountTable> Tally<B, T> {
 
 // Counts the event at position `m`, where it is above this edge of level 0.
 fn count_again<T: CountTable>(zero: &mut Zero<T>, from: u64, tail: u64, m: u64)
-    requires below { tail < 2 ^ (64 - zero.old.settings.cone_bits) }
+    requires below { tail < 2 ^ tail_bits zero.old.settings }
     requires position { from < m → IsNextPosition zero.old m }
-    ensures { zero.new ≡ (if nat_lt from m then with_event zero.old tail m else zero.old) }
+    ensures { zero.new ≡ (if nat_lt from m then with_event zero.old tail 1 m else zero.old) }
 {
     if from < m {
         zero.add(tail, m);

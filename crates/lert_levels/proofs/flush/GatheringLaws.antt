@@ -8,7 +8,7 @@ use Rattle.lert_levels.proofs.flush.SumsLaws.{front_table, up_to-sums_of, sums_m
 use Rattle.lert_merge.specs.order.Fronts.{front_at, pieces_of}
 use Rattle.lert_merge.specs.order.Ordering.{Ordering, HasTaken, Tells, AreOver, IsNext, IsNotBelow, IsBelow, AreEnded, AreKnown, AreWhole, AreSame, Breaks, part_in}
 use Rattle.lert_merge.{specs.declared.order.streams.Streams.{Ghosts as StreamsOf}, specs.tree.Race.number_at}
-use Rattle.lert_spec.{specs.declared.piece.Piece.Piece, specs.Table.{total, plus, AreGiven, IsTable}, proofs.GivenLaws.given_wide}
+use Rattle.lert_spec.{specs.declared.piece.Piece.Piece, specs.Table.{costs, plus, AreGiven, IsTable}, proofs.GivenLaws.given_wide}
 
 -- the lists of pieces that the streams gave so far, and what the totals have of them
 pub record IsGathering {S C T : Type 0} (members : StreamsOf S C) (took : T → List Piece → Type 0) (first : Ordering S) (start : C) (lists : List (List Piece))
@@ -310,13 +310,13 @@ module _ {S C T : Type 0} {members : StreamsOf S C} {took : T → List Piece →
       let inside : k < members.count new.streams = omega (arith, under, long) in
       whole tells k inside (omega (arith, inside, over.all)) (over.ended k inside) (untold k under (was.untold k below none))
 
-  pub taken_all : (width : S → ℕ → ℕ) (after : C) (new : Ordering S) (totals_then : T) → ((k : ℕ) → k < n → total (get_or lists k []) ≤ width first.streams k) →
+  pub taken_all : (version width : S → ℕ → ℕ) (after : C) (new : Ordering S) (totals_then : T) → ((k : ℕ) → k < n → costs (version first.streams k) (get_or lists k []) ≤ width first.streams k) →
       ((left : List (List Piece)) → Tells members ctx now left → AreOver left × Tells members after new left) →
       ((list : List Piece) → Takes took totals sums list → took totals_then list) →
       (members.tells start → members.tells after) → AreEnded members new → (AreWhole members ctx now → AreWhole members after new) → AreSame members ctx now after new →
       ((k : ℕ) → k < members.count now.streams → members.to_come now.streams k ctx ≡ None → members.to_come new.streams k after ≡ None) →
-      AreTaken members width took first.streams start totals_then lists
-  taken_all width after new totals_then fits over ends on ended whole same untold = record {
+      AreTaken members version width took first.streams start totals_then lists
+  taken_all version width after new totals_then fits over ends on ended whole same untold = record {
     len = was.len;
     given = was.given;
     fits = fits;

@@ -21,8 +21,8 @@ pub record IsMerging {S B T : Type 0} (members : StreamsOf S B) (took : T → Li
   pub writes : LandingsWrite bays landings start landings_now bay ⊥
   pub surely : IfTold (bays.files bay) (λ seen. sure now.streams (seen FRAMES))
 
-module _ {S B T : Type 0} {members : StreamsOf S B} {took : T → List Piece → Type 0} {bays : Bays B} (lawful : IsLawful bays) {width : S → ℕ → ℕ} {reads : S → ℕ → ℕ → Type 0}
-    {sure : S → List ℕ → Type 0} (steady : AreSteady members bays width reads sure) {parts : List (Option ℕ)} {first : Ordering S} {start : B} {landings : List Landing} where
+module _ {S B T : Type 0} {members : StreamsOf S B} {took : T → List Piece → Type 0} {bays : Bays B} (lawful : IsLawful bays) {version width : S → ℕ → ℕ} {reads : S → ℕ → ℕ → Type 0}
+    {sure : S → List ℕ → Type 0} (steady : AreSteady members bays version width reads sure) {parts : List (Option ℕ)} {first : Ordering S} {start : B} {landings : List Landing} where
   pub merging_none : {totals : T} {sums : Sum} → IsUnread members first → took totals [] → sums.last ≡ None →
       ((part : ℕ) (d : Landing) → part < length landings → taken (get_or landings part d) ≡ []) → IfTold (bays.files start) (λ seen. sure first.streams (seen FRAMES)) →
       IsMerging members took bays sure parts first start landings first start landings totals sums
@@ -47,21 +47,21 @@ module _ {S B T : Type 0} {members : StreamsOf S B} {took : T → List Piece →
   merging_more {now} {bay} {landings_now} was {new} {middle} {next} step kept {totals_then} {sums_then} takes len apart {landings_then} {after} {Failed} same_len lands writes =
       let read = steady.reading bay middle kept in
       let gathered = gathering_more was.gathering step steady.same_on totals_then sums_then takes in
-      let surely = sure_stepped members bays width reads sure steady now new bay middle read.seen step.kept step.same was.surely in
+      let surely = sure_stepped members bays version width reads sure steady now new bay middle read.seen step.kept step.same was.surely in
       let turned = turns_fewer (IsOutside landings_now) (reads new.streams) (bays.files middle) (bays.files after)
       (λ from to reading. apart_same landings landings_now was.writes.homes from to (apart from to (steady.reads_same first.streams new.streams gathered.kept from to reading))) writes.rest.seen in
       record {
         lists = more was.gathering step;
         gathering = gathering_on gathered after
             (λ tells. (steady.telling middle).1 (told_before (LeavesRest (reads new.streams)) (bays.files middle) (bays.files after) turned ((steady.telling after).0 tells)))
-            (comes_same members bays width reads sure steady new.streams middle after surely turned);
+            (comes_same members bays version width reads sure steady new.streams middle after surely turned);
         landed = λ part d below. (
             let under : part < length landings_now = omega (arith, below, same_len) in
             lands part d under
             ∙ (ap (with_piece (is_of (get_or parts next.0 None) part) next.1) (was.landed part d under)
             ∙ part_are was.gathering step parts len part));
         writes = writes_on lawful (writes_on lawful was.writes (writes_read landings_now read)) (writes_as (λ none. absurd none) writes);
-        surely = sure_written members bays width reads sure steady new.streams middle after surely turned;
+        surely = sure_written members bays version width reads sure steady new.streams middle after surely turned;
       }
 
 -- ---- what a step of the order says

@@ -1,6 +1,7 @@
 -- What is picked for a part, as one of the streams gives a piece.
-use Rattle.std.proofs.{Common.{ℕ, zero, suc, ◌≡◌, ◌+◌, ◌<◌, ◌≤◌, Bool, true, false, cond, Option, None, List, [], ◌∷◌, length, sum, sum_by, get_or, set, arith}, lemmas.List.Sums.sum_by-cons}
+use Rattle.std.proofs.{Common.{ℕ, zero, suc, ◌≡◌, ◌+◌, ◌*◌, ◌<◌, ◌≤◌, Bool, true, false, cond, Option, None, List, [], ◌∷◌, length, sum, sum_by, get_or, set, arith}, lemmas.List.Sums.sum_by-cons}
 use Rattle.lert_levels.specs.flush.Merged.{is_of, pick, picked}
+use Rattle.lert_spec.specs.{declared.piece.Piece.Piece, Table.total}
 
 module _ {A : Type 0} where
   sum_by-pick : (f : A → ℕ) (b : Bool) (x : A) (rest : List A) → sum_by f (pick b x rest) ≡ cond {A = ℕ} b (f x) 0 + sum_by f rest
@@ -52,6 +53,17 @@ sums_less f d (x ∷ xs) (n ∷ ns) same less =
     let here : f x ≤ n = less 0 (omega arith) in
     let both : sum (n ∷ ns) ≡ n + sum ns = sum_by-cons (λ y. y) n ns in
     omega (arith, rest, here, both, sum_by-cons f x xs)
+
+-- the counts of all, each of which is at most so many times 255
+pub counts_fit : (xs : List (List Piece)) (ns : List ℕ) → length ns ≡ length xs → ((k : ℕ) → k < length xs → total (get_or xs k []) ≤ 255 * get_or ns k 0) →
+    sum_by total xs ≤ 255 * sum ns
+counts_fit [] ns same less = omega arith
+counts_fit (x ∷ xs) [] same less = absurd (omega (arith, same))
+counts_fit (x ∷ xs) (n ∷ ns) same less =
+    let rest = counts_fit xs ns (omega (arith, same)) (λ k below. less (suc k) (omega (arith, below))) in
+    let here : total x ≤ 255 * n = less 0 (omega arith) in
+    let both : sum (n ∷ ns) ≡ n + sum ns = sum_by-cons (λ y. y) n ns in
+    omega (arith, rest, here, both, sum_by-cons total x xs)
 
 pub picked_less : {A : Type 0} (f : A → ℕ) (d : A) (parts : List (Option ℕ)) (part : ℕ) (xs : List A) (ns : List ℕ) → length ns ≡ length xs →
     ((k : ℕ) → k < length xs → f (get_or xs k d) ≤ get_or ns k 0) → sum_by f (picked parts part xs) ≤ sum (picked parts part ns)

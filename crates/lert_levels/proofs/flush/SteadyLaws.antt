@@ -6,11 +6,12 @@ use Rattle.lert_io.specs.Fault.{HasRisen}
 use Rattle.lert_levels.{specs.landing.Landings.{Home, home, AreLandings, AreLanding, IsOutside}, specs.declared.landing.landing.Landing.Landing, specs.rows.Landing.{IsApart, LeavesRest}}
 use Rattle.lert_levels.{proofs.rows.LandLaws.{rest_on, rest_fewer, read_rest}, specs.flush.Staying.{ComesTheSame, NoneFailed}, specs.flush.Writing.LandingsWrite}
 use Rattle.lert_merge.{specs.order.Ordering.{Ordering, AreSame}, specs.declared.order.streams.Streams.{Ghosts as StreamsOf}}
-use Rattle.lert_spec.{specs.declared.numbers.Numbers.Numbers, specs.Table.total}
+use Rattle.lert_spec.{specs.declared.numbers.Numbers.Numbers, specs.Table.costs}
 
 -- the laws of bins
-pub record AreSteady {S B : Type 0} (members : StreamsOf S B) (bays : Bays B) (width : S → ℕ → ℕ) (reads : S → ℕ → ℕ → Type 0) (sure : S → List ℕ → Type 0) : Type 0 where
-  pub summed : (bins : S) (stream : ℕ) → stream < members.count bins → total (members.given bins stream) ≤ width bins stream
+pub record AreSteady {S B : Type 0} (members : StreamsOf S B) (bays : Bays B) (version width : S → ℕ → ℕ) (reads : S → ℕ → ℕ → Type 0) (sure : S → List ℕ → Type 0) : Type 0 where
+  pub summed : (bins : S) (stream : ℕ) → stream < members.count bins → costs (version bins stream) (members.given bins stream) ≤ width bins stream
+  pub version_same : (old new : S) → members.same old new → (stream : ℕ) → version new stream ≡ version old stream
   pub width_same : (old new : S) → members.same old new → (stream : ℕ) → width new stream ≡ width old stream
   pub reads_same : (old new : S) → members.same old new → (from to : ℕ) → reads new from to → reads old from to
   pub sure_same : (old new : S) (before after : B) (seen : Files) → members.same old new → bays.files before ≡ Some seen → bays.files after ≡ Some seen →
@@ -30,8 +31,8 @@ none_or : {X : Type 0} (o : Option X) → (o ≡ None) ⊎ ((x : X) × (o ≡ So
 none_or None = inl refl
 none_or (Some x) = inr (x, refl)
 
-module _ {S B : Type 0} (members : StreamsOf S B) (bays : Bays B) (width : S → ℕ → ℕ) (reads : S → ℕ → ℕ → Type 0) (sure : S → List ℕ → Type 0)
-    (steady : AreSteady members bays width reads sure) where
+module _ {S B : Type 0} (members : StreamsOf S B) (bays : Bays B) (version width : S → ℕ → ℕ) (reads : S → ℕ → ℕ → Type 0) (sure : S → List ℕ → Type 0)
+    (steady : AreSteady members bays version width reads sure) where
   -- ---- the streams
 
   pub sure_stepped : (now new : Ordering S) (before after : B) → bays.files after ≡ bays.files before → members.same now.streams new.streams → AreSame members before now after new →
@@ -65,17 +66,18 @@ module _ (old new : List Landing) (homes : map home new ≡ map home old) where
   home_at k d below =
       sym (get_or-map home new k d (home d) below) ∙ (ap (λ (hs : List Home). get_or hs k (home d)) homes ∙ get_or-map home old k d (home d) (omega (arith, below, same_len)))
 
-  pub landings_same : (s : Numbers) → AreLandings s old → AreLandings s new
-  landings_same s are k d below =
+  pub landings_same : (s : Numbers) (version : ℕ) → AreLandings s version old → AreLandings s version new
+  landings_same s version are k d below =
       let is = are k d (omega (arith, below, same_len)) in
       record {
         settings = ap (λ (h : Home). h.settings) (home_at k d below) ∙ is.settings;
+        version_is = ap (λ (h : Home). h.version) (home_at k d below) ∙ is.version_is;
         level_is = ap (λ (h : Home). h.level) (home_at k d below) ∙ is.level_is;
       }
 
   pub apart_same : (from to : ℕ) → IsOutside old from to → IsOutside new from to
   apart_same from to apart k d below =
-      subst (λ (h : Home). IsApart h.settings h.level h.frame from to) (sym (home_at k d below)) (apart k d (omega (arith, below, same_len)))
+      subst (λ (h : Home). IsApart h.settings h.version h.level h.frame from to) (sym (home_at k d below)) (apart k d (omega (arith, below, same_len)))
 
 -- ---- what the landings write
 
@@ -84,7 +86,7 @@ pub writes_read : {B : Type 0} {bays : Bays B} (landings : List Landing) {before
     LandingsWrite bays landings before landings after Failed
 writes_read {bays = bays} landings {before} {after} {Failed} read = record {
   homes = refl;
-  landing = λ s are seen told landing later told_later. (
+  landing = λ s version are seen told landing later told_later. (
       let both : Some seen ≡ Some later = sym told ∙ (sym read.seen ∙ told_later) in
       let same : seen ≡ later = cc in
       subst (λ (files : Files). AreLanding landings (files FRAMES)) same landing);
@@ -97,9 +99,9 @@ pub writes_on : {B : Type 0} {bays : Bays B} → IsLawful bays → {first middle
     LandingsWrite bays middle b last c Failed → LandingsWrite bays first a last c Failed
 writes_on {bays = bays} lawful {first} {middle} {last} {a} {b} {c} {First} {Failed} one two = record {
   homes = two.homes ∙ one.homes;
-  landing = λ s are seen told landing later told_later. (
+  landing = λ s version are seen told landing later told_later. (
       let back = turns_back (LeavesRest (IsOutside middle)) (bays.files b) (bays.files c) later two.rest.seen told_later in
-      two.landing s (landings_same first middle one.homes s are) back.0 back.1 (one.landing s are seen told landing back.0 back.1) later told_later);
+      two.landing s version (landings_same first middle one.homes s version are) back.0 back.1 (one.landing s version are seen told landing back.0 back.1) later told_later);
   rest = rest_on bays lawful (IsOutside first) a b c First Failed one.kept two.kept one.rest
       (rest_fewer bays (IsOutside middle) (IsOutside first) b c (apart_same first middle one.homes) two.rest);
   kept = keeps_on bays lawful a b c First Failed one.kept two.kept;

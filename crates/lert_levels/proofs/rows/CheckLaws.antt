@@ -42,73 +42,73 @@ module _ (f : BinAt → Option ℕ) (row : List BinAt) (i : ℕ) (d : BinAt) (be
 
 -- ---- the rows
 
-bins_left-append : (s : Numbers) (file : List ℕ) (level : ℕ) (rows others : List (List BinAt)) → bins_left s file level (rows ++ others) ≡ bins_left s file level rows
-    ++ bins_left s file (level + length rows) others
-bins_left-append s file level [] others = ap (λ l. bins_left s file l others) (let same : level ≡ level + 0 = omega arith in same)
-bins_left-append s file level (row ∷ rows) others =
-    ap (λ left. map (bin_left s file level) row ++ left) (bins_left-append s file (suc level) rows others)
-    ∙ sym (append_assoc (map (bin_left s file level) row) (bins_left s file (suc level) rows) (bins_left s file (suc level + length rows) others))
-    ∙ ap (λ l. (map (bin_left s file level) row ++ bins_left s file (suc level) rows) ++ bins_left s file l others) (let same : suc level + length rows ≡ level + suc (length rows) =
+bins_left-append : (s : Numbers) (version : ℕ) (file : List ℕ) (level : ℕ) (rows others : List (List BinAt)) → bins_left s version file level (rows ++ others) ≡ bins_left s version file level rows
+    ++ bins_left s version file (level + length rows) others
+bins_left-append s version file level [] others = ap (λ l. bins_left s version file l others) (let same : level ≡ level + 0 = omega arith in same)
+bins_left-append s version file level (row ∷ rows) others =
+    ap (λ left. map (bin_left s version file level) row ++ left) (bins_left-append s version file (suc level) rows others)
+    ∙ sym (append_assoc (map (bin_left s version file level) row) (bins_left s version file (suc level) rows) (bins_left s version file (suc level + length rows) others))
+    ∙ ap (λ l. (map (bin_left s version file level) row ++ bins_left s version file (suc level) rows) ++ bins_left s version file l others) (let same : suc level + length rows ≡ level + suc (length rows) =
     omega arith in same)
 
-module _ (s : Numbers) (file : List ℕ) (rows : List (List BinAt)) (i : ℕ) (now : List BinAt) (here : get_or rows i [] ≡ now) (below : i < length rows)
-    (so_far : rows_left s file (take i rows) ≡ None) where
+module _ (s : Numbers) (version : ℕ) (file : List ℕ) (rows : List (List BinAt)) (i : ℕ) (now : List BinAt) (here : get_or rows i [] ≡ now) (below : i < length rows)
+    (so_far : rows_left s version file (take i rows) ≡ None) where
   level_is : 1 + length (take i rows) ≡ i + 1
   level_is = omega (arith, length-take i rows)
 
   -- one level more
-  pub rows_more : row_left s file (i + 1) now ≡ None → rows_left s file (take (i + 1) rows) ≡ None
+  pub rows_more : row_left s version file (i + 1) now ≡ None → rows_left s version file (take (i + 1) rows) ≡ None
   rows_more whole =
-      ap (rows_left s file) (take_more rows i [] below)
-      ∙ ap first_of (bins_left-append s file 1 (take i rows) (get_or rows i [] ∷ []))
-      ∙ first_behind (bins_left s file 1 (take i rows)) (bins_left s file (1 + length (take i rows)) (get_or rows i [] ∷ [])) so_far
-      ∙ ap₂ (λ l row. first_of (bins_left s file l (row ∷ []))) level_is here
-      ∙ ap first_of (append-nil (map (bin_left s file (i + 1)) now))
+      ap (rows_left s version file) (take_more rows i [] below)
+      ∙ ap first_of (bins_left-append s version file 1 (take i rows) (get_or rows i [] ∷ []))
+      ∙ first_behind (bins_left s version file 1 (take i rows)) (bins_left s version file (1 + length (take i rows)) (get_or rows i [] ∷ [])) so_far
+      ∙ ap₂ (λ l row. first_of (bins_left s version file l (row ∷ []))) level_is here
+      ∙ ap first_of (append-nil (map (bin_left s version file (i + 1)) now))
       ∙ whole
 
   -- the first one with a bin that leaves its format
-  pub rows_break : (at : ℕ) → row_left s file (i + 1) now ≡ Some at → rows_left s file rows ≡ Some at
+  pub rows_break : (at : ℕ) → row_left s version file (i + 1) now ≡ Some at → rows_left s version file rows ≡ Some at
   rows_break at breaks =
-      ap (rows_left s file) (sym (take-append-drop i rows))
-      ∙ ap first_of (bins_left-append s file 1 (take i rows) (drop i rows))
-      ∙ first_behind (bins_left s file 1 (take i rows)) (bins_left s file (1 + length (take i rows)) (drop i rows)) so_far
-      ∙ ap₂ (λ l rs. first_of (bins_left s file l rs)) level_is (drop-cons rows i [] below ∙ ap (λ row. row ∷ drop (suc i) rows) here)
-      ∙ first_before (map (bin_left s file (i + 1)) now) (bins_left s file (suc (i + 1)) (drop (suc i) rows)) at breaks
+      ap (rows_left s version file) (sym (take-append-drop i rows))
+      ∙ ap first_of (bins_left-append s version file 1 (take i rows) (drop i rows))
+      ∙ first_behind (bins_left s version file 1 (take i rows)) (bins_left s version file (1 + length (take i rows)) (drop i rows)) so_far
+      ∙ ap₂ (λ l rs. first_of (bins_left s version file l rs)) level_is (drop-cons rows i [] below ∙ ap (λ row. row ∷ drop (suc i) rows) here)
+      ∙ first_before (map (bin_left s version file (i + 1)) now) (bins_left s version file (suc (i + 1)) (drop (suc i) rows)) at breaks
 
 -- ---- bins that stand
 
 -- a bin that stands leaves its format nowhere
-stands_whole : (s : Numbers) (level : ℕ) (file : List ℕ) (held : BinAt → List Piece) (bin : BinAt) → IsValid s → level ≤ s.levels → width_of bin ≤ span s level →
-    Stands s level file held bin → bin_left s file level bin ≡ None
-stands_whole s level file held bin valid last within stands = left_is s level bin.frame (width_of bin) file (held bin) valid last within stands.are stands.text
+stands_whole : (s : Numbers) (version : ℕ) (level : ℕ) (file : List ℕ) (held : BinAt → List Piece) (bin : BinAt) → IsValid s → level ≤ s.levels → width_of bin ≤ span s level →
+    Stands s version level file held bin → bin_left s version file level bin ≡ None
+stands_whole s version level file held bin valid last within stands = left_is s version level bin.frame (width_of bin) file (held bin) valid last within stands.are stands.text
 
 row_whole : (f : BinAt → Option ℕ) (row : List BinAt) → All (λ bin. f bin ≡ None) row → first_of (map f row) ≡ None
 row_whole f [] whole = refl
 row_whole f (bin ∷ row) whole =
     ap (λ left. first_of (left ∷ map f row)) (All-head (λ b. f b ≡ None) bin row whole) ∙ row_whole f row (All-tail (λ b. f b ≡ None) bin row whole)
 
-rows_whole : (s : Numbers) (file : List ℕ) (level : ℕ) (rows : List (List BinAt)) →
-    ((k : ℕ) → k < length rows → All (λ bin. bin_left s file (level + k) bin ≡ None) (get_or rows k [])) → first_of (bins_left s file level rows) ≡ None
-rows_whole s file level [] whole = refl
-rows_whole s file level (row ∷ rows) whole =
-    let here : All (λ bin. bin_left s file level bin ≡ None) row = subst (λ l. All (λ bin. bin_left s file l bin ≡ None) row) (let same : level + 0 ≡ level = omega arith in same)
+rows_whole : (s : Numbers) (version : ℕ) (file : List ℕ) (level : ℕ) (rows : List (List BinAt)) →
+    ((k : ℕ) → k < length rows → All (λ bin. bin_left s version file (level + k) bin ≡ None) (get_or rows k [])) → first_of (bins_left s version file level rows) ≡ None
+rows_whole s version file level [] whole = refl
+rows_whole s version file level (row ∷ rows) whole =
+    let here : All (λ bin. bin_left s version file level bin ≡ None) row = subst (λ l. All (λ bin. bin_left s version file l bin ≡ None) row) (let same : level + 0 ≡ level = omega arith in same)
     (whole 0 (omega arith)) in
-    first_behind (map (bin_left s file level) row) (bins_left s file (suc level) rows) (row_whole (bin_left s file level) row here)
-    ∙ rows_whole s file (suc level) rows (λ k below. subst (λ l. All (λ bin. bin_left s file l bin ≡ None) (get_or rows k [])) (let same : level + suc k ≡ suc level + k = omega arith in
+    first_behind (map (bin_left s version file level) row) (bins_left s version file (suc level) rows) (row_whole (bin_left s version file level) row here)
+    ∙ rows_whole s version file (suc level) rows (λ k below. subst (λ l. All (λ bin. bin_left s version file l bin ≡ None) (get_or rows k [])) (let same : level + suc k ≡ suc level + k = omega arith in
     same) (whole (suc k) (omega arith)))
 
 -- bins of rows that all stand leave their format nowhere
-pub all_whole : (s : Numbers) (rows : List (List BinAt)) (file : List ℕ) (held : BinAt → List Piece) → IsValid s → AreRows s rows → AllStand s file held rows →
-    rows_left s file rows ≡ None
-all_whole s rows file held valid are stand =
-    rows_whole s file 1 rows
+pub all_whole : (s : Numbers) (version : ℕ) (rows : List (List BinAt)) (file : List ℕ) (held : BinAt → List Piece) → IsValid s → AreRows s rows → AllStand s version file held rows →
+    rows_left s version file rows ≡ None
+all_whole s version rows file held valid are stand =
+    rows_whole s version file 1 rows
     (λ k below.
     let place : k + 1 - 1 ≡ k = omega arith in
     let same : k + 1 ≡ 1 + k = omega arith in
     let last : k + 1 ≤ s.levels = omega (arith, are.levels) in
     let row = subst (IsRow s (k + 1)) (ap (λ j. get_or rows j []) place) (are.each (k + 1) (omega arith) last) in
-    λ i d inside. ap (λ l. bin_left s file l (get_or (get_or rows k []) i d)) (sym same)
-    ∙ stands_whole s (k + 1) file held (get_or (get_or rows k []) i d) valid last (row.widths i d inside) (stand k below i d inside))
+    λ i d inside. ap (λ l. bin_left s version file l (get_or (get_or rows k []) i d)) (sym same)
+    ∙ stands_whole s version (k + 1) file held (get_or (get_or rows k []) i d) valid last (row.widths i d inside) (stand k below i d inside))
 
 -- ---- what an answer says of the frames says of the answer
 

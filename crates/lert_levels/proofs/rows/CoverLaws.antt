@@ -1,7 +1,8 @@
 -- What the bins of several levels count together, and what the new bins of a flush hold.
 use Rattle.std.proofs.Common.{ℕ, ◌≡◌, ◌+◌, ◌-◌, ◌^◌, ◌≤◌, zero, suc, List, [], ◌∷◌, ◌++◌, length, map, get_or, take, ap, sym, ◌∙◌, arith, subst, sum_by, flat_map, slice_range, append-nil}
 use Rattle.std.proofs.{lemmas.Grind.flat_map-append, lemmas.List.{take_more, take_all}, lemmas.List.Sums.sum_by-append}
-use Rattle.lert_spec.specs.{declared.numbers.Numbers.Numbers, declared.piece.Piece.Piece, Bins.{Bin, tallied}, Edges.{edge, depth, lookback, capacity}, Limits.IsValid, Table.{count_of, IsTable}}
+use Rattle.lert_spec.specs.{declared.numbers.Numbers.Numbers, declared.piece.Piece.Piece, Bins.{Bin, tallied}, Edges.{edge, depth, lookback, capacity, tail_bits}, Limits.IsValid}
+use Rattle.lert_spec.specs.Table.{count_of, IsTable}
 use Rattle.lert_spec.proofs.EdgeLaws.{edge_descends_to, deepest_within, span_pos}
 use Rattle.lert_levels.specs.{declared.rows.bin_at.BinAt.BinAt, rows.Loading.held_in, rows.Ranges.{Range, young_bins}, rows.Rows.{range_of, row_of, IsAt, tallied_in}}
 use Rattle.lert_levels.proofs.{rows.RangeLaws.{edge_within, oldest_edge}, rows.Windows.{counted, counted-none, counted-join, ranges_cover, sum_by-map, young_cover, window_table}}
@@ -64,7 +65,7 @@ module _ (s : Numbers) (valid : IsValid s) where
       omega arith
 
   -- the totals of the flush at m
-  pub flush_totals : (events : List ℕ) (m : ℕ) (rows : List (List BinAt)) (pieces : List Piece) → IsAt s (m - 1) rows → length events ≡ m → IsTable (2 ^ (64 - s.cone_bits)) pieces →
+  pub flush_totals : (events : List ℕ) (m : ℕ) (rows : List (List BinAt)) (pieces : List Piece) → IsAt s (m - 1) rows → length events ≡ m → IsTable (2 ^ tail_bits s) pieces →
       ((tail : ℕ) → count_of pieces tail ≡ sum_by (of_tail tail) (map (λ (bin : Bin). bin.pieces) (young_bins s events (edge s 0 (m - 1)))
       ++ held_in (tallied_in s events) (take (depth s m) rows))) →
       pieces ≡ tallied s (slice_range events (lookback s m) m)
@@ -75,7 +76,7 @@ module _ (s : Numbers) (valid : IsValid s) where
 
   -- the totals of all events
   pub scan_totals : (events : List ℕ) (rows : List (List BinAt)) (pieces : List Piece) → IsAt s (length events) rows → length events ≤ capacity s →
-      IsTable (2 ^ (64 - s.cone_bits)) pieces →
+      IsTable (2 ^ tail_bits s) pieces →
       ((tail : ℕ) → count_of pieces tail ≡ sum_by (of_tail tail) (map (λ (bin : Bin). bin.pieces) (young_bins s events (edge s 0 (length events)))
       ++ held_in (tallied_in s events) (take s.levels rows))) →
       pieces ≡ tallied s events

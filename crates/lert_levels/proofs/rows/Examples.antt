@@ -79,13 +79,13 @@ of_level_2 = refl
 
 -- a file with no byte is left at its end, and one that ends in the first bin's frame too; zero bytes are a frame of no pieces,
 -- whose sum isn't that of the bin
-no_file : rows_left small [] at_32 ≡ Some 0
+no_file : rows_left small 1 [] at_32 ≡ Some 0
 no_file = refl
 
-cut_file : rows_left small (replicate 300 0) at_32 ≡ Some 300
+cut_file : rows_left small 1 (replicate 300 0) at_32 ≡ Some 300
 cut_file = refl
 
-no_pieces : rows_left small (replicate 1000 0) at_32 ≡ Some 296
+no_pieces : rows_left small 1 (replicate 1000 0) at_32 ≡ Some 296
 unfolding word_bits
 no_pieces = refl
 

@@ -9,7 +9,7 @@ use Rattle.lert_levels.specs.{declared.rows.bin_at.BinAt.BinAt, rows.Checked.{pi
 use Rattle.lert_levels.specs.rows.Rows.{range_of, IsAt}
 use Rattle.lert_levels.proofs.{rows.NamedLaws.ranges_run, rows.RangeLaws.{IsCut, cuts_are}, rows.RowLaws.All-ranges}
 
-module _ (s : Numbers) (base : 1 ≤ s.base) (ratio : 1 ≤ s.ratio) (n : ℕ) where
+module _ (s : Numbers) (version : ℕ) (base : 1 ≤ s.base) (ratio : 1 ≤ s.ratio) (n : ℕ) where
   level_is : (top below to : ℕ) → below < top → edge s (suc below) n < to → to ≤ edge s below n → level_of s n top to ≡ suc below
   level_is zero below to within above under = absurd (omega arith)
   level_is (suc top) below to within above under = elim (cases_lt below top) [
@@ -55,11 +55,11 @@ module _ (s : Numbers) (base : 1 ≤ s.base) (ratio : 1 ≤ s.ratio) (n : ℕ) w
       level_is s.levels k (get_or row i d).to within (subst (λ level. edge s level n < (get_or row i d).to) (sym next) low) high ∙ next
 
   -- bins that stand, each by its level, stand by themselves
-  pub all_stand : (rows : List (List BinAt)) → IsAt s n rows → (file : List ℕ) → EachStands s file rows → AllStand s file (held_after s n file) rows
+  pub all_stand : (rows : List (List BinAt)) → IsAt s n rows → (file : List ℕ) → EachStands s version file rows → AllStand s version file (held_after s version n file) rows
   all_stand rows at file stand k below =
       let within : k < s.levels = omega (arith, at.levels) in
       λ i d inside.
       let bin = get_or (get_or rows k []) i d in
       let there = stand k below i d inside in
-      let same : pieces_in s file (k + 1) bin ≡ held_after s n file bin = ap (λ level. pieces_in s file level bin) (sym (bin_level rows at k within i d inside)) in
-      record { are = subst (IsBin (tail_limit s) (width_of bin)) same there.are; text = subst (HoldsFrame s (k + 1) bin.frame file) same there.text }
+      let same : pieces_in s version file (k + 1) bin ≡ held_after s version n file bin = ap (λ level. pieces_in s version file level bin) (sym (bin_level rows at k within i d inside)) in
+      record { are = subst (IsBin version (tail_limit s) (width_of bin)) same there.are; text = subst (HoldsFrame s version (k + 1) bin.frame file) same there.text }

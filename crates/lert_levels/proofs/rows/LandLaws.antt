@@ -91,31 +91,31 @@ rest_fewer bays kept fewer before after weaker keeps = record {
 
 -- ---- writes into the place of one frame
 
-pub within_rest : {B : Type 0} (bays : Bays B) (s : Numbers) (level frame : ℕ) (before after : B) →
-    WritesWithin bays (frame_place s level frame) (frame_place s level frame + frame_len s level) before after → KeepsRest bays (IsApart s level frame) before after
-within_rest bays s level frame before after wrote =
-    let place = frame_place s level frame in
-    let end = place + frame_len s level in
+pub within_rest : {B : Type 0} (bays : Bays B) (s : Numbers) (version : ℕ) (level frame : ℕ) (before after : B) →
+    WritesWithin bays (frame_place s version level frame) (frame_place s version level frame + frame_len s version level) before after → KeepsRest bays (IsApart s version level frame) before after
+within_rest bays s version level frame before after wrote =
+    let place = frame_place s version level frame in
+    let end = place + frame_len s version level in
     record {
       seen = record {
         told = λ old told. (
             let then = wrote.wrote.seen.told old told in
-            (then.0, then.1, left_rest s level frame old then.0 then.2));
+            (then.0, then.1, left_rest s version level frame old then.0 then.2));
         untold = wrote.wrote.seen.untold;
       };
       settled = λ seen told. within_outside bays place end end before after seen (omega arith) (omega arith) wrote;
     }
   where
-    left_rest : (s : Numbers) (level frame : ℕ) (old new : Files) →
-        Changes (LeftByFailure (frame_place s level frame) (frame_place s level frame + frame_len s level - frame_place s level frame)) FRAMES old new →
-        LeavesRest (IsApart s level frame) old new
-    left_rest s level frame old new changed =
-        let place = frame_place s level frame in
+    left_rest : (s : Numbers) (version : ℕ) (level frame : ℕ) (old new : Files) →
+        Changes (LeftByFailure (frame_place s version level frame) (frame_place s version level frame + frame_len s version level - frame_place s version level frame)) FRAMES old new →
+        LeavesRest (IsApart s version level frame) old new
+    left_rest s version level frame old new changed =
+        let place = frame_place s version level frame in
         record {
           others = changed.others;
           longer = changed.here.torn.no_shorter;
           rest = λ from to apart within.
-              part_torn place (place + frame_len s level - place) (old FRAMES) (new FRAMES) (old FRAMES) from to changed.here.torn refl within
+              part_torn place (place + frame_len s version level - place) (old FRAMES) (new FRAMES) (old FRAMES) from to changed.here.torn refl within
               (elim apart [ inl before ↦ inl before | inr behind ↦ inr (omega (arith, behind)) ]);
         }
 
@@ -135,11 +135,11 @@ text_stays kept old new place text leaves kept_here holds = elim (cases_lt 0 (le
     reaches_end bytes from count some long = omega (arith, some, long, length-drop from (take (from + count) bytes), length-take (from + count) bytes)
 
 -- and a frame its pieces
-pub holds_stays : (kept : ℕ → ℕ → Type 0) (old new : Files) (s : Numbers) (level frame : ℕ) (pieces : List Piece) → LeavesRest kept old new →
-    kept (frame_place s level frame) (frame_place s level frame + length (frame_text s level pieces)) → HoldsFrame s level frame (old FRAMES) pieces →
-    HoldsFrame s level frame (new FRAMES) pieces
-holds_stays kept old new s level frame pieces leaves kept_here holds =
-    text_stays kept old new (frame_place s level frame) (frame_text s level pieces) leaves kept_here holds
+pub holds_stays : (kept : ℕ → ℕ → Type 0) (old new : Files) (s : Numbers) (version : ℕ) (level frame : ℕ) (pieces : List Piece) → LeavesRest kept old new →
+    kept (frame_place s version level frame) (frame_place s version level frame + length (frame_text s level pieces)) → HoldsFrame s version level frame (old FRAMES) pieces →
+    HoldsFrame s version level frame (new FRAMES) pieces
+holds_stays kept old new s version level frame pieces leaves kept_here holds =
+    text_stays kept old new (frame_place s version level frame) (frame_text s level pieces) leaves kept_here holds
 
 -- ---- the sync
 

@@ -1,9 +1,10 @@
 -- The tables of level 0 that are in use, as the pieces of its bins.
 use Rattle.std.proofs.Common.{ℕ, zero, suc, ◌≡◌, ◌+◌, ◌-◌, ◌*◌, ◌^◌, ◌<◌, ◌≤◌, min, List, [], ◌∷◌, All, length, get_or, map, take, refl, ap, sym, ◌∙◌, subst, arith, inl, inr}
 use Rattle.std.proofs.{Math.Nat.{mul-le-mul_right, suc-mul}, lemmas.Bool.cases_lt, lemmas.List.{get_or-map, length-map, take-map}, lemmas.List.Elements.All-take}
-use Rattle.lert_spec.specs.{declared.piece.Piece.Piece, Table.total, declared.numbers.Numbers.Numbers, Bins.Bin, Edges.span}
+use Rattle.lert_spec.specs.{declared.piece.Piece.Piece, Table.total, declared.numbers.Numbers.Numbers, Bins.Bin, Edges.{span, tail_bits}}
+use Rattle.lert_spec.proofs.CostLaws.{costs_to}
 use Rattle.lert_base.specs.declared.count_table.CountTable.{Ghosts as TablesOf}
-use Rattle.lert_levels.specs.rows.Young.{seen_as, Young, bins_of, IsOfZero, IsFilled, AreFilled, AreNumbered}
+use Rattle.lert_levels.specs.rows.Young.{seen_as, Young, AreLight, bins_of, IsOfZero, IsFilled, AreFilled, AreNumbered}
 use Rattle.lert_levels.proofs.{rows.YoungLaws.{bins_of-none, bins_of-some, bins_of-length, bits_of_zero}, rows.YoungCounts.width_within}
 
 -- ---- the tables in use
@@ -66,11 +67,11 @@ module _ {T C : Type 0} {of : TablesOf T C} {s : Numbers} {tables all : List T} 
       ∙ used_pieces (span s 0) from to count (map of.pieces all) used.covers used.few
       ∙ ap (λ (y : Young). map (λ (bin : Bin). bin.pieces) y.bins) used.seen
 
-  pub used_rooms : All (λ table. (of.room table ≤ 2 ^ 47) × (of.quotient_bits table + of.width table ≡ 64 - young.settings.cone_bits)) (take count tables)
+  pub used_rooms : All (λ table. (of.room table ≤ 2 ^ 39) × (of.quotient_bits table + of.width table ≡ tail_bits young.settings)) (take count tables)
   used_rooms =
-      subst (λ (y : Young). All (λ table. (of.room table ≤ 2 ^ 47) × (of.quotient_bits table + of.width table ≡ 64 - y.settings.cone_bits)) (take count tables)) used.seen
-      (All-take (λ table. (of.room table ≤ 2 ^ 47) × (of.quotient_bits table + of.width table ≡ 64 - s.cone_bits)) count tables
-      (subst (All (λ table. (of.room table ≤ 2 ^ 47) × (of.quotient_bits table + of.width table ≡ 64 - s.cone_bits))) (sym used.same)
+      subst (λ (y : Young). All (λ table. (of.room table ≤ 2 ^ 39) × (of.quotient_bits table + of.width table ≡ tail_bits y.settings)) (take count tables)) used.seen
+      (All-take (λ table. (of.room table ≤ 2 ^ 39) × (of.quotient_bits table + of.width table ≡ tail_bits s)) count tables
+      (subst (All (λ table. (of.room table ≤ 2 ^ 39) × (of.quotient_bits table + of.width table ≡ tail_bits s))) (sym used.same)
       (λ k d below. let numbers = (used.filled.each k d below).of_zero in
       (omega (arith, numbers.events, width_within s used.filled.valid), bits_of_zero s used.filled.valid numbers))))
 
@@ -92,6 +93,11 @@ module _ {T C : Type 0} {of : TablesOf T C} {s : Numbers} {tables all : List T} 
       some_width (first ∷ rest) each k start is under within =
           let here = each k first within in
           ap total (get_or-map of.pieces (first ∷ rest) k first [] within) ∙ here.summed ∙ omega arith
+
+  -- so they are light for each version
+  pub used_light : (version : ℕ) → AreLight version young.bins
+  used_light version = λ k d below. let wide = used_widths k d below in
+      (omega (arith, costs_to version (get_or young.bins k d).pieces, wide), omega (arith, wide))
 
   pub used_narrow : All (λ (bin : Bin). bin.to - bin.from ≤ span young.settings 0) young.bins
   used_narrow =

@@ -48,15 +48,15 @@ directory_short s rows are =
 pub rows_moved : (s : Numbers) (m : ℕ) (before after : List (List BinAt)) → length after ≡ length before →
     ((k : ℕ) → k < length before → get_or after k [] ≡ moved_row s m (k + 1) (get_or before k [])) → after ≡ moved s m before
 rows_moved s m before after len each =
-    let row : ℕ → List BinAt = λ level. moved_row s m level (row_of before level) in
-    let count = length-map-range_with_len row 1 (length before) in
+    let moved_at : ℕ → List BinAt = λ level. moved_row s m level (row_of before level) in
+    let count = length-map-range_with_len moved_at 1 (length before) in
     same_lists after (moved s m before) (omega arith)
     (λ k d below. (
     let place : k + 1 - 1 ≡ k = omega arith in
     get_or_default after k d [] below
     ∙ each k (omega arith)
     ∙ ap (λ n. moved_row s m (k + 1) (get_or before n [])) (sym place)
-    ∙ sym (get_or-map-range_with_len row 1 (length before) k (k + 1) d (omega arith) (omega arith))))
+    ∙ sym (get_or-map-range_with_len moved_at 1 (length before) k (k + 1) d (omega arith) (omega arith))))
 
 -- one row more that is moved on
 pub moved_on : (s : Numbers) (m : ℕ) (before rows : List (List BinAt)) (i : ℕ) (e new : List BinAt) → i < length rows →

@@ -182,8 +182,8 @@ module _ (text : List ℕ) (named : List (List BinAt)) (text_is : directory_text
 
 -- ---- the rows as they are put back
 
--- so many whole intervals below a number of 32 bits and sixteen more of 48
-whole_fits : (n most low wide q number : ℕ) → low ≤ n → n ≤ most → most < 2 ^ 32 → wide * q ≤ low → suc number * wide ≤ 16 * 2 ^ 48 → suc (q + number) * wide < 2 ^ 64
+-- so many whole intervals below a number of 31 bits and sixteen more of 48
+whole_fits : (n most low wide q number : ℕ) → low ≤ n → n ≤ most → most < 2 ^ 31 → wide * q ≤ low → suc number * wide ≤ 16 * 2 ^ 48 → suc (q + number) * wide < 2 ^ 64
 whole_fits n most low wide q number under within events whole bins =
     let parts : suc (q + number) * wide ≡ wide * q + suc number * wide =
     ap (λ a. a * wide) (sym (add-suc q number)) ∙ add-mul q (suc number) wide ∙ ap (λ a. a + suc number * wide) (mul_comm q wide) in

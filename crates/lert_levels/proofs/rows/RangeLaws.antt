@@ -1,4 +1,5 @@
 -- How the positions of a level's bins change as the edges around it move.
+use Rattle.lert_spec.specs.Counts.{plain}
 use Rattle.std.proofs.Common.{ℕ, ◌≡◌, ◌≢◌, ◌+◌, ◌-◌, ◌*◌, ◌/◌, ◌%◌, ◌<◌, ◌≤◌, zero, suc, Bool, true, false, cond, ltb, List, [], ◌∷◌, ◌++◌, length, map, filter, min, max, drop, refl, ap, ap₂, sym}
 use Rattle.std.proofs.{Common.{◌∙◌, arith, inl, inr, subst}, lemmas.Bool.{cases_lt, cases_eq, lt-ltb, le-ltb, eq-eqb, ne_eqb}, lemmas.List.{map-append, nil_from_length}}
 use Rattle.std.proofs.lemmas.List.Elements.{All-nil, All-cons}
@@ -44,22 +45,22 @@ abbrev positions : Bin → Range
 positions bin = record { from = bin.from; to = bin.to }
 
 -- they are the positions of bins
-cuts-positions : (s : Numbers) (wide low high first n : ℕ) → map positions (cuts s [] wide low high first n) ≡ range_cuts wide low high first n
+cuts-positions : (s : Numbers) (wide low high first n : ℕ) → map positions (cuts plain s [] wide low high first n) ≡ range_cuts wide low high first n
 cuts-positions s wide low high first zero = refl
 cuts-positions s wide low high first (suc n) =
     let range = range_at wide low high first in
-    map_cond positions (ltb range.from range.to) (made s [] range.from range.to) (cuts s [] wide low high (first + 1) n)
+    map_cond positions (ltb range.from range.to) (made plain s [] range.from range.to) (cuts plain s [] wide low high (first + 1) n)
     ∙ ap (λ rs. cond (ltb range.from range.to) (range ∷ rs) rs) (cuts-positions s wide low high (first + 1) n)
 
 enough : (s : Numbers) (wide low high n more : ℕ) → high ≤ n * wide → range_cuts wide low high 0 (n + more) ≡ range_cuts wide low high 0 n
 enough s wide low high n more covers =
-    sym (cuts-positions s wide low high 0 (n + more)) ∙ ap (map positions) (cuts-enough s [] wide low high n more covers) ∙ cuts-positions s wide low high 0 n
+    sym (cuts-positions s wide low high 0 (n + more)) ∙ ap (map positions) (cuts-enough plain s [] wide low high n more covers) ∙ cuts-positions s wide low high 0 n
 
 oldest_goes : (s : Numbers) (wide high j n : ℕ) → 1 ≤ wide → suc j * wide ≤ high → suc j ≤ n →
     range_cuts wide (j * wide) high 0 n ≡ record { from = j * wide; to = suc j * wide } ∷ range_cuts wide (suc j * wide) high 0 n
 oldest_goes s wide high j n positive within covers =
     sym (cuts-positions s wide (j * wide) high 0 n)
-    ∙ ap (map positions) (cuts-drop s [] wide high j n positive within covers)
+    ∙ ap (map positions) (cuts-drop plain s [] wide high j n positive within covers)
     ∙ ap (λ rs. record { from = j * wide; to = suc j * wide } ∷ rs) (cuts-positions s wide (suc j * wide) high 0 n)
 
 newest_last : (s : Numbers) (wide low high k n : ℕ) → k * wide ≤ high → high ≤ suc k * wide → suc k ≤ n →
@@ -67,13 +68,13 @@ newest_last : (s : Numbers) (wide low high k n : ℕ) → k * wide ≤ high → 
 newest_last s wide low high k n above below covers =
     let start = max low (k * wide) in
     sym (cuts-positions s wide low high 0 n)
-    ∙ ap (map positions) (cuts-newest s [] wide low high k n above below covers)
-    ∙ map-append positions (cuts s [] wide low high 0 k) (cond {A = List Bin} (ltb start high) (made s [] start high ∷ []) [])
-    ∙ ap₂ (λ a b. a ++ b) (cuts-positions s wide low high 0 k) (map_cond_one positions (ltb start high) (made s [] start high))
+    ∙ ap (map positions) (cuts-newest plain s [] wide low high k n above below covers)
+    ∙ map-append positions (cuts plain s [] wide low high 0 k) (cond {A = List Bin} (ltb start high) (made plain s [] start high ∷ []) [])
+    ∙ ap₂ (λ a b. a ++ b) (cuts-positions s wide low high 0 k) (map_cond_one positions (ltb start high) (made plain s [] start high))
 
 front_stays : (s : Numbers) (wide low high high' k : ℕ) → k * wide ≤ high → high ≤ high' → range_cuts wide low high' 0 k ≡ range_cuts wide low high 0 k
 front_stays s wide low high high' k above grows =
-    sym (cuts-positions s wide low high' 0 k) ∙ ap (map positions) (cuts-front s [] wide low high high' k above grows) ∙ cuts-positions s wide low high 0 k
+    sym (cuts-positions s wide low high' 0 k) ∙ ap (map positions) (cuts-front plain s [] wide low high high' k above grows) ∙ cuts-positions s wide low high 0 k
 
 -- a range of a level whose bins have this width, up to its upper edge
 pub record IsCut (wide high : ℕ) (range : Range) : Type 0 where

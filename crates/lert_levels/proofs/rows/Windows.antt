@@ -3,7 +3,7 @@ use Rattle.std.proofs.Common.{ℕ, ◌≡◌, ◌+◌, ◌-◌, ◌*◌, ◌/◌
 use Rattle.std.proofs.{Common.{slice_range, length-drop}, Math.Nat.{mul-le-mul_right, suc-mul, div-add-mod, mod-lt, mul_comm}, Math.Seq.take-add, lemmas.Bool.{cases_lt, lt-ltb, le-ltb}}
 use Rattle.std.proofs.{lemmas.List.{drop-drop, length-take}, lemmas.List.Sums.sum_by-cons}
 use Rattle.std.specs.List.{range_with_len}
-use Rattle.lert_spec.specs.{declared.numbers.Numbers.Numbers, declared.piece.Piece.Piece, Bins.{Bin, tallied}, Edges.{span, edge}, Table.{count_of, total, IsTable}}
+use Rattle.lert_spec.specs.{declared.numbers.Numbers.Numbers, declared.piece.Piece.Piece, Bins.{Bin, tallied}, Edges.{span, edge, tail_bits}, Table.{count_of, total, IsTable}}
 use Rattle.lert_spec.proofs.{EdgeLaws.{span_pos, edge_descends}, TallyLaws.{tails, tails-append, IsTable-tallied, count_of-tallied, total-tallied, one_table}}
 use Rattle.lert_levels.specs.rows.Ranges.{Range, range_at, ranges, filled, young_bins}
 use Rattle.lert_levels.proofs.rows.RangeLaws.{range_cuts, filled_cuts, edge_within}
@@ -37,10 +37,10 @@ counted-join s events tail from mid to first second =
     omega (arith, whole, tails-append s tail a b, count_of-tallied s a tail, count_of-tallied s b tail, count_of-tallied s (slice_range events from to) tail)
 
 -- a table with these counts is that of the window
-pub window_table : (s : Numbers) (events : List ℕ) (from to : ℕ) (pieces : List Piece) → IsTable (2 ^ (64 - s.cone_bits)) pieces →
+pub window_table : (s : Numbers) (events : List ℕ) (from to : ℕ) (pieces : List Piece) → IsTable (2 ^ tail_bits s) pieces →
     ((tail : ℕ) → count_of pieces tail ≡ counted s events tail from to) → pieces ≡ tallied s (slice_range events from to)
 window_table s events from to pieces table counts =
-    one_table 0 (2 ^ (64 - s.cone_bits)) pieces (tallied s (slice_range events from to)) table (IsTable-tallied s (slice_range events from to)) counts
+    one_table 0 (2 ^ tail_bits s) pieces (tallied s (slice_range events from to)) table (IsTable-tallied s (slice_range events from to)) counts
 
 -- as many as there are positions
 pub total-window : (s : Numbers) (events : List ℕ) (from to : ℕ) → to ≤ length events → total (tallied s (slice_range events from to)) ≡ to - from

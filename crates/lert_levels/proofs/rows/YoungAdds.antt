@@ -2,7 +2,7 @@
 use Rattle.std.proofs.Common.{ℕ, suc, ◌≡◌, ◌+◌, ◌-◌, ◌*◌, ◌/◌, ◌^◌, ◌<◌, ◌≤◌, cond, eqb, List, [], length, get_or, set, map, ap, ap₂, sym, ◌∙◌, subst, arith, inl, inr, length-set, get_or-set_same}
 use Rattle.std.proofs.{Common.get_or-set_other, Math.Nat.{mul-le-mul_right, suc-mul}, lemmas.Bool.{eq-eqb, ne_eqb, cases_lt, cases_eq}, lemmas.List.{map-set, get_or-map, length-map}}
 use Rattle.lert_base.specs.declared.count_table.CountTable.{Ghosts as TablesOf}
-use Rattle.lert_spec.specs.{declared.numbers.Numbers.Numbers, Edges.{span, capacity}, Table.{total, plus}}
+use Rattle.lert_spec.specs.{declared.numbers.Numbers.Numbers, Edges.{span, capacity, tail_bits}, Table.{total, plus}}
 use Rattle.lert_spec.proofs.Tables.{total-plus}
 use Rattle.lert_levels.specs.rows.Young.{seen_as, Young, added, with_event, IsNextPosition, bins_of, IsFilled, AreFilled}
 use Rattle.lert_levels.proofs.rows.YoungLaws.{bins_of-none, bins_of-begin, bins_of-grow, IsPlace, place_of, added-begin, added-grow, some_bins, bits_of_zero, same_numbers}
@@ -47,6 +47,7 @@ module _ {T C : Type 0} {of : TablesOf T C} {s : Numbers} {tables : List T} {fro
               last = omega (arith, next.last);
               each = λ k d below. let old = adds.filled.each k d below in record {
                 summed = omega (arith, old.summed);
+                by_one = old.by_one;
                 unused = λ _. old.unused (omega arith);
                 of_zero = old.of_zero;
               };
@@ -109,28 +110,28 @@ module _ {T C : Type 0} {of : TablesOf T C} {s : Numbers} {tables : List T} {fro
         omega arith,
       )
 
-  pub add_fits : (table : T) → table ≡ get_or tables at table → total (of.pieces table) + 1 ≤ of.room table
+  pub add_fits : (table : T) → table ≡ get_or tables at table → of.adds table < of.room table
   add_fits table is =
       let here = stands.filled.each at table add_place in
       let high = stands.place.high in
       let low = stands.place.low in
       let step = suc-mul at (span s 0) in
       let summed = here.summed in
-      subst (λ (t : T). total (of.pieces t) + 1 ≤ of.room t) (sym is) (omega (arith, here.of_zero.events))
+      subst (λ (t : T). of.adds t < of.room t) (sym is) (omega (arith, here.of_zero.events, here.by_one))
 
   pub add_below : (table : T) → table ≡ get_or tables at table → (tail : ℕ) →
-      tail < 2 ^ (64 - young.settings.cone_bits) →
+      tail < 2 ^ tail_bits young.settings →
       tail < 2 ^ (of.quotient_bits table + of.width table)
   add_below table is tail below =
       let here = stands.filled.each at table add_place in
-      let bits : of.quotient_bits table + of.width table ≡ 64 - young.settings.cone_bits =
-      ap (λ (t : T). of.quotient_bits t + of.width t) is ∙ bits_of_zero s stands.filled.valid here.of_zero ∙ ap (λ (y : Young). 64 - y.settings.cone_bits) adds.seen in
+      let bits : of.quotient_bits table + of.width table ≡ tail_bits young.settings =
+      ap (λ (t : T). of.quotient_bits t + of.width t) is ∙ bits_of_zero s stands.filled.valid here.of_zero ∙ ap (λ (y : Young). tail_bits y.settings) adds.seen in
       subst (λ b. tail < 2 ^ b) (sym bits) below
 
-  pub add_filled : (old new : T) (tail : ℕ) → old ≡ get_or tables at old → of.pieces new ≡ plus (of.pieces old) tail 1 →
+  pub add_filled : (old new : T) (tail : ℕ) → old ≡ get_or tables at old → of.pieces new ≡ plus (of.pieces old) tail 1 → of.adds new ≡ of.adds old + 1 →
       of.room new ≡ of.room old → of.quotient_bits new ≡ of.quotient_bits old → of.width new ≡ of.width old →
       AreFilled of s (set tables at new) begin m
-  add_filled old new tail is pieces_are room_is quotient_is remainder_is =
+  add_filled old new tail is pieces_are adds_is room_is quotient_is remainder_is =
       let first = stands.first in
       let low = stands.place.low in
       let high = stands.place.high in
@@ -150,6 +151,7 @@ module _ {T C : Type 0} {of : TablesOf T C} {s : Numbers} {tables : List T} {fro
               let summed = before.summed in
               let after : IsFilled of s begin m at new = record {
                 summed = omega arith;
+                by_one = adds_is ∙ ap (λ n. n + 1) before.by_one ∙ sym total_is;
                 unused = λ over. absurd (omega arith);
                 of_zero = same_numbers s before.of_zero room_is quotient_is remainder_is;
               } in
@@ -164,6 +166,7 @@ module _ {T C : Type 0} {of : TablesOf T C} {s : Numbers} {tables : List T} {fro
                   | inl younger ↦ (let more = mul-le-mul_right (span s 0) (let next : suc k ≤ at = younger in next) in let one = suc-mul k (span s 0) in omega arith)
                   | inr older ↦ (let more = mul-le-mul_right (span s 0) (let next : suc at ≤ k = omega arith in next) in omega arith)
                 ];
+                by_one = before.by_one;
                 unused = λ over. before.unused (omega arith);
                 of_zero = before.of_zero;
               } in
@@ -171,33 +174,33 @@ module _ {T C : Type 0} {of : TablesOf T C} {s : Numbers} {tables : List T} {fro
         ];
       }
 
-  pub add_bins : (old new : T) (tail : ℕ) → old ≡ get_or tables at old → of.pieces new ≡ plus (of.pieces old) tail 1 →
-      seen_as of s (set tables at new) begin m ≡ with_event young tail m
-  add_bins old new tail is pieces_are =
+  pub add_bins : (old new : T) (tail weight : ℕ) → old ≡ get_or tables at old → of.pieces new ≡ plus (of.pieces old) tail weight →
+      seen_as of s (set tables at new) begin m ≡ with_event young tail weight m
+  add_bins old new tail weight is pieces_are =
       let place = stands.place in
       let within = add_place in
       let n = m - 1 in
       let held = map of.pieces tables in
       let inside : at < length held = omega (arith, length-map tables of.pieces) in
       let there : get_or held at [] ≡ of.pieces old = get_or-map of.pieces tables at old [] within ∙ ap of.pieces (sym is) in
-      let changed : map of.pieces (set tables at new) ≡ set held at (plus (get_or held at []) tail 1) =
-      map-set of.pieces tables at new ∙ ap (set held at) (pieces_are ∙ ap (λ ps. plus ps tail 1) (sym there)) in
-      let grows : bins_of (span s 0) begin (suc n) (set held at (plus (get_or held at []) tail 1)) ≡ added s (bins_of (span s 0) begin n held) tail (suc n) =
+      let changed : map of.pieces (set tables at new) ≡ set held at (plus (get_or held at []) tail weight) =
+      map-set of.pieces tables at new ∙ ap (set held at) (pieces_are ∙ ap (λ ps. plus ps tail weight) (sym there)) in
+      let grows : bins_of (span s 0) begin (suc n) (set held at (plus (get_or held at []) tail weight)) ≡ added s (bins_of (span s 0) begin n held) tail weight (suc n) =
       elim (cases_lt (begin + at * span s 0) n) [
-        | inl above ↦ bins_of-grow (span s 0) begin at n tail held stands.positive above place.high inside
-            ∙ sym (added-grow s (bins_of (span s 0) begin n held) tail begin at n stands.filled.aligned above place.high)
+        | inl above ↦ bins_of-grow (span s 0) begin at n tail weight held stands.positive above place.high inside
+            ∙ sym (added-grow s (bins_of (span s 0) begin n held) tail weight begin at n stands.filled.aligned above place.high)
         | inr below ↦ (
             let start : n ≡ begin + at * span s 0 = omega (arith, place.low) in
             let before = stands.filled.each at old within in
             let empty : get_or held at [] ≡ [] = there ∙ ap of.pieces is ∙ before.unused (omega arith) in
-            ap (λ ps. bins_of (span s 0) begin (suc n) (set held at (plus ps tail 1))) empty
-            ∙ bins_of-begin (span s 0) begin at n held (plus [] tail 1) stands.positive start inside
-            ∙ sym (added-begin s (bins_of (span s 0) begin n held) tail begin at n stands.filled.aligned stands.positive start))
+            ap (λ ps. bins_of (span s 0) begin (suc n) (set held at (plus ps tail weight))) empty
+            ∙ bins_of-begin (span s 0) begin at n held (plus [] tail weight) stands.positive start inside
+            ∙ sym (added-begin s (bins_of (span s 0) begin n held) tail weight begin at n stands.filled.aligned stands.positive start))
       ] in
-      let bins_are : bins_of (span s 0) begin m (map of.pieces (set tables at new)) ≡ added s (bins_of (span s 0) from to held) tail m =
+      let bins_are : bins_of (span s 0) begin m (map of.pieces (set tables at new)) ≡ added s (bins_of (span s 0) from to held) tail weight m =
       ap (bins_of (span s 0) begin m) changed
-      ∙ ap (λ k. bins_of (span s 0) begin k (set held at (plus (get_or held at []) tail 1))) (sym stands.first)
+      ∙ ap (λ k. bins_of (span s 0) begin k (set held at (plus (get_or held at []) tail weight))) (sym stands.first)
       ∙ grows
-      ∙ ap₂ (λ bins k. added s bins tail k) stands.same stands.first in
-      subst (λ y. seen_as of s (set tables at new) begin m ≡ with_event y tail m) adds.seen
+      ∙ ap₂ (λ bins k. added s bins tail weight k) stands.same stands.first in
+      subst (λ y. seen_as of s (set tables at new) begin m ≡ with_event y tail weight m) adds.seen
       (λ i. record { settings = s; from = adds.begin_is i; to = m; bins = bins_are i })

@@ -1,4 +1,5 @@
 -- The bins of level 0 as events come and the oldest one is dropped.
+use Rattle.lert_spec.specs.Counts.{plain}
 use Rattle.std.proofs.Common.{ℕ, zero, suc, ◌≡◌, ◌+◌, ◌-◌, ◌*◌, ◌/◌, ◌%◌, ◌≤◌, cond, ltb, max, min, List, [], ◌∷◌, ◌++◌, length, refl, ap, ap₂, sym, ◌∙◌, arith, inl, inr, slice_range, length-append}
 use Rattle.std.proofs.{Common.{append-nil, take, drop, length-drop}, Math.Nat.{div-add-mod, mod-lt, mul-le-mul_right, mul-mod_left, suc-mul, mul_comm}, lemmas.Bool.{lt-ltb, le-ltb, cases_lt}}
 use Rattle.std.proofs.lemmas.List.{drop-append-le, take_all}
@@ -8,10 +9,10 @@ use Rattle.lert_levels.specs.{rows.Ranges.young_bins, rows.Young.{grown, added}}
 use Rattle.lert_levels.proofs.rows.YoungLaws.{added-begin, added-grow}
 
 -- only the last bin grows
-grown-last : (front : List Bin) (bin : Bin) (tail m : ℕ) → grown (front ++ bin ∷ []) tail m ≡ front ++ record { from = bin.from; to = m; pieces = plus bin.pieces tail 1 } ∷ []
-grown-last [] bin tail m = refl
-grown-last (x ∷ []) bin tail m = refl
-grown-last (x ∷ y ∷ front) bin tail m = ap (λ bins. x ∷ bins) (grown-last (y ∷ front) bin tail m)
+grown-last : (front : List Bin) (bin : Bin) (tail weight m : ℕ) → grown (front ++ bin ∷ []) tail weight m ≡ front ++ record { from = bin.from; to = m; pieces = plus bin.pieces tail weight } ∷ []
+grown-last [] bin tail weight m = refl
+grown-last (x ∷ []) bin tail weight m = refl
+grown-last (x ∷ y ∷ front) bin tail weight m = ap (λ bins. x ∷ bins) (grown-last (y ∷ front) bin tail weight m)
 
 -- the last positions with one more event
 slice_range-push : (events : List ℕ) (key from : ℕ) → from ≤ length events → slice_range (events ++ key ∷ []) from (suc (length events)) ≡ slice_range events from (length events)
@@ -28,7 +29,7 @@ slice_range-none events n = ap (λ k. take k (drop n events)) (let none : n - n 
 
 -- a bin with one more event
 made-push : (s : Numbers) (events : List ℕ) (key from : ℕ) → from ≤ length events →
-    made s (events ++ key ∷ []) from (suc (length events)) ≡ record {
+    made plain s (events ++ key ∷ []) from (suc (length events)) ≡ record {
       from = from;
       to = suc (length events);
       pieces =
@@ -40,7 +41,7 @@ made-push s events key from within =
 
 -- one more event is in the newest bin, or in a new one
 pub young-added : (s : Numbers) (events : List ℕ) (key from : ℕ) → 1 ≤ span s 0 → from % span s 0 ≡ 0 → from ≤ length events →
-    young_bins s (events ++ key ∷ []) from ≡ added s (young_bins s events from) (tail_of s key) (suc (length events))
+    young_bins s (events ++ key ∷ []) from ≡ added s (young_bins s events from) (tail_of s key) 1 (suc (length events))
 young-added s events key from positive aligned within =
     let wide = span s 0 in
     let n = length events in
@@ -51,7 +52,7 @@ young-added s events key from positive aligned within =
     let rest = mod-lt n {m = wide} positive in
     let turned = mul_comm wide k in
     let step = suc-mul k wide in
-    let front = cuts s events wide from n 0 k in
+    let front = cuts plain s events wide from n 0 k in
     let start = max from (k * wide) in
     let begins : from ≤ k * wide = (
     let whole = div-add-mod from wide in
@@ -61,37 +62,37 @@ young-added s events key from positive aligned within =
     let start_is : start ≡ k * wide = omega arith in
     let later = div_never_falls n (suc n) wide positive (omega arith) in
     let longer : length all ≡ suc n = omega (arith, length-append events (key ∷ [])) in
-    let before : young_bins s events from ≡ front ++ cond {A = List Bin} (ltb start n) (made s events start n ∷ []) [] =
-    cuts-newest s events wide from n k (suc k) (omega arith) (omega arith) (omega arith) in
-    let after : young_bins s all from ≡ front ++ made s all start (suc n) ∷ [] =
-    ap (λ m. cuts s all wide from m 0 (suc (m / wide))) longer
-    ∙ cuts-newest s all wide from (suc n) k (suc (suc n / wide)) (omega arith) (omega arith) (omega arith)
-    ∙ ap₂ (λ bins t. bins ++ cond {A = List Bin} t (made s all start (suc n) ∷ []) [])
-    (cuts-front s all wide from n (suc n) k (omega arith) (omega arith) ∙ cuts-append s events (key ∷ []) wide from n 0 k (omega arith))
+    let before : young_bins s events from ≡ front ++ cond {A = List Bin} (ltb start n) (made plain s events start n ∷ []) [] =
+    cuts-newest plain s events wide from n k (suc k) (omega arith) (omega arith) (omega arith) in
+    let after : young_bins s all from ≡ front ++ made plain s all start (suc n) ∷ [] =
+    ap (λ m. cuts plain s all wide from m 0 (suc (m / wide))) longer
+    ∙ cuts-newest plain s all wide from (suc n) k (suc (suc n / wide)) (omega arith) (omega arith) (omega arith)
+    ∙ ap₂ (λ bins t. bins ++ cond {A = List Bin} t (made plain s all start (suc n) ∷ []) [])
+    (cuts-front plain s all wide from n (suc n) k (omega arith) (omega arith) ∙ cuts-append plain s events (key ∷ []) wide from n 0 k (omega arith))
     (lt-ltb start (suc n) (omega arith)) in
     let grows = ap (λ bin. front ++ bin ∷ []) (made-push s events key start (omega arith)) in
     let whole : k * wide % wide ≡ 0 = mul-mod_left k wide in
     elim (cases_lt start n) [
       | inl some ↦ (
-          let newest : young_bins s events from ≡ front ++ made s events start n ∷ [] =
-          before ∙ ap (λ t. front ++ cond {A = List Bin} t (made s events start n ∷ []) []) (lt-ltb start n some) in
+          let newest : young_bins s events from ≡ front ++ made plain s events start n ∷ [] =
+          before ∙ ap (λ t. front ++ cond {A = List Bin} t (made plain s events start n ∷ []) []) (lt-ltb start n some) in
           after ∙ grows
-          ∙ sym (added-grow s (young_bins s events from) tail (k * wide) 0 n whole (omega arith) (omega arith)
-          ∙ ap (λ bins. grown bins tail (suc n)) newest
-          ∙ grown-last front (made s events start n) tail (suc n)))
+          ∙ sym (added-grow s (young_bins s events from) tail 1 (k * wide) 0 n whole (omega arith) (omega arith)
+          ∙ ap (λ bins. grown bins tail 1 (suc n)) newest
+          ∙ grown-last front (made plain s events start n) tail 1 (suc n)))
       | inr none ↦ (
           let start_last : start ≡ n = omega arith in
           let all_whole : young_bins s events from ≡ front =
-          before ∙ ap (λ t. front ++ cond {A = List Bin} t (made s events start n ∷ []) []) (le-ltb start n none) ∙ append-nil front in
+          before ∙ ap (λ t. front ++ cond {A = List Bin} t (made plain s events start n ∷ []) []) (le-ltb start n none) ∙ append-nil front in
           let empty : slice_range events start n ≡ [] = ap (λ from. slice_range events from n) start_last ∙ slice_range-none events n in
           after ∙ grows
           ∙ ap₂ (λ bins bin. bins ++ bin ∷ []) (sym all_whole) (λ i. record { from = start_last i; to = suc n; pieces = plus (tallied s (empty i)) tail 1 })
-          ∙ sym (added-begin s (young_bins s events from) tail (k * wide) 0 n whole positive (omega arith)))
+          ∙ sym (added-begin s (young_bins s events from) tail 1 (k * wide) 0 n whole positive (omega arith)))
     ]
 
 -- without its oldest bin, which is whole
 pub young-dropped : (s : Numbers) (events : List ℕ) (from : ℕ) → 1 ≤ span s 0 → from % span s 0 ≡ 0 → from + span s 0 ≤ length events →
-    young_bins s events from ≡ made s events from (from + span s 0) ∷ young_bins s events (from + span s 0)
+    young_bins s events from ≡ made plain s events from (from + span s 0) ∷ young_bins s events (from + span s 0)
 young-dropped s events from positive aligned within =
     let wide = span s 0 in
     let n = length events in
@@ -103,16 +104,16 @@ young-dropped s events from positive aligned within =
     let rest = div-add-mod n wide in
     let few = mod-lt n {m = wide} positive in
     let covers : suc j ≤ suc (n / wide) = (let fewer = div_never_falls from n wide positive (omega arith) in omega arith) in
-    ap (λ low. cuts s events wide low n 0 (suc (n / wide))) start
-    ∙ cuts-drop s events wide n j (suc (n / wide)) positive (omega arith) covers
-    ∙ ap₂ (λ low high. made s events low high ∷ cuts s events wide high n 0 (suc (n / wide))) (sym start) (sym next)
+    ap (λ low. cuts plain s events wide low n 0 (suc (n / wide))) start
+    ∙ cuts-drop plain s events wide n j (suc (n / wide)) positive (omega arith) covers
+    ∙ ap₂ (λ low high. made plain s events low high ∷ cuts plain s events wide high n 0 (suc (n / wide))) (sym start) (sym next)
 
-cuts-over : (s : Numbers) (events : List ℕ) (wide low high first n : ℕ) → high ≤ low → cuts s events wide low high first n ≡ []
+cuts-over : (s : Numbers) (events : List ℕ) (wide low high first n : ℕ) → high ≤ low → cuts plain s events wide low high first n ≡ []
 cuts-over s events wide low high first zero over = refl
 cuts-over s events wide low high first (suc n) over =
     let from = max low (first * wide) in
     let to = min high (suc first * wide) in
-    ap₂ (λ t bins. cond {A = List Bin} t (made s events from to ∷ bins) bins) (le-ltb from to (omega arith)) (cuts-over s events wide low high (first + 1) n over)
+    ap₂ (λ t bins. cond {A = List Bin} t (made plain s events from to ∷ bins) bins) (le-ltb from to (omega arith)) (cuts-over s events wide low high (first + 1) n over)
 
 -- no position above, no bin
 pub young-none : (s : Numbers) (events : List ℕ) (from : ℕ) → length events ≤ from → young_bins s events from ≡ []

@@ -16,13 +16,13 @@ covers_fewer pairs before present before' present' covers less fewer = record {
   of_present = λ tail. omega (arith, covers.of_present tail, fewer tail);
 }
 
--- one more of a tail is at most one more of it, and no more of another, in any order of the pieces
-count_of-plus_le : (ps : List Piece) (tail other : ℕ) → count_of (plus ps tail 1) other ≤ count_of ps other + cond {A = ℕ} (eqb other tail) 1 0
-count_of-plus_le [] tail other = grind (arith, nat_tests)
-count_of-plus_le (p ∷ ps) tail other = elim (cases_order p.tail tail) [
-  | inl same ↦ rw (plus_here p ps tail 1 same) (grind (arith, nat_tests))
-  | inr (inl below) ↦ rw (plus_behind p ps tail 1 below) (let h = count_of-plus_le ps tail other in grind (arith, nat_tests))
-  | inr (inr above) ↦ rw (plus_before p ps tail 1 above) (grind (arith, nat_tests))
+-- so much more of a tail is at most so much more of it, and no more of another, in any order of the pieces
+count_of-plus_le : (ps : List Piece) (tail weight other : ℕ) → count_of (plus ps tail weight) other ≤ count_of ps other + cond {A = ℕ} (eqb other tail) weight 0
+count_of-plus_le [] tail weight other = grind (arith, nat_tests)
+count_of-plus_le (p ∷ ps) tail weight other = elim (cases_order p.tail tail) [
+  | inl same ↦ rw (plus_here p ps tail weight same) (grind (arith, nat_tests))
+  | inr (inl below) ↦ rw (plus_behind p ps tail weight below) (let h = count_of-plus_le ps tail weight other in grind (arith, nat_tests))
+  | inr (inr above) ↦ rw (plus_before p ps tail weight above) (grind (arith, nat_tests))
 ]
 
 take-set_behind : {T : Type 0} (count at : ℕ) (tables : List T) (new : T) → count ≤ at → take count (set tables at new) ≡ take count tables
@@ -95,24 +95,24 @@ empty_bounded of s tables count pairs empty covers = record {
 -- ---- one more event
 
 pub added_bounded : {T C : Type 0} {of : TablesOf T C} {s : Numbers} {tables : List T} {from to : ℕ} {young : Young} {m begin wide at : ℕ} →
-    Adds of s tables from to young m begin wide at → (old new : T) (tail : ℕ) → old ≡ get_or tables at old → of.pieces new ≡ plus (of.pieces old) tail 1 →
+    Adds of s tables from to young m begin wide at → (old new : T) (tail weight : ℕ) → old ≡ get_or tables at old → of.pieces new ≡ plus (of.pieces old) tail weight →
     (pairs pairs' : List Pair) (earlier : ℕ) → AreBounded of.pieces s tables from to pairs earlier →
-    ((before present : ℕ → ℕ) → CoversCounts pairs before present → CoversCounts pairs' before (λ other. present other + cond (eqb other tail) 1 0)) →
+    ((before present : ℕ → ℕ) → CoversCounts pairs before present → CoversCounts pairs' before (λ other. present other + cond (eqb other tail) weight 0)) →
     AreBounded of.pieces s (set tables at new) begin m pairs' earlier
-added_bounded {T} {C} {of} {s} {tables} {from} {to} {young} {m} {begin} {wide} {at} adds old new tail is pieces_are pairs pairs' earlier bounded more =
+added_bounded {T} {C} {of} {s} {tables} {from} {to} {young} {m} {begin} {wide} {at} adds old new tail weight is pieces_are pairs pairs' earlier bounded more =
     let behind = add_behind adds earlier bounded.full in
     let first : ℕ → ℕ = times_in of.pieces (take earlier tables) in
     let others : ℕ → ℕ = times_in of.pieces (drop earlier tables) in
     record {
       full = behind.1;
-      covers = covers_fewer pairs' first (λ other. others other + cond {A = ℕ} (eqb other tail) 1 0)
+      covers = covers_fewer pairs' first (λ other. others other + cond {A = ℕ} (eqb other tail) weight 0)
           (times_in of.pieces (take earlier (set tables at new))) (times_in of.pieces (drop earlier (set tables at new)))
           (more first others bounded.covers)
           (λ other. omega (arith, ap (λ ts. times_in of.pieces ts other) (take-set_behind earlier at tables new behind.0)))
           (λ other.
-          let one : count_of (of.pieces new) other ≤ count_of (of.pieces old) other + cond {A = ℕ} (eqb other tail) 1 0 =
-          subst (λ ps. count_of ps other ≤ count_of (of.pieces old) other + cond {A = ℕ} (eqb other tail) 1 0) (sym pieces_are) (count_of-plus_le (of.pieces old) tail other) in
-          times_in-set of.pieces earlier at tables old new other (cond {A = ℕ} (eqb other tail) 1 0) behind.0 (add_place adds) is one);
+          let one : count_of (of.pieces new) other ≤ count_of (of.pieces old) other + cond {A = ℕ} (eqb other tail) weight 0 =
+          subst (λ ps. count_of ps other ≤ count_of (of.pieces old) other + cond {A = ℕ} (eqb other tail) weight 0) (sym pieces_are) (count_of-plus_le (of.pieces old) tail weight other) in
+          times_in-set of.pieces earlier at tables old new other (cond {A = ℕ} (eqb other tail) weight 0) behind.0 (add_place adds) is one);
     }
 
 -- ---- the oldest bin dropped

@@ -15,12 +15,13 @@ bins_of-behind wide from to (p ∷ tables) more covered =
 
 drop_filled : {T C : Type 0} (of : TablesOf T C) (tables : List T) {s : Numbers} {from to wide : ℕ} →
     AreFilled of s tables from to →
-    wide ≡ span s 0 → 1 ≤ wide → from + wide ≤ to → (old new : T) → old ≡ get_or tables 0 old → of.pieces new ≡ [] → of.room new ≡ of.room old → of.quotient_bits new ≡ of.quotient_bits old →
+    wide ≡ span s 0 → 1 ≤ wide → from + wide ≤ to → (old new : T) → old ≡ get_or tables 0 old → of.pieces new ≡ [] → of.adds new ≡ 0 → of.room new ≡ of.room old →
+    of.quotient_bits new ≡ of.quotient_bits old →
     of.width new ≡ of.width old →
     AreFilled of s (drop 1 (set tables 0 new) ++ take 1 (set tables 0 new)) (from + wide) to
-drop_filled of [] {s} {from} {to} {wide} filled wide_is positive whole old new is pieces_are room_is quotient_is remainder_is =
+drop_filled of [] {s} {from} {to} {wide} filled wide_is positive whole old new is pieces_are adds_is room_is quotient_is remainder_is =
     absurd (omega (arith, filled.len, some_bins s filled.valid))
-drop_filled of (first ∷ rest) {s} {from} {to} {wide} filled wide_is positive whole old new is pieces_are room_is quotient_is remainder_is =
+drop_filled of (first ∷ rest) {s} {from} {to} {wide} filled wide_is positive whole old new is pieces_are adds_is room_is quotient_is remainder_is =
     let len : length (rest ++ new ∷ []) ≡ s.bins = omega (arith, length-append rest (new ∷ []), filled.len) in
     let parts = div-add-mod from (span s 0) in
     let oldest = filled.each 0 old (omega arith) in
@@ -43,6 +44,7 @@ drop_filled of (first ∷ rest) {s} {from} {to} {wide} filled wide_is positive w
             let summed = before.summed in
             subst (λ t. IsFilled of s (from + wide) to k t) (sym at_it) (record {
               summed = omega arith;
+              by_one = before.by_one;
               unused = λ over. before.unused (omega arith);
               of_zero = before.of_zero;
             }))
@@ -53,6 +55,7 @@ drop_filled of (first ∷ rest) {s} {from} {to} {wide} filled wide_is positive w
             let over : to ≤ from + wide + k * span s 0 = (let at_last = ap (λ n. n * span s 0) last in omega arith) in
             subst (λ t. IsFilled of s (from + wide) to k t) (sym at_it) (record {
               summed = ap total pieces_are ∙ omega arith;
+              by_one = adds_is ∙ sym (ap total pieces_are);
               unused = λ _. pieces_are;
               of_zero = same_numbers s oldest.of_zero (room_is ∙ ap of.room is) (quotient_is ∙ ap of.quotient_bits is) (remainder_is ∙ ap of.width is);
             }))
@@ -101,14 +104,14 @@ module _ {T C : Type 0} {of : TablesOf T C} {s : Numbers} {tables : List T} {fro
       let fits = subst (λ (y : Young). y.from + span y.settings 0 ≤ y.to) (sym drops.seen) drops.whole in
       omega (arith, drops.wide_is)
 
-  pub dropped_filled : (old : T) → old ≡ get_or tables 0 old → of.pieces new ≡ [] → of.room new ≡ of.room old →
+  pub dropped_filled : (old : T) → old ≡ get_or tables 0 old → of.pieces new ≡ [] → of.adds new ≡ 0 → of.room new ≡ of.room old →
       of.quotient_bits new ≡ of.quotient_bits old → of.width new ≡ of.width old →
       AreFilled of s after (from + wide) to
-  dropped_filled old is pieces_are room_is quotient_is remainder_is =
+  dropped_filled old is pieces_are adds_is room_is quotient_is remainder_is =
       let fits = subst (λ (y : Young). y.from + span y.settings 0 ≤ y.to) (sym drops.seen) drops.whole in
       let wide_is = drops.wide_is in
       subst (λ (ts : List T). AreFilled of s ts (from + wide) to) (sym drops.after_is)
-      (drop_filled of tables drops.filled drops.wide_is drops.positive (omega arith) old new is pieces_are room_is quotient_is remainder_is)
+      (drop_filled of tables drops.filled drops.wide_is drops.positive (omega arith) old new is pieces_are adds_is room_is quotient_is remainder_is)
 
   pub dropped_bins : seen_as of s after (from + wide) to
       ≡ record young { from = young.from + span young.settings 0; bins = drop 1 young.bins }

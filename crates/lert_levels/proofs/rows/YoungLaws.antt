@@ -3,7 +3,7 @@ use Rattle.std.proofs.Common.{ℕ, zero, suc, ◌≡◌, ◌+◌, ◌-◌, ◌*�
 use Rattle.std.proofs.{Common.length-append, Math.Nat.{div-add-mod, mod-lt, suc-mul}, lemmas.Bool.{lt-ltb, le-ltb, eq-eqb, ne_eqb, cases_lt}, Math.ListN.get_or-append, Math.Seq.get_or-append_seam}
 use Rattle.std.proofs.lemmas.Nat.{mod-mul-add}
 use Rattle.lert_base.specs.declared.count_table.CountTable.{Ghosts as TablesOf}
-use Rattle.lert_spec.specs.{declared.numbers.Numbers.Numbers, declared.piece.Piece.Piece, Bins.Bin, Edges.{span, quotient_bits, width}, Limits.IsValid, Table.{total, plus}}
+use Rattle.lert_spec.specs.{declared.numbers.Numbers.Numbers, declared.piece.Piece.Piece, Bins.Bin, Edges.{span, quotient_bits, width, tail_bits}, Limits.IsValid, Table.{total, plus}}
 use Rattle.lert_spec.proofs.LimitLaws.{quotient_bits_by_zeros}
 use Rattle.lert_levels.specs.rows.Young.{Young, grown, begun, added, bins_of, IsOfZero, IsFilled, AreFilled}
 
@@ -23,9 +23,9 @@ bins_of-length wide from to [] under some = absurd (omega arith)
 bins_of-length wide from to (p ∷ tables) under some = omega (arith, ap length (bins_of-some wide from to p tables under))
 
 -- only the newest bin grows
-grown-behind : (bin : Bin) (bins : List Bin) (tail m : ℕ) → 1 ≤ length bins → grown (bin ∷ bins) tail m ≡ bin ∷ grown bins tail m
-grown-behind bin [] tail m some = absurd (omega arith)
-grown-behind bin (next ∷ bins) tail m some = refl
+grown-behind : (bin : Bin) (bins : List Bin) (tail weight m : ℕ) → 1 ≤ length bins → grown (bin ∷ bins) tail weight m ≡ bin ∷ grown bins tail weight m
+grown-behind bin [] tail weight m some = absurd (omega arith)
+grown-behind bin (next ∷ bins) tail weight m some = refl
 
 -- a position behind whole bins begins a bin in the next table
 pub bins_of-begin : (wide from at n : ℕ) (tables : List (List Piece)) (pieces : List Piece) → 1 ≤ wide → n ≡ from + at * wide → at < length tables →
@@ -45,30 +45,30 @@ bins_of-begin wide from (suc at) n (p ∷ tables) pieces positive is within =
     ∙ ap (λ bins. bins ++ record { from = n; to = suc n; pieces = pieces } ∷ []) (sym (bins_of-some wide from n p tables (omega arith)))
 
 -- a position inside of the newest bin makes it grow
-pub bins_of-grow : (wide from at n tail : ℕ) (tables : List (List Piece)) → 1 ≤ wide → from + at * wide < n → n < from + suc at * wide → at < length tables →
-    bins_of wide from (suc n) (set tables at (plus (get_or tables at []) tail 1)) ≡ grown (bins_of wide from n tables) tail (suc n)
-bins_of-grow wide from at n tail [] positive above below within = absurd (omega arith)
-bins_of-grow wide from zero n tail (p ∷ tables) positive above below within =
+pub bins_of-grow : (wide from at n tail weight : ℕ) (tables : List (List Piece)) → 1 ≤ wide → from + at * wide < n → n < from + suc at * wide → at < length tables →
+    bins_of wide from (suc n) (set tables at (plus (get_or tables at []) tail weight)) ≡ grown (bins_of wide from n tables) tail weight (suc n)
+bins_of-grow wide from at n tail weight [] positive above below within = absurd (omega arith)
+bins_of-grow wide from zero n tail weight (p ∷ tables) positive above below within =
     let step = suc-mul zero wide in
     let end : min (suc n) (from + wide) ≡ suc n = omega arith in
     let end' : min n (from + wide) ≡ n = omega arith in
-    bins_of-some wide from (suc n) (plus p tail 1) tables (omega arith)
-    ∙ ap₂ (λ bin bins. bin ∷ bins) (λ i. record { from = from; to = end i; pieces = plus p tail 1 }) (bins_of-none wide (from + wide) (suc n) tables (omega arith))
-    ∙ ap (λ bins. grown bins tail (suc n)) (sym (bins_of-some wide from n p tables (omega arith)
+    bins_of-some wide from (suc n) (plus p tail weight) tables (omega arith)
+    ∙ ap₂ (λ bin bins. bin ∷ bins) (λ i. record { from = from; to = end i; pieces = plus p tail weight }) (bins_of-none wide (from + wide) (suc n) tables (omega arith))
+    ∙ ap (λ bins. grown bins tail weight (suc n)) (sym (bins_of-some wide from n p tables (omega arith)
     ∙ ap₂ (λ bin bins. bin ∷ bins) (λ i. record { from = from; to = end' i; pieces = p }) (bins_of-none wide (from + wide) n tables (omega arith))))
-bins_of-grow wide from (suc at) n tail (p ∷ tables) positive above below within =
+bins_of-grow wide from (suc at) n tail weight (p ∷ tables) positive above below within =
     let step = suc-mul at wide in
     let next = suc-mul (suc at) wide in
     let same : min (suc n) (from + wide) ≡ min n (from + wide) = omega arith in
-    bins_of-some wide from (suc n) p (set tables at (plus (get_or tables at []) tail 1)) (omega arith)
+    bins_of-some wide from (suc n) p (set tables at (plus (get_or tables at []) tail weight)) (omega arith)
     ∙ ap₂ (λ bin bins. bin ∷ bins) (λ i. record { from = from; to = same i; pieces = p })
-    (bins_of-grow wide (from + wide) at n tail tables positive (omega arith) (omega arith) (omega arith))
-    ∙ sym (grown-behind (record { from = from; to = min n (from + wide); pieces = p }) (bins_of wide (from + wide) n tables) tail (suc n)
+    (bins_of-grow wide (from + wide) at n tail weight tables positive (omega arith) (omega arith) (omega arith))
+    ∙ sym (grown-behind (record { from = from; to = min n (from + wide); pieces = p }) (bins_of wide (from + wide) n tables) tail weight (suc n)
     (bins_of-length wide (from + wide) n tables (omega arith) (omega arith)))
-    ∙ ap (λ bins. grown bins tail (suc n)) (sym (bins_of-some wide from n p tables (omega arith)))
+    ∙ ap (λ bins. grown bins tail weight (suc n)) (sym (bins_of-some wide from n p tables (omega arith)))
 
 -- the bits of quotient and remainder are those of a tail
-pub bits_of_zero : (s : Numbers) {room quotient remainder : ℕ} → IsValid s → IsOfZero s room quotient remainder → quotient + remainder ≡ 64 - s.cone_bits
+pub bits_of_zero : (s : Numbers) {room quotient remainder : ℕ} → IsValid s → IsOfZero s room quotient remainder → quotient + remainder ≡ tail_bits s
 bits_of_zero s valid numbers =
     let few = quotient_bits_by_zeros s 0 valid (omega arith) in
     omega (arith, numbers.quotients, numbers.remainders, few.0, few.1, valid.limits.cone_bits_to)
@@ -108,22 +108,22 @@ rest_of wide from n at rest aligned is few =
     ap (λ m. m % wide) whole ∙ mod-mul-add (from / wide + at) wide rest few
 
 -- a position at the end of whole intervals begins one, and another doesn't
-pub added-begin : (s : Numbers) (bins : List Bin) (tail from at n : ℕ) → from % span s 0 ≡ 0 → 1 ≤ span s 0 → n ≡ from + at * span s 0 →
-    added s bins tail (suc n) ≡ bins ++ record { from = n; to = suc n; pieces = record { tail = tail; count = 1 } ∷ [] } ∷ []
-added-begin s bins tail from at n aligned positive is =
+pub added-begin : (s : Numbers) (bins : List Bin) (tail weight from at n : ℕ) → from % span s 0 ≡ 0 → 1 ≤ span s 0 → n ≡ from + at * span s 0 →
+    added s bins tail weight (suc n) ≡ bins ++ record { from = n; to = suc n; pieces = record { tail = tail; count = weight } ∷ [] } ∷ []
+added-begin s bins tail weight from at n aligned positive is =
     let before : suc n - 1 ≡ n = omega arith in
     let first : (suc n - 1) % span s 0 ≡ 0 = ap (λ m. m % span s 0) before ∙ rest_of (span s 0) from n at 0 aligned (omega arith) positive in
-    ap (λ t. cond {A = List Bin} t (bins ++ begun tail (suc n) ∷ []) (grown bins tail (suc n))) (eq-eqb ((suc n - 1) % span s 0) 0 first)
-    ∙ ap (λ m. bins ++ record { from = m; to = suc n; pieces = record { tail = tail; count = 1 } ∷ [] } ∷ []) before
+    ap (λ t. cond {A = List Bin} t (bins ++ begun tail weight (suc n) ∷ []) (grown bins tail weight (suc n))) (eq-eqb ((suc n - 1) % span s 0) 0 first)
+    ∙ ap (λ m. bins ++ record { from = m; to = suc n; pieces = record { tail = tail; count = weight } ∷ [] } ∷ []) before
 
-pub added-grow : (s : Numbers) (bins : List Bin) (tail from at n : ℕ) → from % span s 0 ≡ 0 → from + at * span s 0 < n → n < from + suc at * span s 0 →
-    added s bins tail (suc n) ≡ grown bins tail (suc n)
-added-grow s bins tail from at n aligned above below =
+pub added-grow : (s : Numbers) (bins : List Bin) (tail weight from at n : ℕ) → from % span s 0 ≡ 0 → from + at * span s 0 < n → n < from + suc at * span s 0 →
+    added s bins tail weight (suc n) ≡ grown bins tail weight (suc n)
+added-grow s bins tail weight from at n aligned above below =
     let step = suc-mul at (span s 0) in
     let rest = n - (from + at * span s 0) in
     let some : (suc n - 1) % span s 0 ≡ rest = ap (λ m. m % span s 0) (let before : suc n - 1 ≡ n = omega arith in before)
     ∙ rest_of (span s 0) from n at rest aligned (omega arith) (omega arith) in
-    ap (λ t. cond {A = List Bin} t (bins ++ begun tail (suc n) ∷ []) (grown bins tail (suc n))) (ne_eqb ((suc n - 1) % span s 0) 0 (λ e. omega arith))
+    ap (λ t. cond {A = List Bin} t (bins ++ begun tail weight (suc n) ∷ []) (grown bins tail weight (suc n))) (ne_eqb ((suc n - 1) % span s 0) 0 (λ e. omega arith))
 
 pub some_bins : (s : Numbers) → IsValid s → 1 ≤ s.bins
 some_bins s valid = omega (arith, valid.limits.bins_from)
@@ -141,9 +141,9 @@ empty_begin of s tables none = record { len = ap length none; each = λ k d belo
 
 pub empty_more : {T C : Type 0} (of : TablesOf T C) (s : Numbers) (tables : List T) (count : ℕ) →
     AreEmpty of s tables count → (table : T) →
-    of.pieces table ≡ [] → of.room table ≡ span s 0 → of.quotient_bits table ≡ quotient_bits s 0 → of.width table ≡ width s 0 →
+    of.pieces table ≡ [] → of.adds table ≡ 0 → of.room table ≡ span s 0 → of.quotient_bits table ≡ quotient_bits s 0 → of.width table ≡ width s 0 →
     AreEmpty of s (tables ++ table ∷ []) (count + 1)
-empty_more {T} {C} of s tables count empty table pieces_are room_is quotient_is remainder_is = record {
+empty_more {T} {C} of s tables count empty table pieces_are adds_is room_is quotient_is remainder_is = record {
   len = omega (arith, length-append tables (table ∷ []), empty.len);
   each = λ k d below. let len = length-append tables (table ∷ []) in elim (cases_lt k (length tables)) [
     | inl inner ↦ subst (λ (t : T). IsFilled of s 0 0 k t) (sym (get_or-append tables (table ∷ []) d k inner)) (empty.each k d inner)
@@ -152,6 +152,7 @@ empty_more {T} {C} of s tables count empty table pieces_are room_is quotient_is 
         let at_it : get_or (tables ++ table ∷ []) k d ≡ table = ap (λ n. get_or (tables ++ table ∷ []) n d) last ∙ get_or-append_seam tables table [] d in
         subst (λ (t : T). IsFilled of s 0 0 k t) (sym at_it) (record {
           summed = ap total pieces_are ∙ omega arith;
+          by_one = adds_is ∙ sym (ap total pieces_are);
           unused = λ _. pieces_are;
           of_zero = record { events = room_is; quotients = quotient_is; remainders = remainder_is };
         }))

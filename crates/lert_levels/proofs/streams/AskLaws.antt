@@ -125,30 +125,32 @@ frame_ended before after r becomes result same told breaks over files is = elim 
 
 -- ---- the stream that was asked, in its set
 
-module _ (s : Numbers) (spare : ℕ) (seen : BinSet) where
-  pub asked_table : (tables : List TableBin) (frames : ℕ) (readers : List FrameReader) → record { settings = s; bins = all_streams tables frames readers; spare = spare } ≡ seen →
+module _ (s : Numbers) (version spare : ℕ) (seen : BinSet) where
+  pub asked_table : (tables : List TableBin) (frames : ℕ) (readers : List FrameReader) → record { settings = s; version = version; bins = all_streams tables frames readers; spare = spare } ≡ seen →
       (before : Option Files) (i : ℕ) (was becomes : TableBin) (piece : Option Piece) → i < length tables → get_or tables i was ≡ was → Gives was becomes piece → IsOrdered was →
-      Asked before before seen (record { settings = s; bins = all_streams (set tables i becomes) frames readers; spare = spare }) i (Ok piece)
+      Asked before before seen (record { settings = s; version = version; bins = all_streams (set tables i becomes) frames readers; spare = spare }) i (Ok piece)
   asked_table tables frames readers is before i was becomes piece within here gives ordered = record {
     was = of_table was;
     becomes = of_table becomes;
     here = subst (λ (set : BinSet). of_table was ≡ get_or set.bins i (of_table was)) is (table_here tables frames readers i was within here);
     put = table_put tables frames readers i becomes within ∙ ap (λ (x : BinSet). set x.bins i (of_table becomes)) is;
     settings = ap (λ (x : BinSet). x.settings) is;
+    version = ap (λ (x : BinSet). x.version) is;
     spare = ap (λ (x : BinSet). x.spare) is;
     answers = table_answers before before was becomes piece gives ordered;
   }
 
-  pub asked_frame : (tables : List TableBin) (frames : ℕ) (readers : List FrameReader) → record { settings = s; bins = all_streams tables frames readers; spare = spare } ≡ seen →
+  pub asked_frame : (tables : List TableBin) (frames : ℕ) (readers : List FrameReader) → record { settings = s; version = version; bins = all_streams tables frames readers; spare = spare } ≡ seen →
       (before after : Option Files) (i : ℕ) (r becomes : FrameReader) (result : Result (Option Piece) PieceFault) (left : ℕ) → length tables ≤ i → i - length tables < frames →
       frames ≤ length readers → left ≡ spare → r ≡ get_or readers (i - length tables) r → Answers before after (of_frame r) (of_frame becomes) result →
-      Asked before after seen (record { settings = s; bins = all_streams tables frames (set readers (i - length tables) becomes); spare = left }) i result
+      Asked before after seen (record { settings = s; version = version; bins = all_streams tables frames (set readers (i - length tables) becomes); spare = left }) i result
   asked_frame tables frames readers is before after i r becomes result left behind within fits same here answers = record {
     was = of_frame r;
     becomes = of_frame becomes;
     here = subst (λ (set : BinSet). of_frame r ≡ get_or set.bins i (of_frame r)) is (frame_here tables frames readers i behind within fits r here);
     put = frame_put tables frames readers i behind within fits becomes ∙ ap (λ (x : BinSet). set x.bins i (of_frame becomes)) is;
     settings = ap (λ (x : BinSet). x.settings) is;
+    version = ap (λ (x : BinSet). x.version) is;
     spare = same ∙ ap (λ (x : BinSet). x.spare) is;
     answers = answers;
   }
@@ -156,8 +158,8 @@ module _ (s : Numbers) (spare : ℕ) (seen : BinSet) where
 -- ---- and what stands between two calls
 
 module _ {T K : Type 0} {bits : T → ℕ} {left : T → K → List Piece} {gave : K → List Piece} {stands : T → K → Type 0}
-    {s : Numbers} {tables : List T} {cursors : List K} {capacity : ℕ} {readers : List FrameReader} {frames : ℕ}
-    (kept : IsBinSet bits left gave stands s tables cursors capacity readers frames) where
+    {s : Numbers} {version : ℕ} {tables : List T} {cursors : List K} {capacity : ℕ} {readers : List FrameReader} {frames : ℕ}
+    (kept : IsBinSet bits left gave stands s version tables cursors capacity readers frames) where
   pub all_length : length (all_streams (bins_at bits left gave tables cursors) frames readers) ≡ length tables + frames
   all_length = set_length (bins_at bits left gave tables cursors) frames readers kept.within ∙ ap (λ n. n + frames) (bins_length bits left gave stands tables cursors kept.standing)
 
@@ -169,7 +171,7 @@ module _ {T K : Type 0} {bits : T → ℕ} {left : T → K → List Piece} {gave
   stands_there i {t} {c} within table cursor = stands_here bits left gave stands tables cursors i t c kept.standing within table cursor
 
   -- a frame is one of those that were begun
-  pub frame_there : {seen : BinSet} → record { settings = s; bins = all_streams (bins_at bits left gave tables cursors) frames readers; spare = length readers - frames } ≡ seen →
+  pub frame_there : {seen : BinSet} → record { settings = s; version = version; bins = all_streams (bins_at bits left gave tables cursors) frames readers; spare = length readers - frames } ≡ seen →
       (i : ℕ) → length tables ≤ i → i < length seen.bins → i - length tables < length readers
   frame_there is i behind within = omega (arith, all_length, ap (λ (x : BinSet). length x.bins) is, within, behind, kept.within)
 
@@ -188,8 +190,9 @@ module _ {T K : Type 0} {bits : T → ℕ} {left : T → K → List Piece} {gave
     with_it : bins_at bits left gave tables (set cursors i after) ≡ set (bins_at bits left gave tables cursors) i (bin_at bits left gave t after)
     with_it = bins_with bits left gave stands tables cursors i t after kept.standing within table
 
-    pub table_kept : stands t after → IsBinSet bits left gave stands s tables (set cursors i after) capacity readers frames
+    pub table_kept : stands t after → IsBinSet bits left gave stands s version tables (set cursors i after) capacity readers frames
     table_kept on = record {
+      known = kept.known;
       standing = stand_with bits left gave stands tables cursors i t after kept.standing within table on;
       ordered = subst AreOrdered (sym with_it) (ordered_with (bins_at bits left gave tables cursors) i (bin_at bits left gave t after) kept.ordered
           (stays_ordered (bin_at bits left gave t c) (bin_at bits left gave t after) piece gives ordered));
@@ -199,16 +202,17 @@ module _ {T K : Type 0} {bits : T → ℕ} {left : T → K → List Piece} {gave
       within = kept.within;
     }
 
-    pub table_asked : {spare : ℕ} {seen : BinSet} → record { settings = s; bins = all_streams (bins_at bits left gave tables cursors) frames readers; spare = spare } ≡ seen → {before : Option Files} →
-        Asked before before seen (record { settings = s; bins = all_streams (bins_at bits left gave tables (set cursors i after)) frames readers; spare = spare }) i (Ok piece)
+    pub table_asked : {spare : ℕ} {seen : BinSet} → record { settings = s; version = version; bins = all_streams (bins_at bits left gave tables cursors) frames readers; spare = spare } ≡ seen → {before : Option Files} →
+        Asked before before seen (record { settings = s; version = version; bins = all_streams (bins_at bits left gave tables (set cursors i after)) frames readers; spare = spare }) i (Ok piece)
     table_asked {spare} {seen} is {before} =
-        subst (λ (bins : List TableBin). Asked before before seen (record { settings = s; bins = all_streams bins frames readers; spare = spare }) i (Ok piece)) (sym with_it)
-        (asked_table s spare seen (bins_at bits left gave tables cursors) frames readers is before i (bin_at bits left gave t c) (bin_at bits left gave t after) piece long here gives ordered)
+        subst (λ (bins : List TableBin). Asked before before seen (record { settings = s; version = version; bins = all_streams bins frames readers; spare = spare }) i (Ok piece)) (sym with_it)
+        (asked_table s version spare seen (bins_at bits left gave tables cursors) frames readers is before i (bin_at bits left gave t c) (bin_at bits left gave t after) piece long here gives ordered)
 
   -- a reader does
   pub frame_kept : (j : ℕ) {r : FrameReader} (after : FrameReader) → r ≡ get_or readers j r → j < length readers → after.settings ≡ r.settings →
-      IsBinSet bits left gave stands s tables cursors capacity (set readers j after) frames
+      IsBinSet bits left gave stands s version tables cursors capacity (set readers j after) frames
   frame_kept j {r} after is within same = record {
+    known = kept.known;
     standing = kept.standing;
     ordered = kept.ordered;
     few = kept.few;
@@ -217,11 +221,12 @@ module _ {T K : Type 0} {bits : T → ℕ} {left : T → K → List Piece} {gave
     within = omega (arith, length-set readers j after, kept.within);
   }
 
-  pub frame_asked : {seen : BinSet} → record { settings = s; bins = all_streams (bins_at bits left gave tables cursors) frames readers; spare = length readers - frames } ≡ seen →
+  pub frame_asked : {seen : BinSet} → record { settings = s; version = version; bins = all_streams (bins_at bits left gave tables cursors) frames readers; spare = length readers - frames } ≡ seen →
       {before after : Option Files} (i : ℕ) {r becomes : FrameReader} {result : Result (Option Piece) PieceFault} → length tables ≤ i → i < length seen.bins →
       r ≡ get_or readers (i - length tables) r → Answers before after (of_frame r) (of_frame becomes) result →
       Asked before after seen (record {
         settings = s;
+        version = version;
         bins = all_streams (bins_at bits left gave tables cursors) frames (set readers (i - length tables) becomes);
         spare = length (set readers (i - length tables) becomes) - frames;
       }) i result
@@ -232,8 +237,9 @@ module _ {T K : Type 0} {bits : T → ℕ} {left : T → K → List Piece} {gave
       let same : length (set readers (i - length tables) becomes) - frames ≡ length readers - frames = ap (λ n. n - frames) (length-set readers (i - length tables) becomes) in
       subst (λ (n : ℕ). Asked before after seen (record {
         settings = s;
+        version = version;
         bins = all_streams (bins_at bits left gave tables cursors) frames (set readers (i - n) becomes);
         spare = length (set readers (i - length tables) becomes) - frames;
       }) i result) count
-      (asked_frame s (length readers - frames) seen (bins_at bits left gave tables cursors) frames readers is before after i r becomes result _
+      (asked_frame s version (length readers - frames) seen (bins_at bits left gave tables cursors) frames readers is before after i r becomes result _
       (omega (arith, count, behind)) (omega (arith, count, inside)) kept.within same (subst (λ (n : ℕ). r ≡ get_or readers (i - n) r) (sym count) here) answers)

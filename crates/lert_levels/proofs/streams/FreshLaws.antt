@@ -2,7 +2,7 @@
 use Rattle.std.{proofs.Common.{ℕ, zero, suc, ◌≡◌, ◌<◌, ◌^◌, Option, Some, List, [], ◌∷◌, length, map, get_or, refl, ◌∙◌, arith, inl, inr}, proofs.lemmas.List.length-map}
 use Rattle.lert_bay.specs.Files.{Files}
 use Rattle.lert_merge.specs.order.Members.{given_at, limit_at}
-use Rattle.lert_spec.{specs.declared.piece.Piece.Piece, specs.Table.total}
+use Rattle.lert_spec.{specs.declared.piece.Piece.Piece, specs.Table.costs}
 use Rattle.lert_levels.{specs.streams.Bin.{of_table, given_of, limit_of, wide_of}, specs.streams.BinLaws.table_told, specs.streams.BinSet.{AreSure, Reads}, specs.streams.SetLaws.to_come_at}
 use Rattle.lert_levels.specs.streams.Tables.{fresh_bin, AreOrdered}
 
@@ -26,11 +26,11 @@ module _ {T : Type 0} (bits : T → ℕ) (pieces : T → List Piece) where
   fresh_limit (t ∷ tables) zero d within = refl
   fresh_limit (t ∷ tables) (suc k) d within = fresh_limit tables k d (omega arith)
 
-  pub fresh_width : (tables : List T) (k : ℕ) (d : T) → k < length tables →
-      limit_at wide_of (map of_table (map (fresh_bin bits pieces) tables)) k ≡ total (pieces (get_or tables k d))
-  fresh_width [] k d within = absurd (omega arith)
-  fresh_width (t ∷ tables) zero d within = refl
-  fresh_width (t ∷ tables) (suc k) d within = fresh_width tables k d (omega arith)
+  pub fresh_width : (version : ℕ) (tables : List T) (k : ℕ) (d : T) → k < length tables →
+      limit_at (wide_of version) (map of_table (map (fresh_bin bits pieces) tables)) k ≡ costs version (pieces (get_or tables k d))
+  fresh_width version [] k d within = absurd (omega arith)
+  fresh_width version (t ∷ tables) zero d within = refl
+  fresh_width version (t ∷ tables) (suc k) d within = fresh_width version tables k d (omega arith)
 
   pub fresh_sure : (tables : List T) (file : List ℕ) → AreSure (map of_table (map (fresh_bin bits pieces) tables)) file
   fresh_sure [] file = tt

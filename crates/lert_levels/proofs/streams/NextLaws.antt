@@ -78,6 +78,7 @@ module _ {before after : Option Files} {old new : BinSet} {i : ℕ} {result : Re
   pub next_same : IsSameSet old new
   next_same = record {
     settings = asked.settings;
+    version = asked.version;
     bins = subst (λ (bins : List Bin). AreSameBins old.bins bins) (sym asked.put) (same_with old.bins i asked.was asked.becomes within asked.here asked.answers.same);
     spare = asked.spare;
   }

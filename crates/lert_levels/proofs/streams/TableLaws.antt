@@ -1,12 +1,12 @@
 -- Tables and their cursors as bins, and readers.
-use Rattle.std.proofs.Common.{ℕ, zero, suc, ◌≡◌, ◌+◌, Result, Ok, Err, OnOk, ◌<◌, ◌≤◌, ◌^◌, ◌++◌, List, [], ◌∷◌, length, set, take, get_or, refl, sym, ap, ap₂, ◌∙◌, subst, arith, length-set}
+use Rattle.std.proofs.Common.{ℕ, zero, suc, ◌≡◌, ◌+◌, ◌*◌, Result, Ok, Err, OnOk, ◌<◌, ◌≤◌, ◌^◌, ◌++◌, List, [], ◌∷◌, length, set, take, get_or, refl, sym, ap, ap₂, ◌∙◌, subst, arith, length-set}
 use Rattle.std.{proofs.Common.length-append, proofs.lemmas.List.take_more}
 use Rattle.lert_frames.specs.declared.reader.FrameReader.{FrameReader}
 use Rattle.lert_spec.{specs.declared.numbers.Numbers.Numbers, specs.declared.piece.Piece.Piece, specs.Table.{total, IsTable, AreGiven}, proofs.Tables.count_le-total}
 use Rattle.lert_levels.{specs.streams.Bin.TableBin, specs.streams.Tables.{bin_at, bins_at, fresh_bin, Stand, IsOrdered, AreOrdered, AreReadersOf, AreReaders, AreStartedOn}}
 
--- the pieces of a table of few events
-pub given_of : (bits room : ℕ) (pieces : List Piece) {events : ℕ} → IsTable (2 ^ bits) pieces → events ≡ total pieces → events ≤ room → room ≤ 2 ^ 47 → AreGiven (2 ^ bits) pieces
+-- the pieces of a table of few adds
+pub given_of : (bits room : ℕ) (pieces : List Piece) {adds : ℕ} → IsTable (2 ^ bits) pieces → total pieces ≤ 255 * adds → adds ≤ room → room ≤ 2 ^ 39 → AreGiven (2 ^ bits) pieces
 given_of bits room pieces table sum fits few = record { table = table; counts = λ k d within. omega (arith, count_le-total pieces k d within, sum, fits, few) }
 
 -- ---- one cursor in the place of another

@@ -6,9 +6,9 @@ use Rattle.lert_levels.specs.declared.bound.pair.Pair.{Pair}
 abbrev pub nothing : Pair
 nothing = record { before = 0; present = 0 }
 
--- one event more in the present generation; a byte doesn't pass 255
-abbrev pub risen : Pair → Pair
-risen pair = record { before = pair.before; present = min (pair.present + 1) 255 }
+-- a weight more in the present generation; a byte doesn't pass 255
+abbrev pub risen : ℕ → Pair → Pair
+risen weight pair = record { before = pair.before; present = min (pair.present + weight) 255 }
 
 -- the present generation is the one before, and a new one has begun
 abbrev pub turned : Pair → Pair

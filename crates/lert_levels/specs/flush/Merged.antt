@@ -3,7 +3,7 @@ use Rattle.std.specs.Prelude.{ℕ, ◌≡◌, ◌+◌, ◌<◌, ◌≤◌, ◌==
 use Rattle.lert_frames.specs.Place.{tail_limit}
 use Rattle.lert_levels.specs.{landing.Landed.taken, landing.Landings.AreLandings, landing.Summed.sums_of, declared.landing.landing.Landing.Landing}
 use Rattle.lert_merge.specs.{order.Ordering.Ordering, declared.order.streams.Streams.{Ghosts as StreamsOf}}
-use Rattle.lert_spec.specs.{declared.numbers.Numbers.Numbers, declared.piece.Piece.Piece, Edges.span, Table.{total, plus, AreGiven}}
+use Rattle.lert_spec.specs.{declared.numbers.Numbers.Numbers, declared.piece.Piece.Piece, Edges.span, Table.{costs, plus, AreGiven}}
 
 -- ---- parts
 
@@ -35,16 +35,18 @@ pub record IsUnread {S C : Type 0} (members : StreamsOf S C) (order : Ordering S
   pub counts : order.ahead.counts ≡ []
   pub last : order.last ≡ None
 
--- what the counts of each stream add up to at most, and that they can be added up
+-- what the counts of each stream cost at most, and that they can be added up
 pub record AreWide {S : Type 0} (width : S → ℕ → ℕ) (streams : S) (widths : List ℕ) (count : ℕ) : Type 0 where
   pub len : length widths ≡ count
   pub each : (k : ℕ) → k < count → width streams k ≤ slice_index_or widths k 0
-  pub all : sum widths < 2 ^ 63
+  pub all : sum widths < 2 ^ 55
 
--- each landing has room for its part, which begins anew
-pub record HaveRoom {S C : Type 0} (members : StreamsOf S C) (width : S → ℕ → ℕ) (streams : S) (parts : List (Option ℕ)) (landings : List Landing) : Type 0 where
+-- each landing has room for its part, which begins anew, and is of the version of all streams
+pub record HaveRoom {S C : Type 0} (members : StreamsOf S C) (version width : S → ℕ → ℕ) (streams : S) (parts : List (Option ℕ)) (landings : List Landing) : Type 0 where
   pub settings : Numbers
-  pub landings_are : AreLandings settings landings
+  pub number : ℕ
+  pub of_streams : (k : ℕ) → k < members.count streams → version streams k ≡ number
+  pub landings_are : AreLandings settings number landings
   pub limits : (k : ℕ) → k < members.count streams → members.limit streams k ≤ tail_limit settings
   pub widths : List ℕ
   pub wide : AreWide width streams widths (members.count streams)
@@ -60,20 +62,20 @@ pub record AreToCome {S C : Type 0} (members : StreamsOf S C) (streams : S) (ctx
 
 -- all pieces of all streams were taken: a list for each stream, those that were told where they were. Where the context tells,
 -- they are those of streams that leave their format nowhere.
-pub record AreTaken {S C T : Type 0} (members : StreamsOf S C) (width : S → ℕ → ℕ) (took : T → List Piece → Type 0) (streams : S) (before : C) (totals : T)
+pub record AreTaken {S C T : Type 0} (members : StreamsOf S C) (version width : S → ℕ → ℕ) (took : T → List Piece → Type 0) (streams : S) (before : C) (totals : T)
     (lists : List (List Piece)) : Type 0 where
   pub len : length lists ≡ members.count streams
   pub given : (k : ℕ) → k < members.count streams → AreGiven (members.limit streams k) (slice_index_or lists k [])
-  pub fits : (k : ℕ) → k < members.count streams → total (slice_index_or lists k []) ≤ width streams k
+  pub fits : (k : ℕ) → k < members.count streams → costs (version streams k) (slice_index_or lists k []) ≤ width streams k
   pub totals_are : took totals (sums_of lists)
   pub told : (given : List (List Piece)) → AreToCome members streams before given → lists ≡ given
   pub whole : members.tells before → AreToCome members streams before lists
 
 -- and each landing took the sums of its part
-pub record IsMerged {S C T : Type 0} (members : StreamsOf S C) (width : S → ℕ → ℕ) (took : T → List Piece → Type 0) (streams : S) (before : C) (parts : List (Option ℕ))
+pub record IsMerged {S C T : Type 0} (members : StreamsOf S C) (version width : S → ℕ → ℕ) (took : T → List Piece → Type 0) (streams : S) (before : C) (parts : List (Option ℕ))
     (landings : List Landing) (totals : T) : Type 0 where
   pub lists : List (List Piece)
-  pub all : AreTaken members width took streams before totals lists
+  pub all : AreTaken members version width took streams before totals lists
   pub landed : (part : ℕ) (d : Landing) → part < length landings → taken (slice_index_or landings part d) ≡ sums_of (picked parts part lists)
 
 -- ---- a piece of a merge

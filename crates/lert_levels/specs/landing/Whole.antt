@@ -1,7 +1,7 @@
 -- Pieces that were handed on, and the sum behind them that is open.
 use Rattle.std.specs.Prelude.{ℕ, ◌≡◌, ◌<◌, ◌≤◌, ◌++◌, List, [], All, None, IfSome, option_to_list}
-use Rattle.lert_frames.specs.declared.writer.FrameWriter.{FrameWriter}
-use Rattle.lert_spec.specs.{declared.piece.Piece.Piece, Edges.span, Table.total}
+use Rattle.lert_frames.specs.{Place.IsVersion, declared.writer.FrameWriter.FrameWriter}
+use Rattle.lert_spec.specs.{declared.piece.Piece.Piece, Edges.span, Table.costs}
 use Rattle.lert_levels.specs.declared.landing.sum.Sum.{Sum}
 
 -- both, as one list
@@ -25,7 +25,9 @@ pub record Takes {T : Type 0} (took : T → List Piece → Type 0) (totals : T) 
   pub begun : sum.last ≡ None → front ≡ []
 
 -- a frame's writer and the open sum: nothing is put before the first piece came, and there is room for all
-pub record IsTaking (writer : FrameWriter) (frame : ℕ) (sum : Sum) : Type 0 where
+pub record IsTaking (writer : FrameWriter) (version frame : ℕ) (sum : Sum) : Type 0 where
+  pub known : IsVersion version
+  pub version_is : writer.version ≡ version
   pub frame_is : writer.frame ≡ frame
   pub begun : sum.last ≡ None → writer.put ≡ []
-  pub fits : total (whole writer.put sum) ≤ span writer.settings writer.level
+  pub fits : costs writer.version (whole writer.put sum) ≤ span writer.settings writer.level

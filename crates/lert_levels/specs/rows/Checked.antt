@@ -5,15 +5,15 @@ use Rattle.lert_spec.specs.{declared.numbers.Numbers.Numbers, Edges.edge, declar
 use Rattle.lert_levels.specs.{declared.rows.bin_at.BinAt.BinAt, rows.Loading.{width_of, Stands}}
 
 -- the pieces that a file says in the frame of a bin of a level
-abbrev pub pieces_in : Numbers → List ℕ → ℕ → BinAt → List Piece
-pieces_in s file level bin = frame_pieces s level bin.frame file
+abbrev pub pieces_in : Numbers → ℕ → List ℕ → ℕ → BinAt → List Piece
+pieces_in s version file level bin = frame_pieces s version level bin.frame file
 
 -- they are in the format there, and a bin of its width: of each bin of a level, and of each bin of all rows
-abbrev pub RowStands : Numbers → List ℕ → ℕ → List BinAt → Type 0
-RowStands s file level row = All (Stands s level file (pieces_in s file level)) row
+abbrev pub RowStands : Numbers → ℕ → List ℕ → ℕ → List BinAt → Type 0
+RowStands s version file level row = All (Stands s version level file (pieces_in s version file level)) row
 
-abbrev pub EachStands : Numbers → List ℕ → List (List BinAt) → Type 0
-EachStands s file rows = (k : ℕ) → k < length rows → RowStands s file (k + 1) (slice_index_or rows k [])
+abbrev pub EachStands : Numbers → ℕ → List ℕ → List (List BinAt) → Type 0
+EachStands s version file rows = (k : ℕ) → k < length rows → RowStands s version file (k + 1) (slice_index_or rows k [])
 
 -- the level of a bin that ends there, after n events: the greatest of the levels up to one whose positions may end there
 abbrev pub level_of : Numbers → ℕ → ℕ → ℕ → ℕ
@@ -21,8 +21,8 @@ level_of s n zero to = 0
 level_of s n (suc top) to = if nat_lt (edge s top n) to then level_of s n top to else suc top
 
 -- the pieces that a file says in the frame of a bin of the levels after n events
-abbrev pub held_after : Numbers → ℕ → List ℕ → BinAt → List Piece
-held_after s n file bin = pieces_in s file (level_of s n s.levels bin.to) bin
+abbrev pub held_after : Numbers → ℕ → ℕ → List ℕ → BinAt → List Piece
+held_after s version n file bin = pieces_in s version file (level_of s n s.levels bin.to) bin
 
 -- the first place of these
 abbrev pub first_of : List (Option ℕ) → Option ℕ
@@ -31,17 +31,17 @@ first_of (None ∷ rest) = first_of rest
 first_of (Some at ∷ rest) = Some at
 
 -- where the frame of a bin of a level leaves its format, where it does
-abbrev pub bin_left : Numbers → List ℕ → ℕ → BinAt → Option ℕ
-bin_left s file level bin = frame_left s level bin.frame (width_of bin) file
+abbrev pub bin_left : Numbers → ℕ → List ℕ → ℕ → BinAt → Option ℕ
+bin_left s version file level bin = frame_left s version level bin.frame (width_of bin) file
 
 -- where each bin of these rows leaves it, the first of them that of this level
-abbrev pub bins_left : Numbers → List ℕ → ℕ → List (List BinAt) → List (Option ℕ)
-bins_left s file level [] = []
-bins_left s file level (row ∷ rows) = map (bin_left s file level) row ++ bins_left s file (suc level) rows
+abbrev pub bins_left : Numbers → ℕ → List ℕ → ℕ → List (List BinAt) → List (Option ℕ)
+bins_left s version file level [] = []
+bins_left s version file level (row ∷ rows) = map (bin_left s version file level) row ++ bins_left s version file (suc level) rows
 
 -- where the first bin that leaves it does
-abbrev pub row_left : Numbers → List ℕ → ℕ → List BinAt → Option ℕ
-row_left s file level row = first_of (map (bin_left s file level) row)
+abbrev pub row_left : Numbers → ℕ → List ℕ → ℕ → List BinAt → Option ℕ
+row_left s version file level row = first_of (map (bin_left s version file level) row)
 
-abbrev pub rows_left : Numbers → List ℕ → List (List BinAt) → Option ℕ
-rows_left s file rows = first_of (bins_left s file 1 rows)
+abbrev pub rows_left : Numbers → ℕ → List ℕ → List (List BinAt) → Option ℕ
+rows_left s version file rows = first_of (bins_left s version file 1 rows)

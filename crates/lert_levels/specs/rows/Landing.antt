@@ -2,12 +2,12 @@
 use Rattle.std.specs.Prelude.{◌≡◌, ◌≢◌, ◌⊎◌, ℕ, ◌+◌, ◌<◌, ◌≤◌, List, [], length, Some, slice_index_or}
 use Rattle.lert_bay.specs.{declared.bay.TheConstants.FRAMES, Files.{Files, Turns}, Kept.Bays, Settled.{part, Keeps, IsSettled}}
 use Rattle.lert_frames.specs.{Frame.HoldsFrame, Place.{frame_place, frame_len, tail_limit}}
-use Rattle.lert_spec.specs.{declared.numbers.Numbers.Numbers, declared.piece.Piece.Piece, Edges.span, Table.{total, AreGiven}}
+use Rattle.lert_spec.specs.{declared.numbers.Numbers.Numbers, declared.piece.Piece.Piece, Edges.span, Table.{costs, AreGiven}}
 use Rattle.lert_levels.specs.{declared.rows.bin_at.BinAt.BinAt, rows.Rows.arrived}
 
 -- a range of the file of frames stands before the place of a frame or behind it
-abbrev pub IsApart : Numbers → ℕ → ℕ → ℕ → ℕ → Type 0
-IsApart s level frame from to = (to ≤ frame_place s level frame) ⊎ (frame_place s level frame + frame_len s level ≤ from)
+abbrev pub IsApart : Numbers → ℕ → ℕ → ℕ → ℕ → ℕ → Type 0
+IsApart s version level frame from to = (to ≤ frame_place s version level frame) ⊎ (frame_place s version level frame + frame_len s version level ≤ from)
 
 -- the other files stay as they are, the file of frames gets no shorter, and reads as before in the ranges that are kept
 pub record LeavesRest (kept : ℕ → ℕ → Type 0) (old new : Files) : Type 0 where
@@ -32,14 +32,14 @@ abbrev pub landing_frame : Numbers → ℕ → List (List BinAt) → ℕ → ℕ
 landing_frame s m rows k = (arrived s m (k + 1) (slice_index_or rows k [])).frame
 
 -- a range apart from all of these
-abbrev pub AreApart : Numbers → ℕ → List (List BinAt) → ℕ → ℕ → Type 0
-AreApart s m rows from to = (k : ℕ) → k < length rows → IsApart s (k + 1) (landing_frame s m rows k) from to
+abbrev pub AreApart : Numbers → ℕ → ℕ → List (List BinAt) → ℕ → ℕ → Type 0
+AreApart s version m rows from to = (k : ℕ) → k < length rows → IsApart s version (k + 1) (landing_frame s m rows k) from to
 
 -- the pieces of a level's new bin, which its frame has room for
-pub record CanStand (s : Numbers) (level : ℕ) (pieces : List Piece) : Type 0 where
+pub record CanStand (s : Numbers) (version level : ℕ) (pieces : List Piece) : Type 0 where
   pub given : AreGiven (tail_limit s) pieces
-  pub fits : total pieces ≤ span s level
+  pub fits : costs version pieces ≤ span s level
 
 -- the first new bins stand in their frames
-abbrev pub AreLanded : Numbers → ℕ → List (List BinAt) → List ℕ → List (List Piece) → ℕ → Type 0
-AreLanded s m rows file bins count = (k : ℕ) → k < count → HoldsFrame s (k + 1) (landing_frame s m rows k) file (slice_index_or bins k [])
+abbrev pub AreLanded : Numbers → ℕ → ℕ → List (List BinAt) → List ℕ → List (List Piece) → ℕ → Type 0
+AreLanded s version m rows file bins count = (k : ℕ) → k < count → HoldsFrame s version (k + 1) (landing_frame s m rows k) file (slice_index_or bins k [])

@@ -9,13 +9,13 @@ abbrev pub width_of : BinAt → ℕ
 width_of bin = bin.to - bin.from
 
 -- the frame of a bin of a level holds these pieces, which are a bin of its width
-pub record Stands (s : Numbers) (level : ℕ) (file : List ℕ) (held : BinAt → List Piece) (bin : BinAt) : Type 0 where
-  pub are : IsBin (tail_limit s) (width_of bin) (held bin)
-  pub text : HoldsFrame s level bin.frame file (held bin)
+pub record Stands (s : Numbers) (version level : ℕ) (file : List ℕ) (held : BinAt → List Piece) (bin : BinAt) : Type 0 where
+  pub are : IsBin version (tail_limit s) (width_of bin) (held bin)
+  pub text : HoldsFrame s version level bin.frame file (held bin)
 
 -- so do those of all bins of the levels from the first on
-abbrev pub AllStand : Numbers → List ℕ → (BinAt → List Piece) → List (List BinAt) → Type 0
-AllStand s file held rows = (k : ℕ) → k < length rows → All (Stands s (k + 1) file held) (slice_index_or rows k [])
+abbrev pub AllStand : Numbers → ℕ → List ℕ → (BinAt → List Piece) → List (List BinAt) → Type 0
+AllStand s version file held rows = (k : ℕ) → k < length rows → All (Stands s version (k + 1) file held) (slice_index_or rows k [])
 
 -- the pieces of all bins, and their widths
 abbrev pub held_in : (BinAt → List Piece) → List (List BinAt) → List (List Piece)
@@ -25,19 +25,19 @@ abbrev pub widths_in : List (List BinAt) → List ℕ
 widths_in rows = flat_map (λ row. map width_of row) rows
 
 -- the frame of a bin of a level leaves its format at this byte
-pub record BinBreaks (s : Numbers) (level : ℕ) (bin : BinAt) (file : List ℕ) (at : ℕ) : Type 0 where
-  pub left : frame_left s level bin.frame (width_of bin) file ≡ Some at
+pub record BinBreaks (s : Numbers) (version level : ℕ) (bin : BinAt) (file : List ℕ) (at : ℕ) : Type 0 where
+  pub left : frame_left s version level bin.frame (width_of bin) file ≡ Some at
 
 -- that of one of a level's bins, or of one of all
-pub record RowBreaks (s : Numbers) (level : ℕ) (row : List BinAt) (file : List ℕ) (at : ℕ) : Type 0 where
+pub record RowBreaks (s : Numbers) (version level : ℕ) (row : List BinAt) (file : List ℕ) (at : ℕ) : Type 0 where
   pub bin : BinAt
   pub named : Contains row bin
-  pub breaks : BinBreaks s level bin file at
+  pub breaks : BinBreaks s version level bin file at
 
-pub record OneBreaks (s : Numbers) (rows : List (List BinAt)) (file : List ℕ) (at : ℕ) : Type 0 where
+pub record OneBreaks (s : Numbers) (version : ℕ) (rows : List (List BinAt)) (file : List ℕ) (at : ℕ) : Type 0 where
   pub number : ℕ
   pub within : number < length rows
-  pub breaks : RowBreaks s (number + 1) (slice_index_or rows number []) file at
+  pub breaks : RowBreaks s version (number + 1) (slice_index_or rows number []) file at
 
 -- what a refused piece is to a flush
 abbrev pub flush_fault : PieceFault → FlushFault

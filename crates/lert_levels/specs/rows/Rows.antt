@@ -49,10 +49,10 @@ abbrev pub tallied_in : Numbers → List ℕ → BinAt → List Piece
 tallied_in s events bin = tallied s (slice_range events bin.from bin.to)
 
 -- the frame of each bin holds them
-abbrev pub HoldsBins : Numbers → List ℕ → List (List BinAt) → List ℕ → Type 0
-HoldsBins s events rows file =
+abbrev pub HoldsBins : Numbers → ℕ → List ℕ → List (List BinAt) → List ℕ → Type 0
+HoldsBins s version events rows file =
     (level : ℕ) → 1 ≤ level → level ≤ s.levels →
-    All (λ bin. HoldsFrame s level bin.frame file (tallied_in s events bin)) (row_of rows level)
+    All (λ bin. HoldsFrame s version level bin.frame file (tallied_in s events bin)) (row_of rows level)
 
 -- a byte with the number of bins of each level, and behind it their frames, oldest first
 abbrev pub directory_text : List (List BinAt) → List ℕ

@@ -1,8 +1,8 @@
 -- Level 0 in memory: the bins of the newest positions, oldest first, each with a table of its own.
-use Rattle.std.specs.Prelude.{ℕ, suc, ◌≡◌, ◌≢◌, ◌+◌, ◌-◌, ◌*◌, ◌%◌, ◌<◌, ◌≤◌, ◌==◌, nat_lt, min, List, [], ◌∷◌, ◌++◌, length, map, if◌then◌else◌, slice_index_or, take, drop, sum_by}
+use Rattle.std.specs.Prelude.{ℕ, suc, ◌≡◌, ◌≢◌, ◌+◌, ◌-◌, ◌*◌, ◌%◌, ◌<◌, ◌≤◌, ◌==◌, nat_lt, All, min, List, [], ◌∷◌, ◌++◌, length, map, if◌then◌else◌, slice_index_or, take, drop, sum_by}
 use Rattle.lert_levels.specs.{declared.bound.pair.Pair.Pair, bound.Covers.CoversCounts}
 use Rattle.lert_base.specs.declared.count_table.CountTable.{Ghosts as TablesOf}
-use Rattle.lert_spec.specs.{declared.numbers.Numbers.Numbers, declared.piece.Piece.Piece, Bins.Bin, Edges.{span, capacity, quotient_bits, width}, Limits.IsValid, Table.{count_of, total, plus}}
+use Rattle.lert_spec.specs.{declared.numbers.Numbers.Numbers, declared.piece.Piece.Piece, Bins.Bin, Edges.{span, capacity, quotient_bits, width}, Limits.IsValid, Table.{count_of, costs, total, plus}}
 
 -- what level 0 is seen as: its settings, and the bins of the positions above `from`, up to `to`
 pub record Young : Type 0 where
@@ -11,28 +11,28 @@ pub record Young : Type 0 where
   pub to : ℕ
   pub bins : List Bin
 
--- the newest bin with one more event, of this tail at this position
-abbrev pub grown : List Bin → ℕ → ℕ → List Bin
-grown [] tail m = []
-grown (bin ∷ []) tail m = record { from = bin.from; to = m; pieces = plus bin.pieces tail 1 } ∷ []
-grown (bin ∷ next ∷ bins) tail m = bin ∷ grown (next ∷ bins) tail m
+-- the newest bin with one more event, of this tail and weight at this position
+abbrev pub grown : List Bin → ℕ → ℕ → ℕ → List Bin
+grown [] tail weight m = []
+grown (bin ∷ []) tail weight m = record { from = bin.from; to = m; pieces = plus bin.pieces tail weight } ∷ []
+grown (bin ∷ next ∷ bins) tail weight m = bin ∷ grown (next ∷ bins) tail weight m
 
 -- a bin of this event alone
-abbrev pub begun : ℕ → ℕ → Bin
-begun tail m = record { from = m - 1; to = m; pieces = record { tail = tail; count = 1 } ∷ [] }
+abbrev pub begun : ℕ → ℕ → ℕ → Bin
+begun tail weight m = record { from = m - 1; to = m; pieces = record { tail = tail; count = weight } ∷ [] }
 
 -- the bins with one more event: where its position is the first of an aligned interval it begins a bin of its own, and
 -- otherwise it is in the newest one
-abbrev pub added : Numbers → List Bin → ℕ → ℕ → List Bin
-added s bins tail m = if (m - 1) % span s 0 == 0 then bins ++ begun tail m ∷ [] else grown bins tail m
+abbrev pub added : Numbers → List Bin → ℕ → ℕ → ℕ → List Bin
+added s bins tail weight m = if (m - 1) % span s 0 == 0 then bins ++ begun tail weight m ∷ [] else grown bins tail weight m
 
 -- level 0 with one more event
-abbrev pub with_event : Young → ℕ → ℕ → Young
-with_event young tail m = record {
+abbrev pub with_event : Young → ℕ → ℕ → ℕ → Young
+with_event young tail weight m = record {
   settings = young.settings;
   from = if young.from == young.to then m - 1 else young.from;
   to = m;
-  bins = added young.settings young.bins tail m;
+  bins = added young.settings young.bins tail weight m;
 }
 
 -- a position that may be added: the one behind the last, or, where there is none, the first one of an aligned interval;
@@ -62,9 +62,11 @@ pub record IsOfZero (s : Numbers) (room quotient remainder : ℕ) : Type 0 where
   pub quotients : quotient ≡ quotient_bits s 0
   pub remainders : remainder ≡ width s 0
 
--- the table with this number has the events of its bin, and none where no position is in it
+-- the table with this number has the events of its bin, each added by itself with the weight 1, and none where no
+-- position is in it
 pub record IsFilled {T C : Type 0} (of : TablesOf T C) (s : Numbers) (from to number : ℕ) (table : T) : Type 0 where
   pub summed : total (of.pieces table) ≡ min (span s 0) (to - (from + number * span s 0))
+  pub by_one : of.adds table ≡ total (of.pieces table)
   pub unused : to ≤ from + number * span s 0 → of.pieces table ≡ []
   pub of_zero : IsOfZero s (of.room table) (of.quotient_bits table) (of.width table)
 
@@ -93,3 +95,7 @@ times_in pieces tables tail = sum_by (λ table. count_of (pieces table) tail) ta
 pub record AreBounded {T : Type 0} (pieces : T → List Piece) (s : Numbers) (tables : List T) (from to : ℕ) (pairs : List Pair) (earlier : ℕ) : Type 0 where
   pub full : from + earlier * span s 0 ≤ to
   pub covers : CoversCounts pairs (times_in pieces (take earlier tables)) (times_in pieces (drop earlier tables))
+
+-- the bins of level 0 may go into frames of this version: their counts cost no more positions than each has, and reach them
+abbrev pub AreLight : ℕ → List Bin → Type 0
+AreLight version bins = All (λ bin. (costs version bin.pieces ≤ bin.to - bin.from) × (bin.to - bin.from ≤ total bin.pieces)) bins

@@ -28,6 +28,7 @@ pub record Asked (before after : Option Files) (old new : BinSet) (stream : ℕ)
   pub here : was ≡ slice_index_or old.bins stream was
   pub put : new.bins ≡ slice_set old.bins stream becomes
   pub settings : new.settings ≡ old.settings
+  pub version : new.version ≡ old.version
   pub spare : new.spare ≡ old.spare
   pub answers : Answers before after was becomes result
 
@@ -36,19 +37,21 @@ pub record Begins (old new : BinSet) (level frame width : ℕ) : Type 0 where
   pub reader : FrameReader
   pub bins : new.bins ≡ old.bins ++ of_frame reader ∷ []
   pub settings : new.settings ≡ old.settings
+  pub version : new.version ≡ old.version
   pub spare : new.spare + 1 ≡ old.spare
-  pub left : (file : List ℕ) → left_of reader file ≡ frame_left old.settings level frame width file
-  pub pieces : (file : List ℕ) → pieces_of reader file ≡ frame_pieces old.settings level frame file
+  pub left : (file : List ℕ) → left_of reader file ≡ frame_left old.settings old.version level frame width file
+  pub pieces : (file : List ℕ) → pieces_of reader file ≡ frame_pieces old.settings old.version level frame file
   pub gave : reader.gave ≡ []
   pub of_settings : reader.settings ≡ old.settings
+  pub of_version : reader.version ≡ old.version
   pub of_level : reader.level ≡ level
-  pub place : reader.place ≡ frame_place old.settings level frame
+  pub place : reader.place ≡ frame_place old.settings old.version level frame
   pub wide : reader.wide ≡ width
 
 -- what a frame has to come before anything was read of it, and where it leaves its text
-abbrev pub frame_to_come : Option Files → Numbers → ℕ → ℕ → ℕ → Option (List Piece)
-frame_to_come None s level frame width = None
-frame_to_come (Some seen) s level frame width = if_whole (frame_left s level frame width (seen FRAMES)) (frame_pieces s level frame (seen FRAMES))
+abbrev pub frame_to_come : Option Files → Numbers → ℕ → ℕ → ℕ → ℕ → Option (List Piece)
+frame_to_come None s version level frame width = None
+frame_to_come (Some seen) s version level frame width = if_whole (frame_left s version level frame width (seen FRAMES)) (frame_pieces s version level frame (seen FRAMES))
 
-abbrev pub FrameLeavesAt : Option Files → Numbers → ℕ → ℕ → ℕ → ℕ → Type 0
-FrameLeavesAt told s level frame width at = (seen : Files) → told ≡ Some seen → frame_left s level frame width (seen FRAMES) ≡ Some at
+abbrev pub FrameLeavesAt : Option Files → Numbers → ℕ → ℕ → ℕ → ℕ → ℕ → Type 0
+FrameLeavesAt told s version level frame width at = (seen : Files) → told ≡ Some seen → frame_left s version level frame width (seen FRAMES) ≡ Some at

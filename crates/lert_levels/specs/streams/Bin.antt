@@ -2,7 +2,7 @@
 use Rattle.std.specs.Prelude.{ℕ, ◌≡◌, ◌+◌, ◌≤◌, ◌^◌, ◌&&◌, nat_lt, nat_le, Bool, true, if◌then◌else◌, Option, Some, None, List, [], ◌∷◌, ◌++◌}
 use Rattle.lert_bay.specs.Files.{Files}
 use Rattle.lert_frames.specs.{Apart.IsSure, Place.{frame_len, tail_limit}, ToCome.{told_of, Breaks}, declared.reader.FrameReader.FrameReader}
-use Rattle.lert_spec.specs.{declared.piece.Piece.Piece, Table.total}
+use Rattle.lert_spec.specs.{declared.piece.Piece.Piece, Table.costs}
 
 -- a table of tails below a limit: the pieces that it gave, and those that are left
 pub record TableBin : Type 0 where
@@ -54,15 +54,19 @@ abbrev pub LeavesAt : Option Files → Bin → ℕ → Type 0
 LeavesAt told (of_table table) at = ⊥
 LeavesAt told (of_frame r) at = Breaks told r at
 
--- what its counts add up to at most
-abbrev pub wide_of : Bin → ℕ
-wide_of (of_table table) = total (all_of table)
-wide_of (of_frame r) = r.wide
+-- the version by which its counts cost something, that of the set for a table, and what they cost at most
+abbrev pub version_of : ℕ → Bin → ℕ
+version_of version (of_table table) = version
+version_of version (of_frame r) = r.version
+
+abbrev pub wide_of : ℕ → Bin → ℕ
+wide_of version (of_table table) = costs version (all_of table)
+wide_of version (of_frame r) = r.wide
 
 -- a range of the file of frames that it reads: one within the frame's place
 abbrev pub ReadsIn : Bin → ℕ → ℕ → Type 0
 ReadsIn (of_table table) from to = ⊥
-ReadsIn (of_frame r) from to = (r.place ≤ from) × (to ≤ r.place + frame_len r.settings r.level)
+ReadsIn (of_frame r) from to = (r.place ≤ from) × (to ≤ r.place + frame_len r.settings r.version r.level)
 
 -- no write elsewhere in this file of frames changes what it has to come
 abbrev pub IsSureBin : Bin → List ℕ → Type 0
@@ -79,6 +83,7 @@ pub record IsSameTable (old new : TableBin) : Type 0 where
 -- the same frame
 pub record IsFrameOf (old new : FrameReader) : Type 0 where
   pub settings : new.settings ≡ old.settings
+  pub version : new.version ≡ old.version
   pub level : new.level ≡ old.level
   pub place : new.place ≡ old.place
   pub wide : new.wide ≡ old.wide

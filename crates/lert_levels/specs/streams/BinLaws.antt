@@ -69,12 +69,12 @@ leaves_same one two (of_frame r) at is = breaks_same two one r at is
 
 pub same_bin : (bin : Bin) → IsSameBin bin bin
 same_bin (of_table table) = record { limit = refl; all = refl }
-same_bin (of_frame r) = record { settings = refl; level = refl; place = refl; wide = refl }
+same_bin (of_frame r) = record { settings = refl; version = refl; level = refl; place = refl; wide = refl }
 
 same_bin_on : (a b c : Bin) → IsSameBin a b → IsSameBin b c → IsSameBin a c
 same_bin_on (of_table a) (of_table b) (of_table c) one two = record { limit = two.limit ∙ one.limit; all = two.all ∙ one.all }
 same_bin_on (of_frame a) (of_frame b) (of_frame c) one two =
-    record { settings = two.settings ∙ one.settings; level = two.level ∙ one.level; place = two.place ∙ one.place; wide = two.wide ∙ one.wide }
+    record { settings = two.settings ∙ one.settings; version = two.version ∙ one.version; level = two.level ∙ one.level; place = two.place ∙ one.place; wide = two.wide ∙ one.wide }
 same_bin_on (of_table a) (of_frame b) c one two = absurd one
 same_bin_on (of_frame a) (of_table b) c one two = absurd one
 same_bin_on (of_table a) (of_table b) (of_frame c) one two = absurd two
@@ -93,11 +93,12 @@ same_bins_on [] [] (c ∷ cs) one two = absurd two
 same_bins_on (a ∷ front) (b ∷ bs) [] one two = absurd two
 
 pub same_set : (set : BinSet) → IsSameSet set set
-same_set set = record { settings = refl; bins = same_bins set.bins; spare = refl }
+same_set set = record { settings = refl; version = refl; bins = same_bins set.bins; spare = refl }
 
 pub same_set_on : (a b c : BinSet) → IsSameSet a b → IsSameSet b c → IsSameSet a c
 same_set_on a b c one two = record {
   settings = two.settings ∙ one.settings;
+  version = two.version ∙ one.version;
   bins = same_bins_on a.bins b.bins c.bins one.bins two.bins;
   spare = two.spare ∙ one.spare;
 }

@@ -3,9 +3,10 @@ use Rattle.std.specs.Prelude.{ℕ, ◌≡◌, ◌⊎◌, List, [], ◌∷◌}
 use Rattle.lert_spec.specs.declared.numbers.Numbers.{Numbers}
 use Rattle.lert_levels.specs.streams.Bin.{Bin, IsSureBin, ReadsIn, IsSameBin}
 
--- the bins, those of tables first, and how many more frames can be begun
+-- the bins, those of tables first, of files of a version, and how many more frames can be begun
 pub record BinSet : Type 0 where
   pub settings : Numbers
+  pub version : ℕ
   pub bins : List Bin
   pub spare : ℕ
 
@@ -29,5 +30,6 @@ AreSameBins (old ∷ olds) [] = ⊥
 -- the same bins, of the same cone, beside as many free readers
 pub record IsSameSet (old new : BinSet) : Type 0 where
   pub settings : new.settings ≡ old.settings
+  pub version : new.version ≡ old.version
   pub bins : AreSameBins old.bins new.bins
   pub spare : new.spare ≡ old.spare

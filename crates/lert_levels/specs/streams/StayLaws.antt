@@ -2,41 +2,55 @@
 use Rattle.std.proofs.Common.{ℕ, zero, suc, ◌≡◌, ◌<◌, ◌≤◌, ◌+◌, ◌↔◌, min, Option, Some, None, List, [], ◌∷◌, length, refl, sym, ap, ◌∙◌, inl, inr, ⊎_elim, arith}
 use Rattle.lert_bay.specs.{declared.bay.TheConstants.FRAMES, Files.Files}
 use Rattle.lert_frames.specs.{Apart.SamePlace, Place.frame_len, ToCome.{left_of, Breaks}, declared.reader.FrameReader.FrameReader}
-use Rattle.lert_frames.proofs.{ApartLaws.{told_stays, breaks_stay, sure_stays as reader_sure}, ReadingLaws.total-append, ToComeLaws.given_within}
+use Rattle.lert_frames.proofs.{ApartLaws.{told_stays, breaks_stay, sure_stays as reader_sure}, ToComeLaws.given_within}
 use Rattle.lert_merge.specs.order.Members.{given_at, limit_at}
-use Rattle.lert_levels.specs.{rows.Landing.LeavesRest, streams.Bin.{Bin, of_table, of_frame, to_come_of, given_of, LeavesAt, wide_of, ReadsIn, IsSureBin, IsSameBin, IsFrameOf}}
+use Rattle.lert_levels.specs.{rows.Landing.LeavesRest, streams.Bin.{Bin, of_table, of_frame, to_come_of, given_of, LeavesAt, version_of, wide_of, ReadsIn, IsSureBin, IsSameBin, IsFrameOf}}
 use Rattle.lert_levels.specs.{streams.BinSet.{Reads, AreSure, AreSameBins}, streams.SetLaws.{to_come_at, LeavesIn}}
-use Rattle.lert_spec.specs.Table.{total}
+use Rattle.lert_spec.specs.Table.{costs}
+use Rattle.lert_levels.specs.landing.CostLaws.{costs-append}
 
 -- ---- widths
 
-within_width : (bin : Bin) → total (given_of bin) ≤ wide_of bin
-within_width (of_table table) = omega (arith, total-append table.given table.left)
-within_width (of_frame r) = given_within r
+within_width : (version : ℕ) (bin : Bin) → costs (version_of version bin) (given_of bin) ≤ wide_of version bin
+within_width version (of_table table) = omega (arith, costs-append version table.given table.left)
+within_width version (of_frame r) = given_within r
 
-pub set_within : (bins : List Bin) (k : ℕ) → k < length bins → total (given_at given_of bins k) ≤ limit_at wide_of bins k
-set_within [] k within = absurd (omega arith)
-set_within (bin ∷ bins) zero within = within_width bin
-set_within (bin ∷ bins) (suc k) within = set_within bins k (omega arith)
+pub set_within : (version : ℕ) (bins : List Bin) (k : ℕ) → k < length bins → costs (limit_at (version_of version) bins k) (given_at given_of bins k) ≤ limit_at (wide_of version) bins k
+set_within version [] k within = absurd (omega arith)
+set_within version (bin ∷ bins) zero within = within_width version bin
+set_within version (bin ∷ bins) (suc k) within = set_within version bins k (omega arith)
 
 -- ---- the same bins
 
-same_width : (old new : Bin) → IsSameBin old new → wide_of new ≡ wide_of old
-same_width (of_table old) (of_table new) same = ap total same.all
-same_width (of_frame old) (of_frame new) same = same.wide
-same_width (of_table old) (of_frame new) same = absurd same
-same_width (of_frame old) (of_table new) same = absurd same
+same_width : (version : ℕ) (old new : Bin) → IsSameBin old new → wide_of version new ≡ wide_of version old
+same_width version (of_table old) (of_table new) same = ap (costs version) same.all
+same_width version (of_frame old) (of_frame new) same = same.wide
+same_width version (of_table old) (of_frame new) same = absurd same
+same_width version (of_frame old) (of_table new) same = absurd same
 
-pub set_same_width : (old new : List Bin) (k : ℕ) → AreSameBins old new → limit_at wide_of new k ≡ limit_at wide_of old k
-set_same_width [] [] k same = refl
-set_same_width (old ∷ olds) (new ∷ news) zero same = same_width old new same.0
-set_same_width (old ∷ olds) (new ∷ news) (suc k) same = set_same_width olds news k same.1
-set_same_width [] (new ∷ news) k same = absurd same
-set_same_width (old ∷ olds) [] k same = absurd same
+same_version : (version : ℕ) (old new : Bin) → IsSameBin old new → version_of version new ≡ version_of version old
+same_version version (of_table old) (of_table new) same = refl
+same_version version (of_frame old) (of_frame new) same = same.version
+same_version version (of_table old) (of_frame new) same = absurd same
+same_version version (of_frame old) (of_table new) same = absurd same
+
+pub set_same_width : (one two : ℕ) (old new : List Bin) (k : ℕ) → two ≡ one → AreSameBins old new → limit_at (wide_of two) new k ≡ limit_at (wide_of one) old k
+set_same_width one two [] [] k is same = refl
+set_same_width one two (old ∷ olds) (new ∷ news) zero is same = ap (λ (version : ℕ). wide_of version new) is ∙ same_width one old new same.0
+set_same_width one two (old ∷ olds) (new ∷ news) (suc k) is same = set_same_width one two olds news k is same.1
+set_same_width one two [] (new ∷ news) k is same = absurd same
+set_same_width one two (old ∷ olds) [] k is same = absurd same
+
+pub set_same_version : (one two : ℕ) (old new : List Bin) (k : ℕ) → two ≡ one → AreSameBins old new → limit_at (version_of two) new k ≡ limit_at (version_of one) old k
+set_same_version one two [] [] k is same = refl
+set_same_version one two (old ∷ olds) (new ∷ news) zero is same = ap (λ (version : ℕ). version_of version new) is ∙ same_version one old new same.0
+set_same_version one two (old ∷ olds) (new ∷ news) (suc k) is same = set_same_version one two olds news k is same.1
+set_same_version one two [] (new ∷ news) k is same = absurd same
+set_same_version one two (old ∷ olds) [] k is same = absurd same
 
 -- the end of a frame's place
-end_same : (old new : FrameReader) → IsFrameOf old new → new.place + frame_len new.settings new.level ≡ old.place + frame_len old.settings old.level
-end_same old new same = λ i. same.place i + frame_len (same.settings i) (same.level i)
+end_same : (old new : FrameReader) → IsFrameOf old new → new.place + frame_len new.settings new.version new.level ≡ old.place + frame_len old.settings old.version old.level
+end_same old new same = λ i. same.place i + frame_len (same.settings i) (same.version i) (same.level i)
 
 same_reads : (old new : Bin) (from to : ℕ) → IsSameBin old new → ReadsIn new from to → ReadsIn old from to
 same_reads (of_table old) (of_table new) from to same reads = reads
@@ -100,7 +114,7 @@ module _ (one two : Option Files) (seen later : Files) (told : one ≡ Some seen
   bin_stays : (bin : Bin) → IsSureBin bin (seen FRAMES) → ((from to : ℕ) → ReadsIn bin from to → kept from to) → Stays one two later bin
   bin_stays (of_table table) sure law = record { coming = refl; breaking = λ at. ((λ no. no), (λ no. no)); sure = tt }
   bin_stays (of_frame r) sure law =
-      let same = same_place kept seen later rest r.place (frame_len r.settings r.level) law in
+      let same = same_place kept seen later rest r.place (frame_len r.settings r.version r.level) law in
       record {
         coming = sym (told_stays r one two seen later told told_later sure same);
         breaking = λ at. let both = breaks_stay r one two seen later told told_later sure same at in (both.1, both.0);

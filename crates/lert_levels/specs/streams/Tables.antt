@@ -1,6 +1,6 @@
 -- The tables of a flush and their cursors, as bins.
 use Rattle.std.specs.Prelude.{ℕ, ◌≡◌, ◌*◌, ◌≤◌, ◌^◌, List, [], ◌∷◌, ◌++◌, length, map, take}
-use Rattle.lert_frames.specs.declared.reader.FrameReader.{FrameReader}
+use Rattle.lert_frames.specs.{Place.IsVersion, declared.reader.FrameReader.FrameReader}
 use Rattle.lert_spec.specs.{declared.numbers.Numbers.Numbers, declared.piece.Piece.Piece, Table.AreGiven}
 use Rattle.lert_levels.specs.streams.Bin.{TableBin, Bin, of_table, of_frame, all_of}
 
@@ -51,7 +51,8 @@ pub record AreReaders (s : Numbers) (readers : List FrameReader) : Type 0 where
 
 -- what stands between two calls: there is memory for a cursor of each table of level 0
 pub record IsBinSet {T K : Type 0} (bits : T → ℕ) (left : T → K → List Piece) (gave : K → List Piece) (stands : T → K → Type 0)
-    (s : Numbers) (tables : List T) (cursors : List K) (capacity : ℕ) (readers : List FrameReader) (frames : ℕ) : Type 0 where
+    (s : Numbers) (version : ℕ) (tables : List T) (cursors : List K) (capacity : ℕ) (readers : List FrameReader) (frames : ℕ) : Type 0 where
+  pub known : IsVersion version
   pub standing : Stand stands tables cursors
   pub ordered : AreOrdered (bins_at bits left gave tables cursors)
   pub few : length tables ≤ 16

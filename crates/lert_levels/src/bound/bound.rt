@@ -38,15 +38,15 @@ impl Bound {
         Ok(Bound { pairs })
     }
 
-    /// One event more of this tail.
-    pub fn add(&mut self, tail: u64)
-        ensures bytes { self.new ≡ slice_set self.old (tail % length self.old) (risen (pair_of self.old tail)) }
+    /// So much more of this tail.
+    pub fn add(&mut self, tail: u64, weight: u8)
+        ensures bytes { self.new ≡ slice_set self.old (tail % length self.old) (risen weight (pair_of self.old tail)) }
         ensures counts { (before present : ℕ → ℕ) → CoversCounts self.old before present
-            → CoversCounts self.new before (λ other. present other + (if other == tail then 1 else 0)) }
+            → CoversCounts self.new before (λ other. present other + (if other == tail then weight else 0)) }
     {
         let place = place_of(tail, self.pairs.len() as u64) as usize;
         let pair = &mut self.pairs[place];
-        pair.present = pair.present.saturating_add(1);
+        pair.present = pair.present.saturating_add(weight);
     }
 
     /// The present generation becomes the one before, which is forgotten, and a new one begins.

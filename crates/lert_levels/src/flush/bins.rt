@@ -5,7 +5,7 @@ ghost use Rattle.lert_bay.specs.declared.bay.TheConstants.{FRAMES};
 ghost use Rattle.lert_bay.specs.Files.{Files};
 ghost use Rattle.lert_bay.specs.Kept.{OnlyReads};
 ghost use Rattle.lert_levels.specs.rows.Landing.{LeavesRest};
-ghost use Rattle.lert_spec.specs.Table.{total};
+ghost use Rattle.lert_spec.specs.Table.{costs};
 ghost use Rattle.lert_levels.specs.flush.Staying.{NoneFailed, ComesTheSame};
 
 use lert_bay::Bay;
@@ -13,7 +13,10 @@ use lert_merge::Streams;
 
 /// The bins of a flush: streams over a bay, of which those on disk read the file of frames while other places of it are written.
 pub trait Bins<B: Bay>: Streams<B> {
-    /// What the counts of a stream add up to at most.
+    /// The version of the files by which the counts of a stream cost something.
+    ghost version: { Self → ℕ → ℕ };
+
+    /// What they cost at most.
     ghost width: { Self → ℕ → ℕ };
 
     /// The ranges of the file of frames that they read.
@@ -22,10 +25,12 @@ pub trait Bins<B: Bay>: Streams<B> {
     /// A file of frames of which no write elsewhere changes what they have to come.
     ghost sure: { Self → List ℕ → Type 0 };
 
-    /// What a stream gave adds up to no more than its width.
-    ghost summed: { (bins : Self) (stream : ℕ) → stream < Self.count bins → total (Self.given bins stream) ≤ width bins stream };
+    /// What a stream gave costs no more than its width.
+    ghost summed: { (bins : Self) (stream : ℕ) → stream < Self.count bins → costs (version bins stream) (Self.given bins stream) ≤ width bins stream };
 
-    /// Calls change neither the widths, nor what is read, nor which files are sure.
+    /// Calls change neither the versions and widths, nor what is read, nor which files are sure.
+    ghost version_same: { (old new : Self) → Self.same old new → (stream : ℕ) → version new stream ≡ version old stream };
+
     ghost width_same: { (old new : Self) → Self.same old new → (stream : ℕ) → width new stream ≡ width old stream };
 
     ghost reads_same: { (old new : Self) → Self.same old new → (from to : ℕ) → reads new from to → reads old from to };

@@ -34,19 +34,19 @@ pub fn merge_bins<B: Bay, S: Bins<B>, O: Totals>(
 ) -> Result<(), PieceFault>
     requires unread { IsUnread S.Streams order.old }
     requires parts { AreParts parts.now (S.count order.old.streams) (length landings.old) }
-    requires room { HaveRoom S.Streams S.width order.old.streams parts.now landings.old }
+    requires room { HaveRoom S.Streams S.version S.width order.old.streams parts.now landings.old }
     requires apart { (from to : ℕ) → S.reads order.old.streams from to → IsOutside landings.old from to }
     requires sure { IfTold (B.files bay.old) (λ seen. S.sure order.old.streams (seen FRAMES)) }
     requires totals { O.took totals.old [] }
-    ensures merged { OnOk result (IsMerged S.Streams S.width O.took order.old.streams bay.old parts.now landings.new totals.new) }
+    ensures merged { OnOk result (IsMerged S.Streams S.version S.width O.took order.old.streams bay.old parts.now landings.new totals.new) }
     ensures took { OnOk result ((s : Numbers) →
         ((k : ℕ) → k < S.count order.old.streams → S.limit order.old.streams k ≤ tail_limit s) →
         (list : List Piece) × (IsTable (tail_limit s) list × O.took totals.new list)) }
-    ensures landing { (s : Numbers) → AreLandings s landings.old →
+    ensures landing { (s : Numbers) (version : ℕ) → AreLandings s version landings.old →
         IfTold (B.files bay.old) (λ seen. AreLanding landings.old (seen FRAMES) →
         IfTold (B.files bay.new) (λ after. AreLanding landings.new (after FRAMES))) }
     ensures homes { map home landings.new ≡ map home landings.old }
-    ensures landings { (s : Numbers) → AreLandings s landings.old → AreLandings s landings.new }
+    ensures landings { (s : Numbers) (version : ℕ) → AreLandings s version landings.old → AreLandings s version landings.new }
 
     // A fault is that of the bay as it was.
     ensures sound { (lists : List (List Piece)) → AreToCome S.Streams order.old.streams bay.old lists → (at : ℕ) →

@@ -25,7 +25,7 @@ pub fn merge_all<B: Bay, S: Bins<B>, O: Totals>(
     requires wide { (widths : List ℕ) × AreWide S.width order.old.streams widths (S.count order.old.streams) }
     requires totals { O.took totals.old [] }
     ensures merged { OnOk result ((lists : List (List Piece)) ×
-        AreTaken S.Streams S.width O.took order.old.streams bay.old totals.new lists) }
+        AreTaken S.Streams S.version S.width O.took order.old.streams bay.old totals.new lists) }
     ensures took { OnOk result ((s : Numbers) →
         ((k : ℕ) → k < S.count order.old.streams → S.limit order.old.streams k ≤ tail_limit s) →
         (list : List Piece) × (IsTable (tail_limit s) list × O.took totals.new list)) }

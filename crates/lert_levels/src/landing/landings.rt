@@ -32,7 +32,7 @@ pub fn add_to<B: Bay>(
     ensures failed { OnErr result (map taken landings.new ≡ slice_set (map taken landings.old) part []) }
     ensures others { (k : ℕ) (d : Landing) → k ≢ part → slice_index_or landings.new k d ≡ slice_index_or landings.old k d }
     ensures homes { map home landings.new ≡ map home landings.old }
-    ensures landing { (s : Numbers) → AreLandings s landings.old →
+    ensures landing { (s : Numbers) (version : ℕ) → AreLandings s version landings.old →
         IfTold (B.files bay.old) (λ seen. AreLanding landings.old (seen FRAMES) →
         IfTold (B.files bay.new) (λ after. AreLanding landings.new (after FRAMES))) }
     ensures rest { KeepsRest B.Bay (IsOutside landings.old) bay.old bay.new }
@@ -44,9 +44,9 @@ pub fn add_to<B: Bay>(
 
 /// Ends the frames of all landings: what each took stands in its frame then. It is durable after a sync of the file of frames.
 pub fn end_all<B: Bay>(landings: &mut [Landing], bay: &mut B) -> Result<(), Failed>
-    ensures stand { OnOk result ((s : Numbers) → AreLandings s landings.old →
+    ensures stand { OnOk result ((s : Numbers) (version : ℕ) → AreLandings s version landings.old →
         IfTold (B.files bay.old) (λ seen. AreLanding landings.old (seen FRAMES) →
-        IfTold (B.files bay.new) (λ after. HaveEnded s landings.old (after FRAMES)))) }
+        IfTold (B.files bay.new) (λ after. HaveEnded s version landings.old (after FRAMES)))) }
     ensures homes { map home landings.new ≡ map home landings.old }
     ensures rest { KeepsRest B.Bay (IsOutside landings.old) bay.old bay.new }
     ensures kept { KeepsBay B.Bay bay.old bay.new (IsErr result) }

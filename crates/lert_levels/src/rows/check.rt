@@ -4,6 +4,7 @@ ghost use Rattle.std.specs.Prelude.{◌≡◌, ℕ, ◌<◌, ◌≤◌, ◌^◌,
 ghost use Rattle.lert_bay.specs.declared.bay.TheConstants.{FRAMES};
 ghost use Rattle.lert_bay.specs.Files.{IfTold};
 ghost use Rattle.lert_bay.specs.Kept.{OnlyReads};
+ghost use Rattle.lert_frames.specs.Place.{IsVersion};
 ghost use Rattle.lert_spec.specs.Edges.{span};
 ghost use Rattle.lert_levels.specs.rows.Checked.{pieces_in, RowStands, EachStands, bin_left, row_left, rows_left};
 ghost use Rattle.lert_levels.specs.rows.Loading.{width_of, Stands};
@@ -19,22 +20,24 @@ use lert_frames::FrameReader;
 /// takes no memory.
 pub fn check_rows<B: Bay>(
     settings: &Settings,
+    version: u8,
     rows: &[Row],
     reader: &mut FrameReader,
     bay: &mut B,
 ) -> Result<(), PieceFault>
+    requires version { IsVersion version }
     requires rows { AreFirst settings.now rows.now }
     requires reader { reader.old.settings ≡ settings.now }
-    ensures stand { IfTold (B.files bay.old) (λ seen. OnOk result (EachStands settings.now (seen FRAMES) rows.now)) }
-    ensures whole { IfTold (B.files bay.old) (λ seen. OnOk result (rows_left settings.now (seen FRAMES) rows.now ≡ None)) }
+    ensures stand { IfTold (B.files bay.old) (λ seen. OnOk result (EachStands settings.now version (seen FRAMES) rows.now)) }
+    ensures whole { IfTold (B.files bay.old) (λ seen. OnOk result (rows_left settings.now version (seen FRAMES) rows.now ≡ None)) }
     ensures malformed { IfTold (B.files bay.old) (λ seen. (at : ℕ) → IsErrOf result (PieceFault.Malformed at) →
-        rows_left settings.now (seen FRAMES) rows.now ≡ Some at) }
+        rows_left settings.now version (seen FRAMES) rows.now ≡ Some at) }
     ensures reader { reader.new.settings ≡ settings.now }
     ensures only_reads { OnlyReads B.Bay bay.old bay.new (IsErrOf result PieceFault.Failed) }
 {
     let _valid = settings.numbers();
     for (lower, row) in rows.iter().enumerate() {
-        check_row(reader, lower as u32 + 1, row.bins(), bay)?;
+        check_row(reader, version, lower as u32 + 1, row.bins(), bay)?;
     }
     Ok(())
 }
@@ -42,22 +45,24 @@ pub fn check_rows<B: Bay>(
 // Reads the frame of each bin of a level's row, the oldest first.
 fn check_row<B: Bay>(
     reader: &mut FrameReader,
+    version: u8,
     level: u32,
     row: &[BinAt],
     bay: &mut B,
 ) -> Result<(), PieceFault>
+    requires version { IsVersion version }
     requires first { 1 ≤ level }
     requires last { level ≤ reader.old.settings.levels }
     requires row { IsRow reader.old.settings level row.now }
-    ensures stand { IfTold (B.files bay.old) (λ seen. OnOk result (RowStands reader.old.settings (seen FRAMES) level row.now)) }
-    ensures whole { IfTold (B.files bay.old) (λ seen. OnOk result (row_left reader.old.settings (seen FRAMES) level row.now ≡ None)) }
+    ensures stand { IfTold (B.files bay.old) (λ seen. OnOk result (RowStands reader.old.settings version (seen FRAMES) level row.now)) }
+    ensures whole { IfTold (B.files bay.old) (λ seen. OnOk result (row_left reader.old.settings version (seen FRAMES) level row.now ≡ None)) }
     ensures malformed { IfTold (B.files bay.old) (λ seen. (at : ℕ) → IsErrOf result (PieceFault.Malformed at) →
-        row_left reader.old.settings (seen FRAMES) level row.now ≡ Some at) }
+        row_left reader.old.settings version (seen FRAMES) level row.now ≡ Some at) }
     ensures settings { reader.new.settings ≡ reader.old.settings }
     ensures only_reads { OnlyReads B.Bay bay.old bay.new (IsErrOf result PieceFault.Failed) }
 {
     for bin in row {
-        check_bin(reader, level, bin, bay)?;
+        check_bin(reader, version, level, bin, bay)?;
     }
     Ok(())
 }
@@ -65,25 +70,27 @@ fn check_row<B: Bay>(
 // Reads the frame of a bin of a level, and lets its pieces go.
 fn check_bin<B: Bay>(
     reader: &mut FrameReader,
+    version: u8,
     level: u32,
     bin: &BinAt,
     bay: &mut B,
 ) -> Result<(), PieceFault>
+    requires version { IsVersion version }
     requires first { 1 ≤ level }
     requires last { level ≤ reader.old.settings.levels }
     requires frame { bin.now.frame ≤ reader.old.settings.bins }
     requires some { bin.now.from < bin.now.to }
     requires width { width_of bin.now ≤ span reader.old.settings level }
     requires end { bin.now.to < 2 ^ 32 }
-    ensures stand { IfTold (B.files bay.old) (λ seen. OnOk result (Stands reader.old.settings level (seen FRAMES) (pieces_in reader.old.settings (seen FRAMES) level) bin.now)) }
-    ensures whole { IfTold (B.files bay.old) (λ seen. OnOk result (bin_left reader.old.settings (seen FRAMES) level bin.now ≡ None)) }
+    ensures stand { IfTold (B.files bay.old) (λ seen. OnOk result (Stands reader.old.settings version level (seen FRAMES) (pieces_in reader.old.settings version (seen FRAMES) level) bin.now)) }
+    ensures whole { IfTold (B.files bay.old) (λ seen. OnOk result (bin_left reader.old.settings version (seen FRAMES) level bin.now ≡ None)) }
     ensures malformed { IfTold (B.files bay.old) (λ seen. (at : ℕ) → IsErrOf result (PieceFault.Malformed at) →
-        bin_left reader.old.settings (seen FRAMES) level bin.now ≡ Some at) }
+        bin_left reader.old.settings version (seen FRAMES) level bin.now ≡ Some at) }
     ensures settings { reader.new.settings ≡ reader.old.settings }
     ensures only_reads { OnlyReads B.Bay bay.old bay.new (IsErrOf result PieceFault.Failed) }
 {
     let frame = u32::from(bin.frame);
     let width = bin.to - bin.from;
-    reader.start_at(level, frame, width);
-    reader.check(bay, frame, width)
+    reader.start_at(version, level, frame, width);
+    reader.check(bay, version, frame, width)
 }

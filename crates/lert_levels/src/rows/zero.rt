@@ -2,9 +2,9 @@
 
 ghost use Rattle.std.specs.Prelude.{◌≡◌, ◌≢◌, ℕ, ◌+◌, ◌-◌, ◌*◌, ◌/◌, ◌%◌, ◌^◌, ◌<◌, ◌≤◌, ◌==◌, if◌then◌else◌, false, ◌++◌, [], All, drop, length, map, IfOk, OnOk, sum_by};
 ghost use Rattle.lert_levels.specs.bound.Covers.{CoversCounts};
-ghost use Rattle.lert_spec.specs.Edges.{span, quotient_bits, width};
+ghost use Rattle.lert_spec.specs.Edges.{span, quotient_bits, width, tail_bits};
 ghost use Rattle.lert_spec.specs.Table.{count_of, total, AreGiven};
-ghost use Rattle.lert_levels.specs.rows.Young.{with_event, IsNextPosition, IsOfZero};
+ghost use Rattle.lert_levels.specs.rows.Young.{with_event, AreLight, IsNextPosition, IsOfZero};
 
 use crate::bound::Bound;
 use crate::rows::extent::Extent;
@@ -78,14 +78,14 @@ impl<T: CountTable> Zero<T> {
     /// Counts an event of this tail at position `m`, which is the position behind the last one, or, where there is none, the
     /// first one of an aligned interval. A bin that `m` begins needs a free table.
     pub fn add(&mut self, tail: u64, m: u64)
-        requires below { tail < 2 ^ (64 - self.old.settings.cone_bits) }
+        requires below { tail < 2 ^ tail_bits self.old.settings }
         requires position { IsNextPosition self.old m }
-        ensures { self.new ≡ with_event self.old tail m }
+        ensures { self.new ≡ with_event self.old tail 1 m }
     {
         self.extent.grow(m, self.settings.span(0));
         let newest = self.extent.bins - 1;
         self.tables[newest as usize].add(tail, 1);
-        self.bound.add(tail);
+        self.bound.add(tail, 1);
     }
 
     /// How often a tail was added, over all bins. It looks into each table.
@@ -120,9 +120,10 @@ impl<T: CountTable> Zero<T> {
     pub fn tables(&self) -> &[T]
         ensures pieces { map T.pieces result.now ≡ map (λ bin. bin.pieces) self.now.bins }
         ensures of_zero { All (λ table. IsOfZero self.now.settings (T.room table) (T.quotient_bits table) (T.width table)) result.now }
-        ensures rooms { All (λ table. (T.room table ≤ 2 ^ 47)
-            × (T.quotient_bits table + T.width table ≡ 64 - self.now.settings.cone_bits)) result.now }
+        ensures rooms { All (λ table. (T.room table ≤ 2 ^ 39)
+            × (T.quotient_bits table + T.width table ≡ tail_bits self.now.settings)) result.now }
         ensures widths { All (λ bin. total bin.pieces ≡ bin.to - bin.from) self.now.bins }
+        ensures light { (version : ℕ) → AreLight version self.now.bins }
         ensures narrow { All (λ bin. bin.to - bin.from ≤ span self.now.settings 0) self.now.bins }
         ensures some { self.now.from < self.now.to → 1 ≤ length self.now.bins }
         ensures few { length self.now.bins ≤ self.now.settings.bins }
@@ -180,6 +181,7 @@ fn places(settings: &Settings) -> usize
 // A table for the events of a bin of level 0.
 fn empty_table<T: CountTable>(alloc: Global, settings: &Settings) -> Result<T, OutOfMemory>
     ensures empty { IfOk result (λ table. T.pieces table ≡ []) }
+    ensures adds { IfOk result (λ table. T.adds table ≡ 0) }
     ensures room { IfOk result (λ table. T.room table ≡ span settings.now 0) }
     ensures quotient_bits { IfOk result (λ table. T.quotient_bits table ≡ quotient_bits settings.now 0) }
     ensures width { IfOk result (λ table. T.width table ≡ width settings.now 0) }

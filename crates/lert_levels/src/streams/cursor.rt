@@ -16,13 +16,13 @@ pub struct TableCursor<T: CountTable> {
 impl<T: CountTable> TableCursor<T> {
     // A cursor before the first piece of a table.
     pub(crate) fn start(table: &T) -> TableCursor<T>
-        requires { T.room table.now ≤ 2 ^ 47 }
+        requires { T.room table.now ≤ 2 ^ 39 }
         ensures stands { T.stands table.now result.place }
         ensures left { T.left table.now result.place ≡ T.pieces table.now }
         ensures gave { result.gave ≡ [] }
         ensures given { AreGiven (2 ^ (T.quotient_bits table.now + T.width table.now)) (T.pieces table.now) }
     {
-        let _in_room = table.events();
+        let _in_room = table.adds();
         TableCursor {
             place: table.start(),
             gave: Seen::new(),

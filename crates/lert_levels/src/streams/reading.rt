@@ -73,20 +73,24 @@ impl<'a, T: CountTable, B: Bay> Streams<B> for BinStreams<'a, T> {
 impl<'a, T: CountTable, B: Bay> Bins<B> for BinStreams<'a, T> {
     ghost use Rattle.std.proofs.Common.{refl, sym, ◌∙◌};
     ghost use Rattle.lert_merge.specs.order.Members.{limit_at};
-    ghost use Rattle.lert_levels.specs.streams.Bin.{wide_of};
+    ghost use Rattle.lert_levels.specs.streams.Bin.{version_of, wide_of};
     ghost use Rattle.lert_levels.specs.streams.BinSet.{Reads, AreSure};
-    ghost use Rattle.lert_levels.specs.streams.StayLaws.{set_within, set_same_width, set_same_reads, set_same_sure, set_coming, set_breaking, set_sure};
+    ghost use Rattle.lert_levels.specs.streams.StayLaws.{set_within, set_same_version, set_same_width, set_same_reads, set_same_sure, set_coming, set_breaking, set_sure};
     ghost use Rattle.lert_levels.specs.streams.SetLaws.{set_told, set_leaves};
 
-    ghost width = { λ set k. limit_at wide_of set.bins k };
+    ghost version = { λ set k. limit_at (version_of set.version) set.bins k };
+
+    ghost width = { λ set k. limit_at (wide_of set.version) set.bins k };
 
     ghost reads = { λ set from to. Reads set.bins from to };
 
     ghost sure = { λ set file. AreSure set.bins file };
 
-    ghost summed = { λ set k within. set_within set.bins k within };
+    ghost summed = { λ set k within. set_within set.version set.bins k within };
 
-    ghost width_same = { λ old new same k. set_same_width old.bins new.bins k same.bins };
+    ghost version_same = { λ old new same k. set_same_version old.version new.version old.bins new.bins k same.version same.bins };
+
+    ghost width_same = { λ old new same k. set_same_width old.version new.version old.bins new.bins k same.version same.bins };
 
     ghost reads_same = { λ old new same from to reads. set_same_reads old.bins new.bins from to same.bins reads };
 

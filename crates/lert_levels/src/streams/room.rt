@@ -5,10 +5,10 @@ ghost use Rattle.lert_bay.specs.declared.bay.TheConstants.{FRAMES};
 ghost use Rattle.lert_bay.specs.Files.{Files, IfTold};
 ghost use Rattle.lert_bay.specs.Kept.{OnlyReads};
 ghost use Rattle.lert_frames.specs.Frame.{frame_left};
-ghost use Rattle.lert_frames.specs.Place.{frame_place, frame_len};
+ghost use Rattle.lert_frames.specs.Place.{frame_place, frame_len, IsVersion};
 ghost use Rattle.lert_spec.specs.Edges.{span};
 ghost use Rattle.lert_merge.specs.order.Members.{given_at, limit_at};
-ghost use Rattle.lert_spec.specs.Table.{total};
+ghost use Rattle.lert_spec.specs.Table.{costs};
 ghost use Rattle.lert_levels.specs.streams.Bin.{of_table, given_of, limit_of, wide_of};
 ghost use Rattle.lert_levels.specs.streams.BinSet.{AreSure, Reads};
 ghost use Rattle.lert_levels.specs.streams.SetLaws.{to_come_at};
@@ -60,11 +60,14 @@ impl<T: CountTable> StreamRoom<T> {
         })
     }
 
-    /// Begins the streams of tables: a cursor before the first piece of each, and no frame yet. It reads nothing.
-    pub fn begin<'a>(self, tables: &'a [T]) -> BinStreams<'a, T>
+    /// Begins the streams of tables beside frames of this version: a cursor before the first piece of each, and no frame
+    /// yet. It reads nothing.
+    pub fn begin<'a>(self, version: u8, tables: &'a [T]) -> BinStreams<'a, T>
+        requires version { IsVersion version }
         requires few { length tables.now ≤ self.bins }
-        requires rooms { All (λ table. T.room table ≤ 2 ^ 47) tables.now }
+        requires rooms { All (λ table. T.room table ≤ 2 ^ 39) tables.now }
         ensures settings { result.settings ≡ self }
+        ensures version { result.version ≡ version }
         ensures bins { result.bins ≡ map of_table (map (fresh_bin (λ table. T.quotient_bits table + T.width table) T.pieces) tables.now) }
         ensures spare { result.spare ≡ self.bins * self.levels }
         ensures count { length result.bins ≡ length tables.now }
@@ -76,7 +79,7 @@ impl<T: CountTable> StreamRoom<T> {
         ensures limit { (k : ℕ) (d : T) → k < length tables.now → limit_at limit_of result.bins k
             ≡ 2 ^ (T.quotient_bits (slice_index_or tables.now k d) + T.width (slice_index_or tables.now k d)) }
         ensures width { (k : ℕ) (d : T) → k < length tables.now →
-            limit_at wide_of result.bins k ≡ total (T.pieces (slice_index_or tables.now k d)) }
+            limit_at (wide_of version) result.bins k ≡ costs version (T.pieces (slice_index_or tables.now k d)) }
 
         // No table reads the file of frames.
         ensures sure { (file : List ℕ) → AreSure result.bins file }
@@ -90,6 +93,7 @@ impl<T: CountTable> StreamRoom<T> {
         start_all(tables, &mut cursors);
         BinStreams {
             settings,
+            version,
             tables,
             cursors,
             readers,
@@ -103,30 +107,32 @@ impl<T: CountTable> StreamRoom<T> {
         &mut self,
         bay: &mut B,
         len: u64,
+        version: u8,
         level: u32,
         frame: u32,
         width: u64,
     ) -> Result<(), PieceFault>
+        requires version { IsVersion version }
         requires first { 1 ≤ level }
         requires last { level ≤ self.old.levels }
         requires frame { frame ≤ self.old.bins }
         requires some { 1 ≤ width }
         requires width { width ≤ span self.old level }
         ensures secured { IfTold (B.files bay.old) (λ seen. len ≤ length (seen FRAMES) → OnOk result (
-            (frame_place self.old level frame + frame_len self.old level ≤ length (seen FRAMES))
-            ⊎ (frame_left self.old level frame width (seen FRAMES) ≡ None))) }
+            (frame_place self.old version level frame + frame_len self.old version level ≤ length (seen FRAMES))
+            ⊎ (frame_left self.old version level frame width (seen FRAMES) ≡ None))) }
         ensures malformed { IfTold (B.files bay.old) (λ seen. (at : ℕ) → IsErrOf result (PieceFault.Malformed at) →
-            frame_left self.old level frame width (seen FRAMES) ≡ Some at) }
+            frame_left self.old version level frame width (seen FRAMES) ≡ Some at) }
         ensures settings { self.new ≡ self.old }
         ensures only_reads { OnlyReads B.Bay bay.old bay.new (IsErrOf result PieceFault.Failed) }
     {
         let _valid = self.settings.numbers();
-        if frame_end(&self.settings, level, frame) <= len {
+        if frame_end(&self.settings, version, level, frame) <= len {
             return Ok(());
         }
         let reader = &mut self.readers[0];
-        reader.start_at(level, frame, width);
-        reader.check(bay, frame, width)
+        reader.start_at(version, level, frame, width);
+        reader.check(bay, version, frame, width)
     }
 }
 
@@ -151,7 +157,7 @@ fn readers_of(
 fn start_all<T: CountTable>(tables: &[T], cursors: &mut Vec<TableCursor<T>>)
     requires none { cursors.old.items ≡ [] }
     requires room { length tables.now ≤ vec_capacity cursors.old }
-    requires rooms { All (λ table. T.room table ≤ 2 ^ 47) tables.now }
+    requires rooms { All (λ table. T.room table ≤ 2 ^ 39) tables.now }
     ensures started { AreStartedOn (λ table. T.quotient_bits table + T.width table) (λ table cursor. T.left table cursor.place) (λ cursor. cursor.gave)
         (λ table cursor. T.stands table cursor.place) T.pieces tables.now cursors.new.items }
     ensures room { vec_capacity cursors.old ≤ vec_capacity cursors.new }
@@ -164,14 +170,15 @@ fn start_all<T: CountTable>(tables: &[T], cursors: &mut Vec<TableCursor<T>>)
 }
 
 // The first byte behind a frame's place.
-fn frame_end(settings: &Settings, level: u32, frame: u32) -> u64
+fn frame_end(settings: &Settings, version: u8, level: u32, frame: u32) -> u64
+    requires version { IsVersion version }
     requires first { 1 ≤ level }
     requires last { level ≤ settings.now.levels }
     requires frame { frame ≤ settings.now.bins }
-    ensures { result ≡ frame_place settings.now level frame + frame_len settings.now level }
+    ensures { result ≡ frame_place settings.now version level frame + frame_len settings.now version level }
 {
     let _valid = settings.numbers();
     // All places of a level are of one length.
-    let len = frame_place(settings, level, 1) - frame_place(settings, level, 0);
-    frame_place(settings, level, frame) + len
+    let len = frame_place(settings, version, level, 1) - frame_place(settings, version, level, 0);
+    frame_place(settings, version, level, frame) + len
 }

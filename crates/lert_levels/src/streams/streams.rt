@@ -9,7 +9,7 @@ ghost use Rattle.lert_frames.specs.Place.{frame_place, frame_len, tail_limit};
 ghost use Rattle.lert_merge.specs.order.Members.{given_at, limit_at};
 ghost use Rattle.lert_merge.specs.order.Untouched.{IsUntouched};
 ghost use Rattle.lert_levels.specs.streams.Asked.{Asked, Begins, frame_to_come, FrameLeavesAt};
-ghost use Rattle.lert_levels.specs.streams.Bin.{given_of, limit_of, wide_of};
+ghost use Rattle.lert_levels.specs.streams.Bin.{given_of, limit_of, version_of, wide_of};
 ghost use Rattle.lert_levels.specs.streams.BinSet.{AreSure, Reads};
 ghost use Rattle.lert_levels.specs.streams.SetLaws.{to_come_at, LeavesIn};
 
@@ -27,6 +27,7 @@ use std::marker::Model;
 #[derive(Drop)]
 pub struct BinStreams<'a, T: CountTable> {
     pub(crate) settings: Settings,
+    pub(crate) version: u8,
     pub(crate) tables: &'a [T],
     // One on each table.
     pub(crate) cursors: Vec<TableCursor<T>>,
@@ -48,13 +49,14 @@ impl<'a, T: CountTable> Model for BinStreams<'a, T> {
 
     ghost view = { λ b. record {
       settings = b.settings;
+      version = b.version;
       bins = all_streams (bins_at (λ table. T.quotient_bits table + T.width table) (λ table cursor. T.left table cursor.place) (λ cursor. cursor.gave)
           b.tables.now b.cursors.items) b.frames b.readers.items;
       spare = length b.readers.items - b.frames;
     } };
 
     ghost invariant = { λ b. IsBinSet (λ table. T.quotient_bits table + T.width table) (λ table cursor. T.left table cursor.place) (λ cursor. cursor.gave)
-        (λ table cursor. T.stands table cursor.place) b.settings b.tables.now b.cursors.items (vec_capacity b.cursors) b.readers.items b.frames };
+        (λ table cursor. T.stands table cursor.place) b.settings b.version b.tables.now b.cursors.items (vec_capacity b.cursors) b.readers.items b.frames };
 }
 
 impl<'a, T: CountTable> BinStreams<'a, T> {
@@ -71,25 +73,26 @@ impl<'a, T: CountTable> BinStreams<'a, T> {
 
         // To come of it is what a file says at its place.
         ensures coming { (told : Option Files) →
-            to_come_at told self.new.bins (length self.old.bins) ≡ frame_to_come told self.old.settings level frame width }
+            to_come_at told self.new.bins (length self.old.bins) ≡ frame_to_come told self.old.settings self.old.version level frame width }
         ensures breaking { (told : Option Files) (at : ℕ) →
-            LeavesIn told self.new.bins (length self.old.bins) at ↔ FrameLeavesAt told self.old.settings level frame width at }
+            LeavesIn told self.new.bins (length self.old.bins) at ↔ FrameLeavesAt told self.old.settings self.old.version level frame width at }
         ensures given { given_at given_of self.new.bins (length self.old.bins) ≡ [] }
         ensures limit { limit_at limit_of self.new.bins (length self.old.bins) ≡ tail_limit self.old.settings }
-        ensures width { limit_at wide_of self.new.bins (length self.old.bins) ≡ width }
+        ensures width { limit_at (wide_of self.new.version) self.new.bins (length self.old.bins) ≡ width }
+        ensures version { limit_at (version_of self.new.version) self.new.bins (length self.old.bins) ≡ self.old.version }
         ensures others { (k : ℕ) → k < length self.old.bins → IsUntouched (λ set stream told. to_come_at told set.bins stream)
             (λ set. given_at given_of set.bins) (λ set. limit_at limit_of set.bins) (λ set stream told. LeavesIn told set.bins stream) self.old self.new k }
-        ensures widths { (k : ℕ) → k < length self.old.bins → limit_at wide_of self.new.bins k ≡ limit_at wide_of self.old.bins k }
+        ensures widths { (k : ℕ) → k < length self.old.bins → limit_at (wide_of self.new.version) self.new.bins k ≡ limit_at (wide_of self.old.version) self.old.bins k }
 
         // It is sure of a file that has all of the frame's place, or in which the frame leaves its text nowhere.
         ensures sure { (file : List ℕ) → AreSure self.old.bins file →
-            (frame_place self.old.settings level frame + frame_len self.old.settings level ≤ length file)
-            ⊎ (frame_left self.old.settings level frame width file ≡ None) → AreSure self.new.bins file }
+            (frame_place self.old.settings self.old.version level frame + frame_len self.old.settings self.old.version level ≤ length file)
+            ⊎ (frame_left self.old.settings self.old.version level frame width file ≡ None) → AreSure self.new.bins file }
         ensures reads { (from to : ℕ) → Reads self.new.bins from to → Reads self.old.bins from to
-            ⊎ ((frame_place self.old.settings level frame ≤ from)
-            × (to ≤ frame_place self.old.settings level frame + frame_len self.old.settings level)) }
+            ⊎ ((frame_place self.old.settings self.old.version level frame ≤ from)
+            × (to ≤ frame_place self.old.settings self.old.version level frame + frame_len self.old.settings self.old.version level)) }
     {
-        self.readers[self.frames].start_at(level, frame, width);
+        self.readers[self.frames].start_at(self.version, level, frame, width);
         self.frames += 1;
     }
 
@@ -99,6 +102,7 @@ impl<'a, T: CountTable> BinStreams<'a, T> {
     {
         let BinStreams {
             settings,
+            version: _,
             tables: _,
             mut cursors,
             readers,

@@ -1,12 +1,7 @@
 -- One stream of a set is asked, and the others stay.
-use Rattle.std.proofs.Common.{◌≡◌, ◌≢◌, ℕ, ◌<◌, ◌↔◌, Option, Some, None, List, [], ◌∷◌, ◌++◌, sym, ap, ◌∙◌, refl}
-use Rattle.std.proofs.Common.{subst, inl, inr, ◌⊎◌, MatchOption, option_to_list, append-nil}
-use Rattle.std.proofs.lemmas.Bool.{cases_eq}
-use Rattle.lert_spec.specs.declared.piece.Piece.{Piece}
-use Rattle.lert_spec.specs.Table.{AreGiven}
-use Rattle.lert_merge.specs.order.Fronts.{Fronts, front_at}
-use Rattle.lert_merge.specs.order.Ordering.{Ordering, none_of, Gives, AllGive, Breaks}
-use Rattle.lert_merge.specs.order.Untouched.{IsUntouched}
+use Rattle.std.proofs.{Common.{◌≡◌, ◌≢◌, ℕ, ◌<◌, ◌↔◌, Option, Some, None, List, [], ◌∷◌, ◌++◌, sym, ap, ◌∙◌, refl, subst, inl, inr, ◌⊎◌, MatchOption, option_to_list, append-nil}, lemmas.Bool.cases_eq}
+use Rattle.lert_spec.specs.{declared.piece.Piece.Piece, Table.AreGiven}
+use Rattle.lert_merge.specs.{order.Fronts.{Fronts, front_at}, order.Ordering.{Ordering, none_of, Gives, AllGive, Breaks}, order.Untouched.IsUntouched}
 use Rattle.lert_merge.specs.declared.order.streams.Streams.{Ghosts as StreamsOf}
 
 -- what holds of the stream that was asked, and of each other, holds of each

@@ -1,11 +1,7 @@
 -- Computed fronts and lists: of three streams one ended, and of two lists with an equal tail either may be next.
-use Rattle.std.proofs.Common.{◌≡◌, ℕ, zero, suc, Option, ◌+◌, ◌<◌, ◌≤◌, All, List, [], ◌∷◌, Some, None, true, get_or, set, inl, refl, arith}
-use Rattle.std.proofs.lemmas.List.Elements.{All-cons}
+use Rattle.std.proofs.{Common.{◌≡◌, ℕ, zero, suc, Option, ◌+◌, ◌<◌, ◌≤◌, All, List, [], ◌∷◌, Some, None, true, get_or, set, inl, refl, arith}, lemmas.List.Elements.All-cons}
 use Rattle.lert_spec.specs.declared.piece.Piece.{Piece}
-use Rattle.lert_merge.specs.tree.Race.{number_at, greatest}
-use Rattle.lert_merge.specs.order.Fronts.{Fronts, front_at, IsFront}
-use Rattle.lert_merge.specs.order.Members.{told_at, given_at, limit_at, BreaksAt}
-use Rattle.lert_merge.specs.order.Ordering.{part_in, IsNext}
+use Rattle.lert_merge.specs.{tree.Race.{number_at, greatest}, order.Fronts.{Fronts, front_at, IsFront}, order.Members.{told_at, given_at, limit_at, BreaksAt}, order.Ordering.{part_in, IsNext}}
 
 abbrev piece : ℕ → ℕ → Piece
 piece tail count = record { tail = tail; count = count }

@@ -1,11 +1,8 @@
 -- What was read ahead of the streams, after one of them was asked.
-use Rattle.std.proofs.Common.{◌≡◌, ◌≢◌, ℕ, ◌≤◌, Bool, if◌then◌else◌, Option, Some, None, List, [], ◌∷◌, length}
-use Rattle.std.proofs.Common.{arith, ap, ap₂, ◌∙◌, refl, option_to_list}
-use Rattle.std.proofs.lemmas.List.{get_or_past}
+use Rattle.std.proofs.{Common.{◌≡◌, ◌≢◌, ℕ, ◌≤◌, Bool, if◌then◌else◌, Option, Some, None, List, [], ◌∷◌, length, arith, ap, ap₂, ◌∙◌, refl, option_to_list}, lemmas.List.get_or_past}
 use Rattle.std.proofs.lemmas.Bool.{eq-eqb, ne_eqb}
 use Rattle.lert_spec.specs.declared.piece.Piece.{Piece}
-use Rattle.lert_merge.specs.tree.Race.{number_at}
-use Rattle.lert_merge.specs.order.Fronts.{Fronts, pieces_of, front_at, tail_in, count_in, IsPut}
+use Rattle.lert_merge.specs.{tree.Race.number_at, order.Fronts.{Fronts, pieces_of, front_at, tail_in, count_in, IsPut}}
 
 pub pieces_some : (tail count : ℕ) → 1 ≤ count → pieces_of tail count ≡ record { tail = tail; count = count } ∷ []
 pieces_some tail count some = ap (λ (b : Bool). let ps : List Piece = (if b then [] else record { tail = tail; count = count } ∷ []) in ps) (ne_eqb count 0 (λ none. omega arith))

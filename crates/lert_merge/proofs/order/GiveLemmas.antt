@@ -1,17 +1,11 @@
 -- The piece in front is given, and its stream's next one is read.
-use Rattle.std.proofs.Common.{◌≡◌, ◌≢◌, ℕ, ◌<◌, ◌≤◌, ◌^◌, Bool, if◌then◌else◌, Option, Some, None, IfSome, List, [], ◌∷◌, ◌++◌, length, set, get_or}
-use Rattle.std.proofs.Common.{arith, sym, ap, ◌∙◌, refl, subst}
+use Rattle.std.proofs.Common.{◌≡◌, ◌≢◌, ℕ, ◌<◌, ◌≤◌, ◌^◌, Bool, if◌then◌else◌, Option, Some, None, IfSome, List, [], ◌∷◌, ◌++◌, length, set, get_or, arith, sym, ap, ◌∙◌, refl, subst}
 use Rattle.std.proofs.lemmas.Bool.{eq-eqb, ne_eqb}
-use Rattle.lert_spec.specs.declared.piece.Piece.{Piece}
-use Rattle.lert_spec.specs.Table.{AreGiven, AscendsFrom}
-use Rattle.lert_merge.specs.tree.Race.{number_at}
-use Rattle.lert_merge.specs.order.Fronts.{Fronts, front_at, IsPut, IsFront}
-use Rattle.lert_merge.specs.order.Ordering.{Ordering, AreRead, IsOrdering, IsAhead, IsGiven, IsNext, IsToCome, Tells, AllGive, AreWhole, part_in}
-use Rattle.lert_merge.specs.declared.order.streams.Streams.{Ghosts as StreamsOf}
-use Rattle.lert_merge.proofs.order.FrontLemmas.{pieces_some, put_here, put_else}
-use Rattle.lert_merge.proofs.order.AskLemmas.{AreLawful, IsAsked, IsCalled, gives_next, all_give}
-use Rattle.lert_merge.proofs.order.OrderLemmas.{asked_stands, counted_in, next_above, ends_one, small_last}
-use Rattle.lert_merge.proofs.order.ToldLemmas.{is_next, tells_behind, all_whole}
+use Rattle.lert_spec.specs.{declared.piece.Piece.Piece, Table.{AreGiven, AscendsFrom}}
+use Rattle.lert_merge.specs.{tree.Race.number_at, order.Fronts.{Fronts, front_at, IsPut, IsFront}}
+use Rattle.lert_merge.specs.{order.Ordering.{Ordering, AreRead, IsOrdering, IsAhead, IsGiven, IsNext, IsToCome, Tells, AllGive, AreWhole, part_in}, declared.order.streams.Streams.Ghosts as StreamsOf}
+use Rattle.lert_merge.proofs.{order.FrontLemmas.{pieces_some, put_here, put_else}, order.AskLemmas.{AreLawful, IsAsked, IsCalled, gives_next, all_give}}
+use Rattle.lert_merge.proofs.{order.OrderLemmas.{asked_stands, counted_in, next_above, ends_one, small_last}, order.ToldLemmas.{is_next, tells_behind, all_whole}}
 
 -- a piece in front is what its stream gave last
 front_ahead : {S C : Type 0} (members : StreamsOf S C) (order : Ordering S) (i : ℕ) (piece : Piece) → IsOrdering members order → AreRead members order →

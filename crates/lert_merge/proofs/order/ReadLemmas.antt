@@ -1,12 +1,8 @@
 -- A stream is read that was not read yet.
 use Rattle.std.proofs.Common.{◌≡◌, ℕ, ◌+◌, ◌<◌, Option, None, [], length, arith, sym, ◌∙◌, refl, subst}
 use Rattle.lert_spec.specs.declared.piece.Piece.{Piece}
-use Rattle.lert_merge.specs.order.Fronts.{Fronts, IsPut}
-use Rattle.lert_merge.specs.order.Ordering.{Ordering, IsOrdering, AllGive, AllTold, AreWhole, none_of}
-use Rattle.lert_merge.specs.declared.order.streams.Streams.{Ghosts as StreamsOf}
-use Rattle.lert_merge.proofs.order.FrontLemmas.{front_past, put_here, put_else}
-use Rattle.lert_merge.proofs.order.AskLemmas.{AreLawful, IsAsked, IsCalled, gives_next, all_give}
-use Rattle.lert_merge.proofs.order.OrderLemmas.{asked_stands, counted_in}
+use Rattle.lert_merge.specs.{order.Fronts.{Fronts, IsPut}, order.Ordering.{Ordering, IsOrdering, AllGive, AllTold, AreWhole, none_of}, declared.order.streams.Streams.Ghosts as StreamsOf}
+use Rattle.lert_merge.proofs.{order.FrontLemmas.{front_past, put_here, put_else}, order.AskLemmas.{AreLawful, IsAsked, IsCalled, gives_next, all_give}, order.OrderLemmas.{asked_stands, counted_in}}
 use Rattle.lert_merge.proofs.order.ToldLemmas.{all_told, all_whole}
 
 put_at : (ahead after : Fronts) (i : ℕ) (next : Option Piece) → i ≡ length ahead.counts → IsPut ahead after (length ahead.counts) next → IsPut ahead after i next

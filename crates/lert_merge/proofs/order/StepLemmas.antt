@@ -1,10 +1,8 @@
 -- Calls on an order in turn.
-use Rattle.std.proofs.Common.{◌≡◌, ℕ, ◌<◌, ◌≤◌, Option, Some, None, IfSome, List, [], ◌++◌, get_or, arith, sym, ap, ◌∙◌, refl}
-use Rattle.std.proofs.Common.{subst, append-nil, Result, Ok, Err, IfOk, OnOk, OnErr}
+use Rattle.std.proofs.Common.{◌≡◌, ℕ, ◌<◌, ◌≤◌, Option, Some, None, IfSome, List, [], ◌++◌, get_or, arith, sym, ap, ◌∙◌, refl, subst, append-nil, Result, Ok, Err, IfOk, OnOk, OnErr}
 use Rattle.lert_base.specs.declared.pieces.PieceFault.{PieceFault}
 use Rattle.lert_spec.specs.declared.piece.Piece.{Piece}
-use Rattle.lert_merge.specs.order.Fronts.{front_at}
-use Rattle.lert_merge.specs.order.Ordering.{Ordering, HasTaken, none_of, part_of, part_in, AllGive, AllTold, AreKnown, AreWhole, AreSame, Breaks, IsGiven, IsStarted, Tells}
+use Rattle.lert_merge.specs.{order.Fronts.front_at, order.Ordering.{Ordering, HasTaken, none_of, part_of, part_in, AllGive, AllTold, AreKnown, AreWhole, AreSame, Breaks, IsGiven, IsStarted, Tells}}
 use Rattle.lert_merge.specs.declared.order.streams.Streams.{Ghosts as StreamsOf}
 use Rattle.lert_merge.proofs.order.AskLemmas.{AreLawful}
 

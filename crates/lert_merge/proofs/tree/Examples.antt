@@ -1,7 +1,6 @@
 -- Computed trees: of 3 streams, which one more key changes, and of 5 streams.
 use Rattle.std.proofs.Common.{◌≡◌, ℕ, ◌≤◌, List, [], ◌∷◌, inl, inr, refl, arith}
-use Rattle.lert_merge.specs.tree.Race.{number_at}
-use Rattle.lert_merge.specs.tree.Matches.{winner_of, IsMatch}
+use Rattle.lert_merge.specs.{tree.Race.number_at, tree.Matches.{winner_of, IsMatch}}
 
 -- streams 0 to 2, and a leaf that has none
 abbrev three_keys : List ℕ

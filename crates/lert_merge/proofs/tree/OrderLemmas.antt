@@ -1,8 +1,6 @@
 -- Who has won all matches has the least key.
-use Rattle.std.proofs.Common.{◌≡◌, ℕ, zero, suc, ◌+◌, ◌-◌, ◌*◌, ◌/◌, ◌<◌, ◌≤◌, inl, inr, List, sym, ap, ◌∙◌, arith, subst}
-use Rattle.std.proofs.lemmas.Bool.{cases_eq, cases_lt}
-use Rattle.lert_merge.specs.tree.Race.{number_at}
-use Rattle.lert_merge.specs.tree.Matches.{IsMatch, IsPlayed}
+use Rattle.std.proofs.{Common.{◌≡◌, ℕ, zero, suc, ◌+◌, ◌-◌, ◌*◌, ◌/◌, ◌<◌, ◌≤◌, inl, inr, List, sym, ap, ◌∙◌, arith, subst}, lemmas.Bool.{cases_eq, cases_lt}}
+use Rattle.lert_merge.specs.{tree.Race.number_at, tree.Matches.{IsMatch, IsPlayed}}
 use Rattle.lert_merge.proofs.tree.PathLemmas.{IsUnder, under_itself, under_above}
 
 -- what each winner of a match has over both, it has over all who come to that match

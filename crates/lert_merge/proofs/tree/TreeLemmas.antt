@@ -1,10 +1,7 @@
 -- What stands between the calls of a tree.
-use Rattle.std.proofs.Common.{◌≡◌, ℕ, zero, suc, ◌+◌, ◌<◌, ◌≤◌, ◌⊎◌, inl, inr, List, [], ◌∷◌, ◌++◌, length, take, drop, set, refl, sym, ap, ◌∙◌, arith, subst}
-use Rattle.std.proofs.Common.{get_or-set_other, length-set}
-use Rattle.std.proofs.lemmas.Bool.{cases_lt}
-use Rattle.std.proofs.lemmas.List.{get_or-take, length-take-le, take_at}
-use Rattle.lert_merge.specs.tree.Race.{Race, IsLeast, number_at, greatest}
-use Rattle.lert_merge.specs.tree.Matches.{AreBelow, IsPlayed, IsTree}
+use Rattle.std.proofs.Common.{◌≡◌, ℕ, zero, suc, ◌+◌, ◌<◌, ◌≤◌, ◌⊎◌, inl, inr, List, [], ◌∷◌, ◌++◌, length, take, drop, set, refl, sym, ap, ◌∙◌, arith, subst, get_or-set_other, length-set}
+use Rattle.std.proofs.{lemmas.Bool.cases_lt, lemmas.List.{get_or-take, length-take-le, take_at}}
+use Rattle.lert_merge.specs.{tree.Race.{Race, IsLeast, number_at, greatest}, tree.Matches.{AreBelow, IsPlayed, IsTree}}
 use Rattle.lert_merge.proofs.tree.OrderLemmas.{first_least}
 
 -- what a slice of a vector's items is given goes back into the vector

@@ -1,7 +1,6 @@
 -- The streams of a list, by their places.
 use Rattle.std.proofs.Common.{ℕ, zero, suc, ◌≡◌, ◌<◌, ◌++◌, ◌↔◌, Option, Some, None, List, [], ◌∷◌, length, map, get_or, arith}
-use Rattle.lert_spec.specs.declared.piece.Piece.{Piece}
-use Rattle.lert_spec.specs.Table.{AreGiven}
+use Rattle.lert_spec.specs.{declared.piece.Piece.Piece, Table.AreGiven}
 
 -- what is to come of the stream at a place
 abbrev pub told_at : {P C : Type 0} → (P → C → Option (List Piece)) → List P → ℕ → C → Option (List Piece)

@@ -1,12 +1,8 @@
 -- Several streams in one order: what was read ahead of each, what was given of each, and what is still to come.
-use Rattle.std.specs.Prelude.{ℕ, ◌≡◌, ◌≢◌, ◌<◌, ◌≤◌, ◌==◌, ◌^◌, ◌↔◌, All, true, Option, Some, None, List, [], ◌∷◌, ◌++◌, length, if◌then◌else◌}
-use Rattle.std.specs.Prelude.{Result, Ok, Err, slice_index_or}
+use Rattle.std.specs.Prelude.{ℕ, ◌≡◌, ◌≢◌, ◌<◌, ◌≤◌, ◌==◌, ◌^◌, ◌↔◌, All, true, Option, Some, None, List, [], ◌∷◌, ◌++◌, length, if◌then◌else◌, Result, Ok, Err, slice_index_or}
 use Rattle.lert_base.specs.declared.pieces.PieceFault.{PieceFault}
-use Rattle.lert_spec.specs.declared.piece.Piece.{Piece}
-use Rattle.lert_spec.specs.Table.{AreGiven}
-use Rattle.lert_merge.specs.tree.Race.{number_at}
-use Rattle.lert_merge.specs.order.Fronts.{Fronts, front_at, AreLast, IsBegun}
-use Rattle.lert_merge.specs.declared.order.streams.Streams.{Ghosts as StreamsOf}
+use Rattle.lert_spec.specs.{declared.piece.Piece.Piece, Table.AreGiven}
+use Rattle.lert_merge.specs.{tree.Race.number_at, order.Fronts.{Fronts, front_at, AreLast, IsBegun}, declared.order.streams.Streams.Ghosts as StreamsOf}
 
 -- the streams, what was read ahead of them, and the tail that was given last
 pub record Ordering (S : Type 0) : Type 0 where

@@ -6,6 +6,7 @@ use lert_top::Status;
 use lert_trials::{SMALL, Two, crew_form, long_form, run_pair, run_two, trace};
 use std::alloc::Global;
 use std::process::Abort;
+use std::random::RandomSource;
 use std::sync::Wait;
 use std::thread::Threads;
 
@@ -14,7 +15,7 @@ const TWICE: [&str; 8] = ["2", "3", "2", "4", "2", "0", "32", "8"];
 
 // Runs these words over two traces and an empty bay, and wants the status and the text.
 fn check_two(
-    rt: &(impl Abort + Threads + Wait + Sync),
+    rt: &(impl Abort + Threads + Wait + Sync + RandomSource),
     alloc: Global,
     words: &[&str],
     two: &Two,
@@ -69,7 +70,12 @@ fn the_lowest_trace_with_the_first_kind_of_fault_is_answered(rt: HostRuntime) {
 }
 
 // Runs these words over two traces without a byte, and wants the rule that they break.
-fn check_rule(rt: &(impl Abort + Threads + Wait + Sync), alloc: Global, words: &[&str], rule: u8) {
+fn check_rule(
+    rt: &(impl Abort + Threads + Wait + Sync + RandomSource),
+    alloc: Global,
+    words: &[&str],
+    rule: u8,
+) {
     let none = two(&[], &[]);
     check_two(rt, alloc, words, &none, Status::Usage { rule }, "");
 }

@@ -7,6 +7,7 @@ use lert_top::{Status, gen_to};
 use lert_trials::{Ended, HEADER};
 use std::alloc::Global;
 use std::process::Abort;
+use std::random::RandomSource;
 use std::sync::Wait;
 use std::thread::Threads;
 
@@ -18,7 +19,7 @@ fn ends_unasked(rt: &impl Abort, ended: &Ended, text: &str) {
 
 // Runs words that ask a place for nothing, and wants this text.
 fn check_unasked(
-    rt: &(impl Abort + Threads + Wait + Sync),
+    rt: &(impl Abort + Threads + Wait + Sync + RandomSource),
     alloc: Global,
     words: &[&str],
     text: &str,

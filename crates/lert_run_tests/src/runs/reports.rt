@@ -6,6 +6,7 @@ use lert_top::Status;
 use lert_trials::{SMALL, short_form, trace, trace_with};
 use std::alloc::Global;
 use std::process::Abort;
+use std::random::RandomSource;
 use std::sync::Wait;
 use std::thread::Threads;
 
@@ -34,7 +35,7 @@ const SHORT: [(&str, &[u64], &str); 4] = [
 ];
 
 fn check_short(
-    rt: &(impl Abort + Threads + Wait + Sync),
+    rt: &(impl Abort + Threads + Wait + Sync + RandomSource),
     alloc: Global,
     threshold: &str,
     keys: &[u64],
@@ -82,7 +83,7 @@ const LONG: [(&[&str; 8], &[u64], &str); 4] = [
 ];
 
 fn check_keys(
-    rt: &(impl Abort + Threads + Wait + Sync),
+    rt: &(impl Abort + Threads + Wait + Sync + RandomSource),
     alloc: Global,
     numbers: &[&str; 8],
     keys: &[u64],
@@ -130,7 +131,7 @@ const PLACED: [(u8, &[(u8, u64)], &str); 5] = [
 ];
 
 fn check_placed(
-    rt: &(impl Abort + Threads + Wait + Sync),
+    rt: &(impl Abort + Threads + Wait + Sync + RandomSource),
     alloc: Global,
     len: u8,
     placed: &[(u8, u64)],

@@ -2,7 +2,8 @@
 use Rattle.std.proofs.{Common.{◌≡◌, ◌≢◌, ℕ, ◌+◌, ◌-◌, ◌*◌, ◌/◌, ◌^◌, ◌<◌, ◌≤◌, zero, suc, Bool, cond, leb, List, [], ◌∷◌, length, get_or, lit<, ap, sym, ◌∙◌, inl, inr, arith, refl}, Math.Nat.mod-lt}
 use Rattle.std.proofs.{lemmas.Bool.{cases_lt, cases_eq, lt-leb, le-leb}, lemmas.Bool.Decides.nat_tests, lemmas.Nat.{xor_lt, shr_le, shr_below}}
 use Rattle.std.specs.Prelude.{Contains}
-use Rattle.lert_spec.specs.{declared.numbers.Numbers.Numbers, Counts.{count, distinct, heavy, insert_key}, Mix.{cone_of, folded, mix, scaled}}
+use Rattle.lert_spec.specs.Edges.{tail_bits}
+use Rattle.lert_spec.specs.{declared.numbers.Numbers.Numbers, Counts.{count, distinct, heavy, insert_key, plain}, Mix.{cone_of, folded, mix, scaled}}
 use Rattle.lert_spec.proofs.{CountLaws.count-whole, ReportLaws.{times, times-cons_other, times-cons_same, times-filter}}
 
 -- a list has what stands in it at least once
@@ -89,7 +90,7 @@ module _ (threshold : ℕ) (events : List ℕ) (key : ℕ) where
           of_heavy ∙ ap (λ (b : Bool). cond b (times key (distinct events)) 0) (lt-leb threshold (count key events 0 (length events)) (omega (
             arith,
             few,
-            count-whole key events,
+            count-whole plain key events,
           ))),
         ))
         | inr many ↦ many
@@ -99,7 +100,7 @@ module _ (threshold : ℕ) (events : List ℕ) (key : ℕ) where
   enough_heavy least many =
       times-Contains key (heavy threshold events) (omega (
         arith,
-        of_heavy ∙ ap (λ (b : Bool). cond b (times key (distinct events)) 0) (le-leb threshold (count key events 0 (length events)) (omega (arith, many, count-whole key events))),
+        of_heavy ∙ ap (λ (b : Bool). cond b (times key (distinct events)) 0) (le-leb threshold (count key events 0 (length events)) (omega (arith, many, count-whole plain key events))),
         times-distinct key events (omega (arith, least, many)),
       ))
 
@@ -115,4 +116,4 @@ unfolding mix
 mix_any key = folded_below _ (scaled_below 0xc4ceb9fe1a85ec53 _)
 
 pub cone_any : (s : Numbers) (key : ℕ) → s.cone_bits ≤ 64 → cone_of s key < 2 ^ s.cone_bits
-cone_any s key within = shr_below (mix key) s.cone_bits (64 - s.cone_bits) (let bits : s.cone_bits + (64 - s.cone_bits) ≡ 64 = omega (arith, within) in rw bits (mix_any key))
+cone_any s key within = shr_below (mix key) s.cone_bits (tail_bits s) (let bits : s.cone_bits + (tail_bits s) ≡ 64 = omega (arith, within) in rw bits (mix_any key))

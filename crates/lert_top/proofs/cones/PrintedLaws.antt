@@ -5,7 +5,8 @@ use Rattle.std.proofs.lemmas.Option.{slice_get-get_or, slice_get_within}
 use Rattle.std.specs.Prelude.{◌↔◌, Contains}
 use Rattle.lert_base.specs.Packet.{events_of}
 use Rattle.lert_bay.specs.Files.{Files}
-use Rattle.lert_spec.specs.{declared.numbers.Numbers.Numbers, declared.report.Report.Report, Counts.heavy, Limits.IsValid, Lines.Printed, Look.closing, Mix.{cone_of, part_of}, Timely.times_listed}
+use Rattle.lert_spec.specs.{declared.numbers.Numbers.Numbers, declared.report.Report.Report, Counts.{heavy, plain}, Limits.IsValid, Lines.Printed, Look.closing, Mix.{cone_of, part_of}}
+use Rattle.lert_spec.specs.Timely.{times_listed}
 use Rattle.lert_spec.proofs.{CountLaws.count-whole, ReportLaws.times}
 use Rattle.lert_ingest.specs.Bays.{AreTold}
 use Rattle.lert_ingest.proofs.BayLaws.{slice_get-some}
@@ -25,17 +26,17 @@ module _ (s : Numbers) (valid : IsValid s) (workers : ℕ) (traces : List (List 
     -- a key that has another cone isn't reported
     listed_other : cone_of s key ≢ cone → times_listed key reports ≡ 0
     listed_other other =
-        holds.in_time.light key (omega (arith, count-whole key (events_of holds.history), times_other s cone workers traces holds.history holds.woven key other, valid.limits.threshold_from))
+        holds.in_time.light key (omega (arith, count-whole plain key (events_of holds.history), times_other s cone workers traces holds.history holds.woven key other, valid.limits.threshold_from))
 
     -- one that has this cone is reported once where it occurs often enough
     listed_own : cone_of s key ≡ cone → s.threshold ≤ times key (all_keys traces) → times_listed key reports ≡ 1
     listed_own own many =
-        (holds.in_time.heavy key (omega (arith, count-whole key (events_of holds.history), times_own s cone workers traces holds.history holds.woven key own, many))).once
+        (holds.in_time.heavy key (omega (arith, count-whole plain key (events_of holds.history), times_own s cone workers traces holds.history holds.woven key own, many))).once
 
     listed_few : times key (all_keys traces) < s.threshold → times_listed key reports ≡ 0
     listed_few few =
         elim (cases_eq (cone_of s key) cone) [
-          | inl own ↦ holds.in_time.light key (omega (arith, count-whole key (events_of holds.history), times_own s cone workers traces holds.history holds.woven key own, few))
+          | inl own ↦ holds.in_time.light key (omega (arith, count-whole plain key (events_of holds.history), times_own s cone workers traces holds.history holds.woven key own, few))
           | inr other ↦ listed_other other
         ]
 

@@ -2,7 +2,8 @@
 use Rattle.std.proofs.Common.{◌≡◌, ◌≢◌, ℕ, ◌+◌, ◌-◌, ◌%◌, Bool, cond, eqb, List, [], ◌∷◌, ◌++◌, length, filter, map, sum_by, Option, refl, ap, ◌∙◌, inl, inr, arith, length-append}
 use Rattle.std.proofs.{lemmas.Bool.{cases_eq, eq-eqb, ne_eqb}, lemmas.List.Elements.filter-append, lemmas.List.Sums.sum_by-cons}
 use Rattle.std.specs.List.{range_with_len}
-use Rattle.lert_spec.specs.{declared.numbers.Numbers.Numbers, Mix.{cone_of, part_of}, Trace.whole}
+use Rattle.lert_spec.specs.{declared.numbers.Numbers.Numbers, Mix.{cone_of, part_of}}
+use Rattle.lert_trace.specs.Trace.{whole}
 use Rattle.lert_gen.specs.Generated.{dealt, generated, key_at, trace_of}
 use Rattle.lert_gen.proofs.RoundTrip.{AreKeys-generated, whole-trace}
 use Rattle.lert_ingest.specs.Traces.{AreKeysOf, part_length}

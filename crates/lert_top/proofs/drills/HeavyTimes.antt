@@ -1,7 +1,7 @@
 -- Reports that are in time list the keys that occur often enough, each once.
 use Rattle.std.proofs.{Common.{◌≡◌, ℕ, ◌+◌, ◌<◌, ◌≤◌, suc, Bool, cond, eqb, List, [], ◌∷◌, length, refl, ap, sym, ◌∙◌, inl, inr, arith}, lemmas.Bool.{cases_lt, cases_eq, lt-leb, le-leb}}
 use Rattle.std.proofs.lemmas.List.Sums.{sum_by-cons}
-use Rattle.lert_spec.specs.{declared.report.Report.Report, Counts.{count, distinct, heavy, insert_key}, Timely.{IsTimely, times_listed}}
+use Rattle.lert_spec.specs.{declared.report.Report.Report, Counts.{count, distinct, heavy, insert_key, plain}, Timely.{IsTimely, times_listed}}
 use Rattle.lert_spec.proofs.{CountLaws.count-whole, ReportLaws.{times, times-cons_other, times-cons_same}}
 use Rattle.lert_top.specs.drills.Print.{keys_of}
 use Rattle.lert_top.proofs.cones.HeavyLaws.{insert_before, insert_behind, insert_same, of_heavy, times-distinct}
@@ -49,7 +49,7 @@ module _ (threshold : ℕ) (least : 1 ≤ threshold) (events : List ℕ) (key : 
       omega (
         arith,
         of_heavy threshold events key
-            ∙ ap (λ (b : Bool). cond b (times key (distinct events)) 0) (le-leb threshold (count key events 0 (length events)) (omega (arith, many, count-whole key events))),
+            ∙ ap (λ (b : Bool). cond b (times key (distinct events)) 0) (le-leb threshold (count key events 0 (length events)) (omega (arith, many, count-whole plain key events))),
         times-distinct key events (omega (arith, least, many)),
         times-rising 0 key (distinct events) (RiseFrom-distinct events),
       )
@@ -57,7 +57,7 @@ module _ (threshold : ℕ) (least : 1 ≤ threshold) (events : List ℕ) (key : 
   pub light_never : times key events < threshold → times key (heavy threshold events) ≡ 0
   light_never few =
       of_heavy threshold events key
-      ∙ ap (λ (b : Bool). cond b (times key (distinct events)) 0) (lt-leb threshold (count key events 0 (length events)) (omega (arith, few, count-whole key events)))
+      ∙ ap (λ (b : Bool). cond b (times key (distinct events)) 0) (lt-leb threshold (count key events 0 (length events)) (omega (arith, few, count-whole plain key events)))
 
 pub times_listed-keys : (key : ℕ) (reports : List Report) → times_listed key reports ≡ times key (keys_of reports)
 times_listed-keys key [] = refl
@@ -74,13 +74,13 @@ timely_times threshold bins events others reports least timely key same =
       | inl few ↦ omega (
         arith,
         times_listed-keys key reports,
-        timely.light key (omega (arith, few, same, count-whole key events)),
+        timely.light key (omega (arith, few, same, count-whole plain key events)),
         light_never threshold least others key few,
       )
       | inr many ↦ omega (
         arith,
         times_listed-keys key reports,
-        (timely.heavy key (omega (arith, many, same, count-whole key events))).once,
+        (timely.heavy key (omega (arith, many, same, count-whole plain key events))).once,
         heavy_once threshold least others key many,
       )
     ]

@@ -17,11 +17,12 @@ use lert_cqf::Cqf;
 use lert_ingest::Status;
 use std::alloc::Global;
 use std::collections::VecDeque;
+use std::random::RandomSource;
 use std::thread::Threads;
 
 /// Cones without a packet over all bays, in ascending order, for which the memory is taken first, by at most so many threads.
 /// A refusal leaves the bays, and Ok an emptied list with room for them.
-pub fn make_cones<B: Bay, R: Threads + Sync>(
+pub fn make_cones<B: Bay, R: Threads + Sync + RandomSource>(
     rt: &R,
     alloc: Global,
     settings: &Settings,

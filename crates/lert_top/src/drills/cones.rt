@@ -19,12 +19,18 @@ use lert_io::{Failed, OutOfMemory, Sink, Source};
 use lert_text::Page;
 use std::alloc::Global;
 use std::collections::VecDeque;
+use std::random::RandomSource;
 use std::sync::Wait;
 use std::thread::Threads;
 
 /// Reads four traces into cones over bays that are empty and tell their files, closes the cones, and prints. The bays come
 /// back in their list.
-pub fn drill_bays<S: Source + Send, B: Bay + Send, K: Sink, R: Threads + Wait + Sync>(
+pub fn drill_bays<
+    S: Source + Send,
+    B: Bay + Send,
+    K: Sink,
+    R: Threads + Wait + Sync + RandomSource,
+>(
     rt: &R,
     alloc: Global,
     settings: &Settings,

@@ -9,6 +9,7 @@ use lert_base::Settings;
 use lert_ingest::Status;
 use lert_io::Sink;
 use std::alloc::Global;
+use std::random::RandomSource;
 use std::sync::Wait;
 use std::thread::Threads;
 
@@ -17,7 +18,7 @@ use std::thread::Threads;
 ///
 /// It answers `Done`; `OutFault` where a write fails, with a part of the text written; and, with nothing written, `CapacityFull`
 /// where a cone has more keys than it takes, or `OutOfMemory`, also where the growth of a bay finds none.
-pub fn drill<K: Sink, R: Threads + Wait + Sync>(
+pub fn drill<K: Sink, R: Threads + Wait + Sync + RandomSource>(
     rt: &R,
     alloc: Global,
     settings: &Settings,

@@ -19,6 +19,7 @@ use lert_place::Place;
 use lert_text::Page;
 use std::alloc::Global;
 use std::collections::VecDeque;
+use std::random::RandomSource;
 
 /// Opens what runs with these settings left of all cones in a directory, and prints it. It opens the bays, takes the memory of
 /// all cones, reopens these in ascending order, up to the first that is refused, prints, and puts the bays back, whatever the
@@ -26,7 +27,8 @@ use std::collections::VecDeque;
 /// leave their format before the records of the journal, it leaves as they were, byte for byte, and where the memory is wanting all
 /// bays; in any case a log in its format keeps its records as a beginning. Of a journal it reads the header and the records from
 /// the one on that the cone's log names; damage before that isn't found. Nothing is written to the sink before all cones are open.
-pub fn recover_to<P: Place, K: Sink>(
+pub fn recover_to<P: Place, K: Sink, R: RandomSource>(
+    rt: &R,
     alloc: Global,
     settings: &Settings,
     dir: &str,
@@ -54,13 +56,14 @@ pub fn recover_to<P: Place, K: Sink>(
         Ok(bays) => bays,
         Err(status) => return status,
     };
-    let status = recover_bays(alloc, settings, &mut bays, out);
+    let status = recover_bays(rt, alloc, settings, &mut bays, out);
     put_back_bays(place, bays);
     status
 }
 
 // Opens cones over bays that were opened, and prints them.
-fn recover_bays<B: Bay, K: Sink>(
+fn recover_bays<B: Bay, K: Sink, R: RandomSource>(
+    rt: &R,
     alloc: Global,
     settings: &Settings,
     bays: &mut VecDeque<B>,
@@ -77,7 +80,7 @@ fn recover_bays<B: Bay, K: Sink>(
         Ok(page) => page,
         Err(OutOfMemory) => return Status::OutOfMemory,
     };
-    let cones = match reopen_cones(alloc, settings, bays) {
+    let cones = match reopen_cones(rt, alloc, settings, bays) {
         Ok(cones) => cones,
         Err(status) => return status,
     };

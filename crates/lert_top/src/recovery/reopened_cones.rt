@@ -7,7 +7,7 @@ ghost use Rattle.lert_ingest.specs.Cones.{IsNewRoom};
 ghost use Rattle.lert_top.specs.recovery.Moments.{AreReread};
 ghost use Rattle.lert_top.specs.recovery.Recovered.{AreOpenOver, IsUnopened, reopen_status};
 
-use crate::cones::{bring_back, make_rooms_alone};
+use crate::cones::{bring_back, draw_secret, make_rooms_alone};
 use lert_base::Settings;
 use lert_bay::Bay;
 use lert_cone::{Cone, ConeRoom};
@@ -16,10 +16,12 @@ use lert_ingest::Status;
 use lert_recover::{ReopenFault, ReopenRefused, reopen};
 use std::alloc::Global;
 use std::collections::VecDeque;
+use std::random::RandomSource;
 
 /// Opens cones over the files of all bays, in ascending order, for which the memory is taken first, up to the first that is
 /// refused. A refusal leaves the bays, just as they were where the memory is wanting, and Ok an emptied list with room for them.
-pub fn reopen_cones<B: Bay>(
+pub fn reopen_cones<B: Bay, R: RandomSource>(
+    rt: &R,
     alloc: Global,
     settings: &Settings,
     bays: &mut VecDeque<B>,
@@ -34,7 +36,8 @@ pub fn reopen_cones<B: Bay>(
     ensures reread_kept { OnErr result (AreReread B.Bay settings.now bays.old.items bays.new.items) }
     ensures unopened { IfErr result (IsUnopened B.files B.faults settings.now bays.old.items bays.new.items) }
 {
-    let mut rooms = make_rooms_alone(alloc, settings, settings.cones())?;
+    let secret = draw_secret(rt);
+    let mut rooms = make_rooms_alone(alloc, settings, secret, settings.cones())?;
     let Ok(mut cones) = Vec::with_capacity(alloc, settings.cones() as usize) else {
         return Err(Status::OutOfMemory);
     };

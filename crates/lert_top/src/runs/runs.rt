@@ -30,6 +30,7 @@ use lert_place::Place;
 use lert_text::Page;
 use std::alloc::Global;
 use std::collections::VecDeque;
+use std::random::RandomSource;
 use std::sync::Wait;
 use std::thread::Threads;
 
@@ -47,7 +48,7 @@ pub struct Job<'a> {
 /// It opens the traces in their order and then the bays, looks whether these are empty, writes their headers, has workers read
 /// the traces to their ends into the cones, closes the cones, prints, and puts all back, in this order, and stops at the
 /// first fault; what was opened is put back in each case.
-pub fn run_line<P: Place, K: Sink, R: Threads + Wait + Sync>(
+pub fn run_line<P: Place, K: Sink, R: Threads + Wait + Sync + RandomSource>(
     rt: &R,
     alloc: Global,
     settings: &Settings,
@@ -89,7 +90,7 @@ pub fn run_line<P: Place, K: Sink, R: Threads + Wait + Sync>(
 }
 
 // Runs over traces that were opened, and gives them back. It opens the bays, and puts them back.
-fn run_traces<P: Place, K: Sink, R: Threads + Wait + Sync>(
+fn run_traces<P: Place, K: Sink, R: Threads + Wait + Sync + RandomSource>(
     rt: &R,
     alloc: Global,
     settings: &Settings,
@@ -129,7 +130,7 @@ fn run_traces<P: Place, K: Sink, R: Threads + Wait + Sync>(
 }
 
 // Runs over traces and bays that were opened.
-fn run_bays<S: Source + Send, B: Bay + Send, K: Sink, R: Threads + Wait + Sync>(
+fn run_bays<S: Source + Send, B: Bay + Send, K: Sink, R: Threads + Wait + Sync + RandomSource>(
     rt: &R,
     alloc: Global,
     settings: &Settings,

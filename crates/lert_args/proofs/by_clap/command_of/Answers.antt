@@ -1,6 +1,4 @@
-use Rattle.std.proofs.Common.{[], ap, map, ◌∙◌}
-use Rattle.std.proofs.lemmas.List.{take_all}
-use Rattle.std.proofs.lemmas.Result.{err_from_is_err_and}
+use Rattle.std.proofs.{Common.{[], ap, map, ◌∙◌}, lemmas.List.take_all, lemmas.Result.err_from_is_err_and}
 use Rattle.clap.specs.Words.{rule_of}
 use Rattle.lert_args.specs.App.{app_with}
 use Rattle.lert_args.proofs.Loops.{option_more}

@@ -1,9 +1,5 @@
-use Rattle.std.proofs.Common.{◌∙◌, Some, ap, ap₂, true}
-use Rattle.std.proofs.lemmas.Result.{IfOk-weaker}
-use Rattle.clap.specs.Simple.{app_of_fields}
-use Rattle.clap.specs.Words.{App, Rule, rule_of, with_rule}
-use Rattle.clap.specs.declared.builder.command.Command.{Command, Command-F}
-use Rattle.clap.specs.declared.builder.action.ArgAction.TheVariants.{Append}
+use Rattle.std.proofs.{Common.{◌∙◌, Some, ap, ap₂, true}, lemmas.Result.IfOk-weaker}
+use Rattle.clap.specs.{Simple.app_of_fields, Words.{App, Rule, rule_of, with_rule}, declared.builder.command.Command.{Command, Command-F}, declared.builder.action.ArgAction.TheVariants.Append}
 use Rattle.lert_args.proofs.by_clap.command_of_names.Goals as goal
 
 pub returns : goal.returns

@@ -1,7 +1,5 @@
-use Rattle.std.proofs.Common.{◌∙◌, ap, drop, map, sym}
-use Rattle.std.proofs.lemmas.Result.{err_from_is_err_and}
-use Rattle.lert_args.specs.Scan.{places_from}
-use Rattle.lert_args.specs.declared.scan.Stand.TheVariants.{Between}
+use Rattle.std.proofs.{Common.{◌∙◌, ap, drop, map, sym}, lemmas.Result.err_from_is_err_and}
+use Rattle.lert_args.specs.{Scan.places_from, declared.scan.Stand.TheVariants.Between}
 use Rattle.lert_args.proofs.Refusing.{refused_by_scan}
 use Rattle.lert_args.proofs.by_clap.read_given.Goals as goal
 

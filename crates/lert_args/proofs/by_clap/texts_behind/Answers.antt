@@ -1,6 +1,5 @@
-use Rattle.std.proofs.Common.{List, ◌++◌, ◌<◌, ◌≤◌, ℕ, ap, drop, map, subst}
+use Rattle.std.proofs.{Common.{List, ◌++◌, ◌<◌, ◌≤◌, ℕ, ap, drop, map, subst}, lemmas.Result.err_from_is_err_and}
 use Rattle.std.specs.Borrow.{Bor}
-use Rattle.std.proofs.lemmas.Result.{err_from_is_err_and}
 use Rattle.lert_args.proofs.Loops.{text_more, texts_done}
 use Rattle.lert_args.proofs.by_clap.texts_behind.Goals as goal
 

@@ -1,11 +1,7 @@
-use Rattle.std.proofs.Common.{◌∙◌, ap, map}
-use Rattle.std.proofs.lemmas.Result.{IfErr-weaker, IfOk-weaker}
-use Rattle.clap.specs.Simple.{is_simple}
-use Rattle.clap.specs.Words.{app_of, found_of}
-use Rattle.clap.specs.Faults.{is_simple_and_free}
+use Rattle.std.proofs.{Common.{◌∙◌, ap, map}, lemmas.Result.{IfErr-weaker, IfOk-weaker}}
+use Rattle.clap.specs.{Simple.is_simple, Words.{app_of, found_of}, Faults.is_simple_and_free}
 use Rattle.clap.proofs.WalkLemmas.{IfOk-both}
-use Rattle.lert_args.proofs.Building.{simple, simple_and_free}
-use Rattle.lert_args.proofs.Outcomes.{given_said, refused_said, unread_said}
+use Rattle.lert_args.proofs.{Building.{simple, simple_and_free}, Outcomes.{given_said, refused_said, unread_said}}
 use Rattle.lert_args.proofs.by_clap.values_given.Goals as goal
 
 pub returns-in-Ok-clause-said :

@@ -1,12 +1,7 @@
-use Rattle.std.proofs.Common.{[], ◌+◌, ◌∙◌, ◌≤◌, ap, length, map, subst, sym}
-use Rattle.std.specs.List.{list_all}
-use Rattle.std.specs.Prelude.{option_and_then}
-use Rattle.std.proofs.lemmas.List.{take_all}
-use Rattle.std.proofs.lemmas.List.Folds.{list_all_at}
-use Rattle.std.proofs.lemmas.Result.{err_from_is_err_and}
+use Rattle.std.proofs.{Common.{[], ◌+◌, ◌∙◌, ◌≤◌, ap, length, map, subst, sym}, lemmas.List.take_all, lemmas.List.Folds.list_all_at, lemmas.Result.err_from_is_err_and}
+use Rattle.std.specs.{List.list_all, Prelude.option_and_then}
 use Rattle.clap.specs.Words.{first_value, found_of}
-use Rattle.lert_args.specs.App.{is_read}
-use Rattle.lert_args.specs.Word.{number_of}
+use Rattle.lert_args.specs.{App.is_read, Word.number_of}
 use Rattle.lert_args.proofs.Loops.{all_more, room_more, same_rule, values_more}
 use Rattle.lert_args.proofs.by_clap.values_of.Goals as goal
 

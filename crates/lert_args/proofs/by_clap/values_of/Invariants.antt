@@ -1,8 +1,6 @@
 use Rattle.std.proofs.Common.{◌≡◌, ◌≤◌, take, length, map, true, vec_len, vec_capacity}
-use Rattle.std.specs.Prelude.{option_and_then}
-use Rattle.std.specs.List.{list_all}
-use Rattle.lert_args.specs.App.{is_read}
-use Rattle.lert_args.specs.Word.{number_of}
+use Rattle.std.specs.{Prelude.option_and_then, List.list_all}
+use Rattle.lert_args.specs.{App.is_read, Word.number_of}
 use Rattle.clap.specs.Words.{first_value, found_of}
 use Rattle.lert_args.proofs.by_clap.values_of.Given as goal
 

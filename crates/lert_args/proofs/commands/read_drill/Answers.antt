@@ -1,7 +1,5 @@
-use Rattle.std.proofs.Common.{Some, ap, arith, length, sym, ◌∙◌, refl}
-use Rattle.std.proofs.lemmas.Bool.{eqb-false, eqb-true}
-use Rattle.lert_args.specs.Command.{drill_said}
-use Rattle.lert_args.specs.declared.line.Line.TheVariants.{Drill}
+use Rattle.std.proofs.{Common.{Some, ap, arith, length, sym, ◌∙◌, refl}, lemmas.Bool.{eqb-false, eqb-true}}
+use Rattle.lert_args.specs.{Command.drill_said, declared.line.Line.TheVariants.Drill}
 use Rattle.lert_args.proofs.CommandLaws.{IsAnswered-none, answered, by_said, unnamed-is, unnamed-none}
 use Rattle.lert_args.proofs.commands.read_drill.Goals as goal
 

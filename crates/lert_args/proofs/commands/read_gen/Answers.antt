@@ -1,7 +1,5 @@
-use Rattle.std.proofs.Common.{Some, ap, arith, length, sym, ◌∙◌, refl}
-use Rattle.std.proofs.lemmas.Bool.{eqb-false, eqb-true}
-use Rattle.lert_args.specs.Command.{gen_said}
-use Rattle.lert_args.specs.declared.line.Line.TheVariants.{Gen}
+use Rattle.std.proofs.{Common.{Some, ap, arith, length, sym, ◌∙◌, refl}, lemmas.Bool.{eqb-false, eqb-true}}
+use Rattle.lert_args.specs.{Command.gen_said, declared.line.Line.TheVariants.Gen}
 use Rattle.lert_args.proofs.CommandLaws.{IsAnswered-none, answered, by_said, unnamed-is, unnamed-none}
 use Rattle.lert_args.proofs.commands.read_gen.Goals as goal
 

@@ -1,10 +1,8 @@
-use Rattle.std.proofs.Common.{Some, inl, inr, rules, get_or, ap, sym, ◌∙◌, refl}
-use Rattle.std.proofs.lemmas.Result.{err_from_is_err_and}
-use Rattle.lert_args.specs.Command.{recover_named, recover_said}
-use Rattle.lert_args.specs.declared.line.Line.TheVariants.{Recover}
+use Rattle.std.proofs.{Common.{Some, inl, inr, rules, get_or, ap, sym, ◌∙◌, refl}, lemmas.Result.err_from_is_err_and}
+use Rattle.lert_args.specs.{Command.{recover_named, recover_said}, declared.line.Line.TheVariants.Recover}
 use Rattle.lert_args.proofs.CommandLaws.{IsAnswered-none, answered, by_said, recover_named-is, recover_named-none, unsaid}
-use Rattle.lert_args.proofs.commands.read_recover.Goals as goal
 use Rattle.lert_args.proofs.commands.read_recover.Goals.{in_default-via-then-as_slice-lt1, in_default-via-else-as_slice-lt1+else-this-lt2}
+use Rattle.lert_args.proofs.commands.read_recover.Goals as goal
 
 pub returns-in_err-given : goal.returns-in_err-given
 returns-in_err-given c =

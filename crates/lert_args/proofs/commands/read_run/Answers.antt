@@ -1,6 +1,5 @@
 use Rattle.std.proofs.Common.{Some, ap, arith, length, sym, ◌∙◌, refl}
-use Rattle.lert_args.specs.Command.{run_named, run_said}
-use Rattle.lert_args.specs.declared.line.Line.TheVariants.{Run}
+use Rattle.lert_args.specs.{Command.{run_named, run_said}, declared.line.Line.TheVariants.Run}
 use Rattle.lert_args.proofs.CommandLaws.{IsAnswered-none, answered, by_said, run_named-is, run_named-none}
 use Rattle.lert_args.proofs.commands.read_run.Goals as goal
 

@@ -1,5 +1,4 @@
-use Rattle.std.proofs.Common.{◌<◌, ◌≤◌, ap, arith, length, sym}
-use Rattle.std.proofs.lemmas.Result.{err_from_is_err_and}
+use Rattle.std.proofs.{Common.{◌<◌, ◌≤◌, ap, arith, length, sym}, lemmas.Result.err_from_is_err_and}
 use Rattle.lert_args.specs.declared.line.Line.TheVariants.{Run}
 use Rattle.lert_args.proofs.CommandLaws.{at_most, breaks, breaks_by, first_breaks, first_keeps, keeps, over}
 use Rattle.lert_args.proofs.commands.run_of.Goals as goal

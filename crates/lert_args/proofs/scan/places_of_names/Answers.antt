@@ -1,7 +1,6 @@
 use Rattle.std.proofs.Common.{ℕ, ◌+◌, ◌≤◌, [], ◌≡◌, ◌∙◌, Some, length, Vec, Global, vec_len, vec_capacity, refl, sym, ap, subst, arith}
 use Rattle.lert_args.specs.declared.scan.Turn.TheVariants.{Name, Other}
-use Rattle.lert_args.proofs.Scanning.{ended, named, nothing, passed}
-use Rattle.lert_args.proofs.scan.places_of_names.Goals.{in-Some-Name, in-Some-Other}
+use Rattle.lert_args.proofs.{Scanning.{ended, named, nothing, passed}, scan.places_of_names.Goals.{in-Some-Name, in-Some-Other}}
 use Rattle.lert_args.proofs.scan.places_of_names.Goals as goal
 
 pub returns-in-None : goal.returns-in-None

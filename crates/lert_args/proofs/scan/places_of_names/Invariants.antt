@@ -1,7 +1,6 @@
 use Rattle.std.proofs.Common.{◌≡◌, ◌≤◌, ◌+◌, ◌++◌, drop, length, map, vec_len, vec_capacity}
 use Rattle.std.specs.Prelude.{option_map}
-use Rattle.lert_args.specs.Scan.{places_from}
-use Rattle.lert_args.specs.declared.scan.Stand.TheVariants.{Between}
+use Rattle.lert_args.specs.{Scan.places_from, declared.scan.Stand.TheVariants.Between}
 use Rattle.lert_args.proofs.scan.places_of_names.Given as goal
 
 -- the places so far, and those to come, are all; there is room for all

@@ -1,5 +1,4 @@
-use Rattle.std.proofs.Common.{◌∙◌, sym, arith, length}
-use Rattle.std.proofs.lemmas.Bool.{eqb-false}
+use Rattle.std.proofs.{Common.{◌∙◌, sym, arith, length}, lemmas.Bool.eqb-false}
 use Rattle.lert_args.proofs.Parsing.{number_of-parsed}
 use Rattle.lert_args.proofs.word.number.Goals as goal
 

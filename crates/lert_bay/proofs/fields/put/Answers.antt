@@ -1,5 +1,4 @@
-use Rattle.std.proofs.Common.{rules}
-use Rattle.std.proofs.lemmas.Slice.{overwrites}
+use Rattle.std.proofs.{Common.rules, lemmas.Slice.overwrites}
 use Rattle.lert_bay.proofs.fields.put.Goals as goal
 
 pub returns-clause-behind : goal.returns-clause-behind

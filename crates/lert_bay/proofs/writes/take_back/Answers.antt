@@ -1,7 +1,5 @@
 use Rattle.std.proofs.Common.{ℕ, ◌-◌, ◌<◌, length, drop, slice_index, ap, sym, ◌∙◌, subst}
-use Rattle.lert_bay.specs.Files.{IsOutside}
-use Rattle.lert_bay.specs.Pending.{before_all}
-use Rattle.lert_bay.specs.declared.overwrite.Overwrite.{Overwrite}
+use Rattle.lert_bay.specs.{Files.IsOutside, Pending.before_all, declared.overwrite.Overwrite.Overwrite}
 use Rattle.lert_bay.proofs.Restoring.{back_more, last_within, none_left}
 use Rattle.lert_bay.proofs.writes.take_back.Goals as goal
 

@@ -1,6 +1,5 @@
 use Rattle.std.proofs.Common.{◌≡◌, ℕ, ◌<◌, length, drop, slice_index, All}
-use Rattle.lert_bay.specs.Files.{IsOutside}
-use Rattle.lert_bay.specs.Pending.{before_all}
+use Rattle.lert_bay.specs.{Files.IsOutside, Pending.before_all}
 use Rattle.lert_bay.proofs.writes.take_back.Given as goal
 
 abbrev pub invariant-loop-index : goal.invariant-loop-index

@@ -1,6 +1,5 @@
-use Rattle.std.proofs.Common.{◌≡◌, ℕ, ◌*◌, ◌/◌, ◌%◌, ◌<◌, ◌≢◌, Bool, true, false, cond, List, length, get_or, set, ap, ◌∙◌, refl}
+use Rattle.std.proofs.{Common.{◌≡◌, ℕ, ◌*◌, ◌/◌, ◌%◌, ◌<◌, ◌≢◌, Bool, true, false, cond, List, length, get_or, set, ap, ◌∙◌, refl}, lemmas.List.set-get_or}
 use Rattle.std.specs.Int.{bit_at}
-use Rattle.std.proofs.lemmas.List.{set-get_or}
 use Rattle.lert_slotbits.specs.Bits.{row_of}
 use Rattle.lert_slotbits.proofs.RowLemmas.{row-set}
 use Rattle.lert_blocks.proofs.block.clear_if.Goals as goal

@@ -1,6 +1,4 @@
-use Rattle.std.proofs.Common.{ℕ, ◌<◌, ◌^◌, List, sym, subst, inl, inr, arith, take, get_or, length-take}
-use Rattle.std.proofs.lemmas.Bool.{cases_lt}
-use Rattle.std.proofs.lemmas.List.{get_or-take, get_or_past}
+use Rattle.std.proofs.{Common.{ℕ, ◌<◌, ◌^◌, List, sym, subst, inl, inr, arith, take, get_or, length-take}, lemmas.Bool.cases_lt, lemmas.List.{get_or-take, get_or_past}}
 use Rattle.lert_blocks.proofs.block.first_words.Goals as goal
 
 fits_front : (n : ℕ) (words : List ℕ) → ((i : ℕ) → get_or words i 0 < 2 ^ 64) → (i : ℕ) → get_or (take n words) i 0 < 2 ^ 64

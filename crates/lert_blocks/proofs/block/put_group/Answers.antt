@@ -1,7 +1,5 @@
-use Rattle.std.proofs.Common.{arith}
-use Rattle.lert_counter.proofs.CounterLemmas.{front-one, length_from_front}
-use Rattle.lert_counter.proofs.GroupLemmas.{length_group-positive}
-use Rattle.std.proofs.lemmas.List.{length-set}
+use Rattle.std.proofs.{Common.arith, lemmas.List.length-set}
+use Rattle.lert_counter.proofs.{CounterLemmas.{front-one, length_from_front}, GroupLemmas.length_group-positive}
 use Rattle.lert_blocks.proofs.block.put_group.Goals as goal
 
 pub returns-then-count-eq1-clause-front : goal.returns-then-count-eq1-clause-front

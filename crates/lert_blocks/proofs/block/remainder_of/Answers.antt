@@ -1,5 +1,4 @@
-use Rattle.std.proofs.lemmas.Nat.{one_shl, and_mask}
-use Rattle.std.proofs.Common.{◌-◌, ap, ◌∙◌, bit_and}
+use Rattle.std.proofs.{lemmas.Nat.{one_shl, and_mask}, Common.{◌-◌, ap, ◌∙◌, bit_and}}
 use Rattle.lert_blocks.proofs.block.remainder_of.Goals as goal
 
 pub returns : goal.returns

@@ -1,8 +1,5 @@
-use Rattle.std.proofs.Common.{◌≡◌, ℕ, ◌-◌, ◌*◌, ◌%◌, ◌^◌, ◌<◌, ap, ◌∙◌, bit_and}
+use Rattle.std.proofs.{Common.{◌≡◌, ℕ, ◌-◌, ◌*◌, ◌%◌, ◌^◌, ◌<◌, ap, ◌∙◌, bit_and}, Math.Nat.{mod-eq_of_lt, zero-mul}, lemmas.Nat.and_mask, lemmas.Nat.Bits.{bit_at_clear_same, bit_at_clear_other}}
 use Rattle.std.specs.Int.{w64, bit_at}
-use Rattle.std.proofs.Math.Nat.{mod-eq_of_lt, zero-mul}
-use Rattle.std.proofs.lemmas.Nat.{and_mask}
-use Rattle.std.proofs.lemmas.Nat.Bits.{bit_at_clear_same, bit_at_clear_other}
 use mir.Val.{bool_byte}
 use Rattle.lert_blocks.proofs.block.without_if.Goals as goal
 

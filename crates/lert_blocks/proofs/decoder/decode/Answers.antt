@@ -1,5 +1,4 @@
-use Rattle.std.proofs.Common.{rules, refl, subst, sym, ◌∙◌, arith}
-use Rattle.std.proofs.lemmas.Result.{err_from_is_err_and}
+use Rattle.std.proofs.{Common.{rules, refl, subst, sym, ◌∙◌, arith}, lemmas.Result.err_from_is_err_and}
 use Rattle.lert_blocks.proofs.StepLaws.{Goes, Goes-none, Goes-more, Goes-left, Goes-out, walk_at, put_kept, put_ascend, put_counts, put_few}
 use Rattle.lert_blocks.proofs.decoder.decode.Goals as goal
 

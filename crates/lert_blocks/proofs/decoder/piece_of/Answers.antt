@@ -1,6 +1,5 @@
-use Rattle.std.proofs.Common.{ℕ, ◌+◌, ◌*◌, ◌^◌, List, ◌∷◌, drop, refl, sym, ap, ◌∙◌, arith}
+use Rattle.std.proofs.{Common.{ℕ, ◌+◌, ◌*◌, ◌^◌, List, ◌∷◌, drop, refl, sym, ap, ◌∙◌, arith}, lemmas.Nat.Bits.bit_at-trailing_zeros}
 use Rattle.std.specs.Int.{w64, trailing_zeros}
-use Rattle.std.proofs.lemmas.Nat.Bits.{bit_at-trailing_zeros}
 use Rattle.lert_blocks.proofs.PlaceLaws.{places_of, tail_fits, shifted_is}
 use Rattle.lert_blocks.proofs.decoder.piece_of.Goals as goal
 

@@ -1,6 +1,5 @@
 use Rattle.std.proofs.Common.{sym, ◌∙◌}
-use Rattle.lert_blocks.proofs.GroupLaws.{decided, counter_answer, zero_answer}
-use Rattle.lert_blocks.proofs.GroupLaws.Decided.{empty, alone, above, twice, zero_twice, zero_thrice, zero_first, below}
+use Rattle.lert_blocks.proofs.{GroupLaws.{decided, counter_answer, zero_answer}, GroupLaws.Decided.{empty, alone, above, twice, zero_twice, zero_thrice, zero_first, below}}
 use Rattle.lert_blocks.proofs.group.front_group.Goals as goal
 
 pub returns : goal.returns

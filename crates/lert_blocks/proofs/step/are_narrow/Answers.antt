@@ -1,5 +1,4 @@
-use Rattle.std.proofs.Common.{get_or, arith, below_more}
-use Rattle.std.proofs.lemmas.Nat.{le_or_l, le_or_r}
+use Rattle.std.proofs.{Common.{get_or, arith, below_more}, lemmas.Nat.{le_or_l, le_or_r}}
 use Rattle.lert_blocks.proofs.step.are_narrow.Goals as goal
 
 pub loop-slot-preserved : goal.loop-slot-preserved

@@ -1,6 +1,4 @@
-use Rattle.std.proofs.Common.{◌^◌, length, get_or, arith, sym, inl, inr}
-use Rattle.std.proofs.lemmas.Bool.{cases_lt}
-use Rattle.std.proofs.Math.Nat.{div-eq_of_lt}
+use Rattle.std.proofs.{Common.{◌^◌, length, get_or, arith, sym, inl, inr}, lemmas.Bool.cases_lt, Math.Nat.div-eq_of_lt}
 use Rattle.lert_blocks.proofs.SlotLaws.{first_bad_is, first_bad_none}
 use Rattle.lert_blocks.proofs.step.first_wrong.Goals as goal
 

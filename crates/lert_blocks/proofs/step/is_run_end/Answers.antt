@@ -1,5 +1,4 @@
-use Rattle.std.proofs.Common.{◌==◌, ◌-◌, sym, ap, ◌∙◌}
-use Rattle.std.proofs.lemmas.Nat.Bits.{shr_and_one}
+use Rattle.std.proofs.{Common.{◌==◌, ◌-◌, sym, ap, ◌∙◌}, lemmas.Nat.Bits.shr_and_one}
 use Rattle.lert_blocks.proofs.EndLaws.{end_in_word, end_behind}
 use Rattle.lert_blocks.proofs.step.is_run_end.Goals as goal
 

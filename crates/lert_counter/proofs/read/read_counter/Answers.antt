@@ -1,6 +1,5 @@
 use Rattle.std.proofs.Common.{◌≡◌, arith, Some, None, ap, ◌∙◌, get_or, refl}
-use Rattle.lert_counter.specs.Group.{group}
-use Rattle.lert_counter.specs.Reading.{read_as}
+use Rattle.lert_counter.specs.{Group.group, Reading.read_as}
 use Rattle.lert_counter.proofs.FrontLemmas.{begins_split, checked_read}
 use Rattle.lert_counter.proofs.read.read_counter.Goals as goal
 

@@ -1,12 +1,7 @@
-use Rattle.std.proofs.Common.{◌≡◌, ℕ, ◌<◌, arith, Some, ◌++◌, ◌∷◌, List, length, get_or, drop, ap, ◌∙◌, sym, subst, inl, inr}
-use Rattle.lert_counter.specs.Group.{group}
-use Rattle.lert_counter.specs.Reading.{read_as, HasTwoZeros}
-use Rattle.std.proofs.Common.{length-append}
-use Rattle.std.proofs.lemmas.Bool.Decides.{nat_tests}
+use Rattle.std.proofs.{Common.{◌≡◌, ℕ, ◌<◌, arith, Some, ◌++◌, ◌∷◌, List, length, get_or, drop, ap, ◌∙◌, sym, subst, inl, inr, length-append}, lemmas.Bool.Decides.nat_tests}
 use Rattle.std.proofs.lemmas.Option.{none-some, IfSome_then}
-use Rattle.lert_counter.proofs.CounterLemmas.{group-one}
-use Rattle.lert_counter.proofs.GroupLemmas.{length_group-positive}
-use Rattle.lert_counter.proofs.FrontLemmas.{short_of, read_one, begins_front}
+use Rattle.lert_counter.specs.{Group.group, Reading.{read_as, HasTwoZeros}}
+use Rattle.lert_counter.proofs.{CounterLemmas.group-one, GroupLemmas.length_group-positive, FrontLemmas.{short_of, read_one, begins_front}}
 use Rattle.lert_counter.proofs.FrontLemmas.ShortOf.{known, alone_or_counter, behind_counter}
 use Rattle.lert_counter.proofs.read.read_group.Goals as goal
 

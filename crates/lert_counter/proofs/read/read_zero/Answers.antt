@@ -1,7 +1,5 @@
-use Rattle.std.proofs.Common.{◌≡◌, ℕ, arith, None, Some, ap, sym, ◌∙◌, get_or, length, refl, inl, inr, min, take, subst, List}
-use Rattle.std.proofs.lemmas.List.{take_min}
-use Rattle.lert_counter.specs.Reading.{HasTwoZeros, read_as}
-use Rattle.lert_counter.specs.Group.{group, BeginsWith}
+use Rattle.std.proofs.{Common.{◌≡◌, ℕ, arith, None, Some, ap, sym, ◌∙◌, get_or, length, refl, inl, inr, min, take, subst, List}, lemmas.List.take_min}
+use Rattle.lert_counter.specs.{Reading.{HasTwoZeros, read_as}, Group.{group, BeginsWith}}
 use Rattle.lert_counter.proofs.FrontLemmas.{begins_alone, zeros_later}
 use Rattle.lert_counter.proofs.read.read_zero.Goals as goal
 

@@ -1,6 +1,5 @@
 use Rattle.std.proofs.Common.{◌≡◌, arith, Some, None, ap, ◌∙◌, get_or, refl}
-use Rattle.lert_counter.specs.Group.{group, BeginsWith}
-use Rattle.lert_counter.specs.Reading.{read_as}
+use Rattle.lert_counter.specs.{Group.{group, BeginsWith}, Reading.read_as}
 use Rattle.lert_counter.proofs.FrontLemmas.{begins_split, checked_read}
 use Rattle.lert_counter.proofs.read.read_zero_counter.Goals as goal
 

@@ -1,10 +1,8 @@
 use Rattle.std.proofs.Common.{◌≡◌, ◌≢◌, arith, ◌+◌, ◌-◌, length, get_or, refl, ap, ◌∙◌, None, Some}
-use Rattle.lert_counter.specs.Group.{group}
-use Rattle.lert_counter.proofs.RoundTrip.{counter_found}
-use Rattle.lert_counter.specs.Reading.{number_of, digits_at}
-use Rattle.lert_counter.proofs.SpelledLemmas.{counter_spelled, spelled_counter, counted_spelled, start_guarded, start_bare}
-use Rattle.lert_counter.proofs.read.scan_counter.Goals as goal
+use Rattle.lert_counter.specs.{Group.group, Reading.{number_of, digits_at}}
+use Rattle.lert_counter.proofs.{RoundTrip.counter_found, SpelledLemmas.{counter_spelled, spelled_counter, counted_spelled, start_guarded, start_bare}}
 use Rattle.lert_counter.proofs.read.scan_counter.Goals.{then-rest-eq0, else-rest-eq0}
+use Rattle.lert_counter.proofs.read.scan_counter.Goals as goal
 
 pub returns-in_err-digits-clause-there : goal.returns-in_err-digits-clause-there
 returns-in_err-digits-clause-there c = λ count back least most text.

@@ -1,6 +1,5 @@
 use Rattle.std.proofs.Common.{◌≡◌, ◌<◌, length, get_or, arith, refl, inl, inr}
-use Rattle.lert_counter.proofs.ScanLemmas.{ends_at_x, goes_on, bounded, reads_digit, spells_all, takes_digit, written-positive}
-use Rattle.lert_counter.proofs.SpelledLemmas.{spelled_more, spelled_all}
+use Rattle.lert_counter.proofs.{ScanLemmas.{ends_at_x, goes_on, bounded, reads_digit, spells_all, takes_digit, written-positive}, SpelledLemmas.{spelled_more, spelled_all}}
 use Rattle.lert_counter.proofs.read.scan_digits.Goals as goal
 
 pub returns-then-slot-x-clause-read : goal.returns-then-slot-x-clause-read

@@ -1,6 +1,5 @@
 use Rattle.std.proofs.Common.{◌≡◌, ◌≤◌, ◌^◌, ◌++◌, ◌∷◌, List, ℕ, length, map, take}
-use Rattle.lert_counter.specs.Group.{written}
-use Rattle.lert_counter.specs.Reading.{number_of}
+use Rattle.lert_counter.specs.{Group.written, Reading.number_of}
 use Rattle.lert_counter.proofs.SpelledLemmas.{SpelledTo}
 use Rattle.lert_counter.proofs.read.scan_digits.Given as goal
 

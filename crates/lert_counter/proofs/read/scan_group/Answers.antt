@@ -1,12 +1,7 @@
-use Rattle.std.proofs.Common.{◌≡◌, ◌<◌, ◌≤◌, ℕ, arith, Option, Some, None, ◌++◌, ◌∷◌, List, get_or, drop, ap, ◌∙◌, sym, subst, refl, inl, inr}
+use Rattle.std.proofs.{Common.{◌≡◌, ◌<◌, ◌≤◌, ℕ, arith, Option, Some, None, ◌++◌, ◌∷◌, List, get_or, drop, ap, ◌∙◌, sym, subst, refl, inl, inr}, lemmas.Bool.cases_lt}
 use Rattle.std.specs.Prelude.{is_some}
-use Rattle.std.proofs.lemmas.Bool.{cases_lt}
-use Rattle.lert_counter.specs.Group.{group}
-use Rattle.lert_counter.specs.declared.group.Group.{Group}
-use Rattle.lert_counter.specs.Reading.{read_as, HasTwoZeros}
-use Rattle.lert_counter.proofs.CounterLemmas.{group-one}
-use Rattle.lert_counter.proofs.FrontLemmas.{short_of, read_one}
-use Rattle.lert_counter.proofs.FrontLemmas.ShortOf.{known, alone_or_counter, behind_counter}
+use Rattle.lert_counter.specs.{Group.group, declared.group.Group.Group, Reading.{read_as, HasTwoZeros}}
+use Rattle.lert_counter.proofs.{CounterLemmas.group-one, FrontLemmas.{short_of, read_one}, FrontLemmas.ShortOf.{known, alone_or_counter, behind_counter}}
 use Rattle.lert_counter.proofs.read.scan_group.Goals as goal
 
 -- what can't be, over plain values: a search would go through all that is known

@@ -1,9 +1,7 @@
-use Rattle.std.proofs.Common.{◌≡◌, arith, ◌+◌, ◌-◌, length, get_or, refl, ap, ◌∙◌, None, Some, take, drop}
-use Rattle.std.proofs.lemmas.List.{take_rest, length-drop, get_or-drop}
+use Rattle.std.proofs.{Common.{◌≡◌, arith, ◌+◌, ◌-◌, length, get_or, refl, ap, ◌∙◌, None, Some, take, drop}, lemmas.List.{take_rest, length-drop, get_or-drop}}
 use Rattle.lert_counter.specs.Group.{group}
-use Rattle.lert_counter.proofs.RoundTrip.{zero_found}
+use Rattle.lert_counter.proofs.{RoundTrip.zero_found, read.scan_zero.Goals.{then-last-rest-via-then-last-rest, then-last-rest-via-else-last-rest+then-rest-last-ne0}}
 use Rattle.lert_counter.proofs.read.scan_zero.Goals as goal
-use Rattle.lert_counter.proofs.read.scan_zero.Goals.{then-last-rest-via-then-last-rest, then-last-rest-via-else-last-rest+then-rest-last-ne0}
 
 pub returns-in_err-digits-clause-there : goal.returns-in_err-digits-clause-there
 returns-in_err-digits-clause-there c = λ count back least most text.

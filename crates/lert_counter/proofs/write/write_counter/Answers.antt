@@ -1,9 +1,7 @@
-use Rattle.std.proofs.Common.{arith, lit<, ◌∙◌, sym, ◌≡◌, ℕ, ◌+◌, ◌^◌, ◌<◌, ◌≤◌, length, set, take, map, ◌++◌, ◌-◌, ap, get_or}
-use Rattle.std.proofs.lemmas.List.{length-set}
+use Rattle.std.proofs.{Common.{arith, lit<, ◌∙◌, sym, ◌≡◌, ℕ, ◌+◌, ◌^◌, ◌<◌, ◌≤◌, length, set, take, map, ◌++◌, ◌-◌, ap, get_or}, lemmas.List.length-set}
 use Rattle.lert_counter.specs.Group.{digits, written, digit_base}
-use Rattle.lert_counter.proofs.CounterLemmas.{counter-guarded, counter-bare, front_above, front_guarded}
+use Rattle.lert_counter.proofs.{CounterLemmas.{counter-guarded, counter-bare, front_above, front_guarded}, write.write_counter.Goals.{then-slot_of-x, else-slot_of-x}}
 use Rattle.lert_counter.proofs.write.write_counter.Goals as goal
-use Rattle.lert_counter.proofs.write.write_counter.Goals.{then-slot_of-x, else-slot_of-x}
 
 pub returns-clause-front : goal.returns-clause-front
 returns-clause-front c =

@@ -1,8 +1,6 @@
-use Rattle.std.proofs.Common.{arith, ◌∙◌, sym, ap, ◌≡◌}
-use Rattle.std.proofs.lemmas.List.{length-set}
+use Rattle.std.proofs.{Common.{arith, ◌∙◌, sym, ap, ◌≡◌}, lemmas.List.length-set}
 use Rattle.lert_counter.specs.Group.{counter}
-use Rattle.lert_counter.proofs.CounterLemmas.{length_from_front, front-one, front-two, front-three, group-counter}
-use Rattle.lert_counter.proofs.SlotLemmas.{slots_below}
+use Rattle.lert_counter.proofs.{CounterLemmas.{length_from_front, front-one, front-two, front-three, group-counter}, SlotLemmas.slots_below}
 use Rattle.lert_counter.proofs.write.write_group.Goals as goal
 
 pub returns-then-count-eq1-clause-front : goal.returns-then-count-eq1-clause-front

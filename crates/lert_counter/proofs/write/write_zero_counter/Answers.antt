@@ -1,5 +1,4 @@
-use Rattle.std.proofs.Common.{arith, ◌∙◌, sym}
-use Rattle.std.proofs.lemmas.List.{length-set}
+use Rattle.std.proofs.{Common.{arith, ◌∙◌, sym}, lemmas.List.length-set}
 use Rattle.lert_counter.proofs.CounterLemmas.{counter-zero, front_zero, rest_zero}
 use Rattle.lert_counter.proofs.write.write_zero_counter.Goals as goal
 

@@ -1,6 +1,6 @@
 use Rattle.lert_bay.specs.Kept.{Bays, seen_by}
 use Rattle.std.proofs.{Common.{ℕ, ◌≤◌, Err, refl, ap, sym, ◌∙◌, subst, arith}, lemmas.Result.err_from_is_err_and}
-use Rattle.lert_levels.specs.{rows.Checked.EachStands, OnDisk.OnDisk, rows.Named.IsDirectory, rows.Rows.{IsAt, AreRows}}
+use Rattle.lert_levels.specs.{rows.Checked.EachStands, OnDisk.{OnDisk, written}, rows.Named.IsDirectory, rows.Rows.{IsAt, AreRows}}
 use Rattle.lert_spec.specs.{declared.numbers.Numbers.Numbers, Edges.capacity}
 use Rattle.lert_bay.specs.declared.bay.TheConstants.{JOURNAL, FRAMES}
 use Rattle.lert_files.proofs.{GateLaws.{err_is, not_err, same_fault}, OpenedLaws.{check_failed, check_refused, header_refused, log_refused, opened_of}}
@@ -149,7 +149,7 @@ returns g c =
           (log.read.0, opened.0, opened.1);
       stand = λ seen told.
           let stands = check.stand seen (log.only_reads.seen ∙ (header.only_reads.seen ∙ (synced.quiet.seen ∙ told))) in
-          subst (λ (disk : OnDisk). EachStands s (seen FRAMES) disk.rows) after (subst (λ (numbers : Numbers). EachStands numbers (seen FRAMES) rows) own stands);
+          subst (λ (disk : OnDisk). EachStands s written (seen FRAMES) disk.rows) after (subst (λ (numbers : Numbers). EachStands numbers written (seen FRAMES) rows) own stands);
       durable = λ seen told image may.
           c.in_ok-sync_files.ensures.durable seen told image ((header.only_reads.images image).0 ((log.only_reads.images image).0 ((check.only_reads.images image).0 may)));
       same = (ap (λ (disk : OnDisk). disk.settings) check.same ∙ restored.settings, log.same);

@@ -4,7 +4,7 @@ use Rattle.lert_bay.specs.declared.bay.TheConstants.{JOURNAL, LOG}
 use Rattle.lert_files.proofs.{AgreedLaws.{agreed_front, agreed_all}, GateLaws.{malformed_or_failed, not_err, same_place}, HeadLaws.read_front}
 use Rattle.lert_bay.proofs.KeptLaws.{IsLawful, apart_from_log, reads_call}
 use Rattle.lert_reports.specs.Log.{log_header}
-use Rattle.lert_spec.specs.Trace.{agreed}
+use Rattle.lert_spec.specs.Agreed.{agreed}
 use Rattle.lert_files.proofs.log_header.read_log_header.Given as given
 use Rattle.lert_files.proofs.log_header.read_log_header.Goals as goal
 

@@ -1,11 +1,11 @@
-use Rattle.std.proofs.{Common.{ℕ, ◌≡◌, ◌≢◌, ◌-◌, ◌++◌, Some, None, length, take, drop, ap, sym, ◌∙◌, subst, arith}, lemmas.List.Elements.All-append, lemmas.Option.none-some}
-use Rattle.std.specs.{Prelude.All, List.AllPairs}
-use Rattle.lert_spec.specs.{declared.numbers.Numbers.Numbers, declared.report.Report.Report, Limits.IsValid, Mix.cone_of}
+use Rattle.std.proofs.{Common.{ℕ, ◌≡◌, ◌≢◌, ◌-◌, Some, None, length, take, drop, ap, sym, ◌∙◌, subst, arith}, lemmas.Option.none-some}
+use Rattle.std.specs.List.{AllPairs}
+use Rattle.lert_spec.specs.{declared.numbers.Numbers.Numbers, declared.report.Report.Report, Limits.IsValid}
 use Rattle.lert_reports.specs.{LogRules.record_in, LogText.log_left}
 use Rattle.lert_reports.proofs.RecordLaws.{parts_tell}
-use Rattle.lert_files.specs.Repeated.{reports_from, IsListedThere, AreNewThere}
+use Rattle.lert_files.specs.Repeated.{IsListedThere, AreNewThere}
 use Rattle.lert_files.proofs.{LeavesLaws.first_again, RepeatLaws.length_from}
-use Rattle.lert_files.proofs.StepLaws.{all_new, counted, directory_fits, directory_there, flushes_few, listed_of_cone, most_directory_fits, read_more, steps_more, IsAfter}
+use Rattle.lert_files.proofs.StepLaws.{all_new, counted, directory_fits, directory_there, flushes_few, most_directory_fits, read_more, steps_more, IsAfter}
 use Rattle.lert_files.proofs.log_record.take_record.Goals as goal
 
 pub put_reports-requires-clause-room : goal.put_reports-requires-clause-room
@@ -20,21 +20,6 @@ put_reports-requires-clause-room g c =
       length_from c.args.payload.now c.in-Ok.parts.reports_at c.in-Ok.parts.reports,
       counted s c.args.cone valid c.args.progress.now c.args.store.now.reports c.args.directory.now read.0 read.1,
       ap (λ (n : Numbers). n.room) c.requires.same,
-    )
-
-pub put_reports-requires-clause-of_cone : goal.put_reports-requires-clause-of_cone
-put_reports-requires-clause-of_cone g c =
-    let s = c.args.settings.now in
-    let cone = c.args.cone in
-    let valid = subst IsValid c.numbers.ensures.value c.numbers.ensures.valid in
-    let keeps = c.in-Ok.ensures.found.0 in
-    let read = c.requires.read in
-    let reports = reports_from c.args.payload.now c.in-Ok.parts.reports_at c.in-Ok.parts.reports in
-    let listed = c.args.store.now.reports in
-    let before = listed_of_cone s cone valid c.args.progress.now listed c.args.directory.now read.0 read.1 in (
-      cone,
-      subst (λ (numbers : Numbers). All (λ report. cone_of numbers report.key ≡ cone) (listed ++ reports)) (sym c.requires.same)
-          (All-append (λ (report : Report). cone_of s report.key ≡ cone) listed reports before keeps.reports.of_cone),
     )
 
 pub replace-requires : goal.replace-requires
@@ -69,7 +54,6 @@ first_left-requires-clause-left g c =
       c.args.progress.now.before,
       c.in-Err.ensures.exact,
       omega (arith, count),
-      listed_of_cone c.args.settings.now c.args.cone valid c.args.progress.now c.args.store.now.reports c.args.directory.now read.0 read.1,
     )
 
 pub returns-in-Some : goal.returns-in-Some

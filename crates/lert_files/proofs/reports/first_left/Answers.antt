@@ -1,9 +1,8 @@
-use Rattle.std.proofs.Common.{ℕ, ◌≡◌, ◌-◌, ◌/◌, ◌≤◌, ◌++◌, ap, ap₂, sym, ◌∙◌, subst, arith}
-use Rattle.std.specs.Prelude.{All}
-use Rattle.lert_spec.specs.{declared.numbers.Numbers.Numbers, Edges.capacity, Look.is_listed, Mix.cone_of}
+use Rattle.std.proofs.Common.{ℕ, ◌-◌, ◌/◌, ◌≤◌, ◌++◌, ap, ap₂, sym, ◌∙◌, subst, arith}
+use Rattle.lert_spec.specs.{declared.numbers.Numbers.Numbers, Edges.capacity, Look.is_listed}
 use Rattle.lert_reports.specs.Log.{before_of}
 use Rattle.lert_files.specs.Repeated.{reports_from, IsListedThere, AreNewThere}
-use Rattle.lert_files.proofs.{LeftLaws.{long_enough, within_capacity}, LeavesLaws.{breaks_behind, behind_new, at_key, among, all_of_cone, key_of_cone, next_key, place_small}}
+use Rattle.lert_files.proofs.{LeftLaws.{long_enough, within_capacity}, LeavesLaws.{breaks_behind, behind_new, at_key, among, next_key, place_small}}
 use Rattle.lert_files.proofs.reports.first_left.Goals as goal
 
 pub number_in-requires : goal.number_in-requires
@@ -32,19 +31,6 @@ put_reports-requires-clause-room g c =
     let at = breaks_behind s c.args.payload.now c.reports_start-start.result c.number_in.result left.0 left.1 c.args.place
     c.reports_start-start.ensures.value c.number_in.ensures c.if-place-start.false left.2 in
     omega (arith, at.reports.few, at.reports.room, left.3, ap (λ (n : Numbers). n.room) c.requires.same)
-
-pub put_reports-requires-clause-of_cone : goal.put_reports-requires-clause-of_cone
-put_reports-requires-clause-of_cone g c =
-    let s = c.args.settings.now in
-    let left = c.requires.left in
-    let at = breaks_behind s c.args.payload.now c.reports_start-start.result c.number_in.result left.0 left.1 c.args.place
-    c.reports_start-start.ensures.value c.number_in.ensures c.if-place-start.false left.2 in
-    let n = (c.args.place - c.reports_start-start.result) / 16 in (
-      left.0,
-      subst (λ (numbers : Numbers). All (λ report. cone_of numbers report.key ≡ left.0)
-          (c.args.store.now.reports ++ reports_from c.args.payload.now c.reports_start-start.result n)) (sym c.requires.same)
-          (all_of_cone s c.args.payload.now c.reports_start-start.result at.start_is left.0 left.1 c.args.store.now.reports n left.4 at.reports.keys),
-    )
 
 pub returns-in-Some-clause-first : goal.returns-in-Some-clause-first
 returns-in-Some-clause-first g c cone records is listed_is =
@@ -108,23 +94,6 @@ number_in-requires-2 g c =
     c.reports_start-start.ensures.value c.number_in.ensures c.if-place-start.false left.2 in
     let n = (c.args.place - start) / 16 in
     omega (arith, (next_key s c.args.payload.now start at.start_is left.0 left.1 c.args.place n at.reports c.if-place-next.false).long, at.start_is)
-
-pub has-requires : goal.has-requires
-has-requires g c =
-    let s = c.args.settings.now in
-    let left = c.requires.left in
-    let start = c.reports_start-start.result in
-    let at = breaks_behind s c.args.payload.now start c.number_in.result left.0 left.1 c.args.place
-    c.reports_start-start.ensures.value c.number_in.ensures c.if-place-start.false left.2 in
-    let n = (c.args.place - start) / 16 in
-    let key = next_key s c.args.payload.now start at.start_is left.0 left.1 c.args.place n at.reports c.if-place-next.false in
-    let key_is = key_of_cone s c.args.payload.now start at.start_is left.0 left.1 n key in
-    let those = all_of_cone s c.args.payload.now start at.start_is left.0 left.1 c.args.store.now.reports n left.4 at.reports.keys in
-    let same = c.in_default.ensures.settings ∙ c.requires.same in
-    let cone_is : left.0 ≡ cone_of s c.number_in-2.result = sym (ap (cone_of s) c.number_in-2.ensures ∙ key_is) in
-    subst (λ (numbers : Numbers). All (λ report. cone_of numbers report.key ≡ cone_of numbers c.number_in-2.result) c.put_reports.new.store.reports) (sym same)
-    (subst (λ (cone : ℕ). All (λ report. cone_of s report.key ≡ cone) c.put_reports.new.store.reports) cone_is
-    (subst (All (λ report. cone_of s report.key ≡ left.0)) (sym c.in_default.ensures.found.0) those))
 
 pub returns-then-has-clause-first : goal.returns-then-has-clause-first
 returns-then-has-clause-first g c cone records is listed_is =

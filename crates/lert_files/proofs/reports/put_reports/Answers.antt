@@ -1,22 +1,9 @@
-use Rattle.std.proofs.Common.{◌≡◌, ◌+◌, ◌*◌, ◌++◌, ℕ, [], ◌∷◌, length, ap, ap₂, sym, ◌∙◌, subst, arith, length-append}
-use Rattle.std.specs.Prelude.{All}
-use Rattle.lert_spec.specs.{declared.numbers.Numbers.Numbers, declared.report.Report.Report, Look.is_listed, Mix.cone_of}
-use Rattle.lert_reports.specs.{Stored.Stored, LogText.number_in}
+use Rattle.std.proofs.Common.{◌+◌, ◌++◌, [], ◌∷◌, length, ap, ap₂, sym, ◌∙◌, arith, length-append}
+use Rattle.lert_spec.specs.{declared.numbers.Numbers.Numbers, declared.report.Report.Report, Look.is_listed}
+use Rattle.lert_reports.specs.Stored.{Stored}
 use Rattle.lert_files.specs.Repeated.{reports_from, IsNewThere}
-use Rattle.lert_files.proofs.RepeatLaws.{length_from, listed_more, new_more, of_one_cone}
+use Rattle.lert_files.proofs.RepeatLaws.{length_from, listed_more, new_more}
 use Rattle.lert_files.proofs.reports.put_reports.Goals as goal
-
-pub has-requires : goal.has-requires
-has-requires g c =
-    let listed = c.args.store.now.reports in
-    let n = c.loop-number.number in
-    let now = c.loop-number.invariant in
-    let those = of_one_cone c.args.payload.now c.args.start c.args.store.now.settings listed c.requires.of_cone.0 n c.args.count c.requires.of_cone.1 c.loop-number-test.true in
-    let key_is = ap (λ (report : Report). report.key) c.report_there-report.ensures in
-    subst (λ (s : Numbers). All (λ report. cone_of s report.key ≡ cone_of s c.report_there-report.result.key) c.loop-number.store.reports) (sym now.settings)
-    (subst (λ (key : ℕ). All (λ report. cone_of c.args.store.now.settings report.key ≡ cone_of c.args.store.now.settings key) c.loop-number.store.reports) (sym key_is)
-    (subst (All (λ report. cone_of c.args.store.now.settings report.key ≡ cone_of c.args.store.now.settings (number_in 8 c.args.payload.now (c.args.start + 16 * n))))
-    (sym now.stored) those))
 
 pub put-requires : goal.put-requires
 put-requires g c =

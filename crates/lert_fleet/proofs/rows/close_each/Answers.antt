@@ -1,8 +1,6 @@
-use Rattle.std.proofs.Common.{map, sym, ◌∙◌, vec_capacity, vec_len, arith}
+use Rattle.std.proofs.{Common.{map, sym, ◌∙◌, vec_capacity, vec_len, arith}, lemmas.List.nil_from_length}
 use Rattle.crossbeam_utils.specs.Padded.{padded_value}
-use Rattle.lert_fleet.proofs.Places.{has_room, is_fewer, length_pushed, not_alone}
-use Rattle.lert_fleet.proofs.Closing.{closing_done, closing_first, closing_many, next_whole, next_closed}
-use Rattle.std.proofs.lemmas.List.{nil_from_length}
+use Rattle.lert_fleet.proofs.{Places.{has_room, is_fewer, length_pushed, not_alone}, Closing.{closing_done, closing_first, closing_many, next_whole, next_closed}}
 use Rattle.lert_fleet.proofs.rows.close_each.Goals as goal
 
 pub loop-lock-init : goal.loop-lock-init

@@ -1,10 +1,7 @@
-use Rattle.std.proofs.Common.{List, Some, length, map, rules, refl, ap, ◌∙◌, arith}
-use Rattle.std.proofs.lemmas.List.{nil_from_length}
-use Rattle.std.proofs.lemmas.List.Elements.{All-pop}
+use Rattle.std.proofs.{Common.{List, Some, length, map, rules, refl, ap, ◌∙◌, arith}, lemmas.List.nil_from_length, lemmas.List.Elements.All-pop}
 use Rattle.crossbeam_utils.specs.Padded.{padded_value}
 use Rattle.lert_base.specs.Packet.{Packet}
-use Rattle.lert_fleet.proofs.Places.{length_pushed}
-use Rattle.lert_fleet.proofs.Locking.{locking_begun, locking_pushed, locking_last, locking_whole, locking_back}
+use Rattle.lert_fleet.proofs.{Places.length_pushed, Locking.{locking_begun, locking_pushed, locking_last, locking_whole, locking_back}}
 use Rattle.lert_fleet.proofs.rows.lock_each.Goals as goal
 
 pub loop-state-init : goal.loop-state-init

@@ -24,11 +24,11 @@ less-left-requires-clause-counts c =
 
 pub returns-in-Over-clause-sum : goal.returns-in-Over-clause-sum
 returns-in-Over-clause-sum c =
-    c.less-left.ensures ∙ ap (sum_less c.args.sum) (behind c.deref.result.now c.args.pieces.now.items c.args.from c.deref.ensures.value)
+    c.less-left.ensures ∙ ap (sum_less c.args.version c.args.sum) (behind c.deref.result.now c.args.pieces.now.items c.args.from c.deref.ensures.value)
 
 pub returns-in_default-clause-sum : goal.returns-in_default-clause-sum
 returns-in_default-clause-sum c =
-    c.less-left.ensures ∙ ap (sum_less c.args.sum) (behind c.deref.result.now c.args.pieces.now.items c.args.from c.deref.ensures.value)
+    c.less-left.ensures ∙ ap (sum_less c.args.version c.args.sum) (behind c.deref.result.now c.args.pieces.now.items c.args.from c.deref.ensures.value)
 
 pub returns-in-Over-clause-kept : goal.returns-in-Over-clause-kept
 returns-in-Over-clause-kept c =

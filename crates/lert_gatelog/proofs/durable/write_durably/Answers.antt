@@ -1,7 +1,5 @@
-use Rattle.std.proofs.Common.{IsErr, ℕ, ap, length}
-use Rattle.std.proofs.lemmas.Result.{err_from_is_err_and}
-use Rattle.lert_bay.specs.declared.bay.TheConstants.{JOURNAL}
-use Rattle.lert_bay.specs.Kept.{Bays, seen_by}
+use Rattle.std.proofs.{Common.{IsErr, ℕ, ap, length}, lemmas.Result.err_from_is_err_and}
+use Rattle.lert_bay.specs.{declared.bay.TheConstants.JOURNAL, Kept.{Bays, seen_by}}
 use Rattle.lert_bay.proofs.KeptLaws.{IsLawful, keeps_call}
 use Rattle.lert_gatelog.proofs.Moments.{moments_write, write_synced}
 use Rattle.lert_gatelog.proofs.durable.write_durably.Given as given

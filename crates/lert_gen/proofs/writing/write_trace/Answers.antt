@@ -1,6 +1,5 @@
 use Rattle.std.proofs.Common.{◌+◌, Ok, Err, rules, subst, sym}
-use Rattle.lert_gen.specs.Generated.{generated, trace_of}
-use Rattle.lert_gen.specs.Writing.{Appends}
+use Rattle.lert_gen.specs.{Generated.{generated, trace_of}, Writing.Appends}
 use Rattle.lert_gen.proofs.Blocks.{Appends-behind, keys_text, on_err, part_of_trace, trace-split}
 use Rattle.lert_gen.proofs.writing.write_trace.Goals as goal
 

@@ -1,6 +1,5 @@
 use Rattle.std.proofs.Common.{◌≤◌, ◌-◌, Ok}
-use Rattle.lert_gen.specs.Generated.{generated, trace_of}
-use Rattle.lert_gen.specs.Writing.{Appends}
+use Rattle.lert_gen.specs.{Generated.{generated, trace_of}, Writing.Appends}
 use Rattle.lert_gen.proofs.writing.write_trace.Given as goal
 
 -- the trace of the events that are done was written

@@ -1,8 +1,7 @@
 -- The text that was written is what a log appends for the entry's packet; each clause is that of `append`.
 use Rattle.std.proofs.Common.{◌≡◌, ◌+◌, List, ℕ, length, take, map, subst, arith, OnOk}
 use Rattle.lert_base.specs.Entries.{packet_of}
-use Rattle.lert_gatelog.specs.Gated.{IsGated, next_gate}
-use Rattle.lert_gatelog.specs.Kept.{InEach}
+use Rattle.lert_gatelog.specs.{Gated.{IsGated, next_gate}, Kept.InEach}
 use Rattle.lert_journal.specs.Payload.{payload_of}
 use Rattle.lert_journal.proofs.PayloadLaws.{length_payload, length_text, one_more, payloads-push}
 use Rattle.lert_journal.proofs.entries.append_entry.Goals as goal

@@ -1,6 +1,5 @@
-use Rattle.std.proofs.Common.{◌≡◌, ◌++◌, ◌∷◌, [], length, map, sym, ap, ◌∙◌, arith, rules}
+use Rattle.std.proofs.{Common.{◌≡◌, ◌++◌, ◌∷◌, [], length, map, sym, ap, ◌∙◌, arith, rules}, lemmas.List.FromFn.{map-range_with_len_more, length-map-range_with_len}}
 use Rattle.std.specs.List.{range_with_len}
-use Rattle.std.proofs.lemmas.List.FromFn.{map-range_with_len_more, length-map-range_with_len}
 use Rattle.lert_journal.specs.Payload.{key_in}
 use Rattle.lert_journal.proofs.PayloadWhole.{payload_back}
 use Rattle.lert_journal.proofs.payload.fill.Goals as goal

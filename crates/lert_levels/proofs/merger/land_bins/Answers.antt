@@ -63,8 +63,8 @@ returns g c =
       landed = record {
         lists = one.merged.lists;
         all = one.merged.all;
-        stand = λ s are seen told.
-            stand_all (bays g) old c.merge_bins.new.landings c.args.bay.now c.merge_bins.new.bay c.end_all.new.bay s c.args.parts.now one.merged.lists seen one.homes are
+        stand = λ s version are seen told.
+            stand_all (bays g) old c.merge_bins.new.landings c.args.bay.now c.merge_bins.new.bay c.end_all.new.bay s version c.args.parts.now one.merged.lists seen one.homes are
             one.rest two.rest c.requires.landing one.landing two.stand one.merged.landed told;
       };
       homes = two.homes ∙ one.homes;

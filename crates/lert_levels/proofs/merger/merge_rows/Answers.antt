@@ -18,6 +18,7 @@ lawful g = record { as_read = g.met.B.Bay.as_read; since_now = g.met.B.Bay.since
 pub secure_rows-requires : goal.secure_rows-requires
 secure_rows-requires g c = record {
   same = c.requires.same ∙ sym c.settings.ensures;
+  version = c.requires.version;
   rows = subst (λ (t : Numbers). AreFirst t c.args.rows.now) (sym c.settings.ensures) c.requires.reached.are;
 }
 
@@ -30,8 +31,10 @@ merge_secure-requires g c = record {
   parts = c.requires.parts;
   first = c.requires.first;
   last = c.requires.last;
+  version = c.requires.version;
+  light = c.requires.light;
   reached = c.requires.reached;
-  secure = subst (λ (t : Numbers). (seen : Files) → g.B.Bay.files c.secure_rows.new.bay ≡ Some seen → AreSecure t (seen FRAMES) 1 c.args.rows.now) c.settings.ensures
+  secure = subst (λ (t : Numbers). (seen : Files) → g.B.Bay.files c.secure_rows.new.bay ≡ Some seen → AreSecure t c.args.version (seen FRAMES) 1 c.args.rows.now) c.settings.ensures
       (λ seen told. c.in_default.ensures.secure seen (sym c.secure_rows.ensures.only_reads.seen ∙ told));
   none_taken = c.requires.none_taken;
 }
@@ -42,8 +45,9 @@ pub returns-in-Err : goal.returns-in-Err
 returns-in-Err g c =
     let e = c.secure_rows.ensures in
     let s = c.args.zero.now.settings in
-    let broken : (seen : Files) → g.B.Bay.files c.args.bay.now ≡ Some seen → (at : ℕ) → c.secure_rows.result ≡ Err (Malformed at) → OneBreaks s c.args.rows.now (seen FRAMES) at =
-    λ seen told at is. subst (λ (t : Numbers). OneBreaks t c.args.rows.now (seen FRAMES) at) c.settings.ensures (e.malformed seen told at is) in
+    let version = c.args.version in
+    let broken : (seen : Files) → g.B.Bay.files c.args.bay.now ≡ Some seen → (at : ℕ) → c.secure_rows.result ≡ Err (Malformed at) → OneBreaks s version c.args.rows.now (seen FRAMES) at =
+    λ seen told at is. subst (λ (t : Numbers). OneBreaks t version c.args.rows.now (seen FRAMES) at) c.settings.ensures (e.malformed seen told at is) in
     record {
       room = e.room ∙ c.settings.ensures;
       ahead = refl;
@@ -53,7 +57,7 @@ returns-in-Err g c =
       made = tt;
       malformed = λ seen told at is. broken seen told at (c.in-Err.is ∙ is);
       malformed_after = λ later told at is. broken later (sym e.only_reads.seen ∙ told) at (c.in-Err.is ∙ is);
-      rest = read_rest (bays g) (AreApart s c.args.m c.args.rows.now) c.args.bay.now c.secure_rows.new.bay _ e.only_reads;
+      rest = read_rest (bays g) (AreApart s version c.args.m c.args.rows.now) c.args.bay.now c.secure_rows.new.bay _ e.only_reads;
       kept = subst (λ (r : Result (Unit {0}) FlushFault). KeepsBay (bays g) c.args.bay.now c.secure_rows.new.bay (IsErrOf r Failed)) c.in-Err.is e.only_reads.kept;
     }
 
@@ -64,14 +68,15 @@ returns g c =
     let read = c.secure_rows.ensures.only_reads in
     let e = c.merge_secure.ensures in
     let s = c.args.zero.now.settings in
-    let kept = AreApart s c.args.m c.args.rows.now in
+    let version = c.args.version in
+    let kept = AreApart s version c.args.m c.args.rows.now in
     record {
       room = e.room;
       ahead = e.ahead;
       landings = e.landings;
       count = e.count;
       parts = e.parts;
-      made = subst (λ (files : Option Files). OnOk c.merge_secure.result.1 (HasMade s c.args.m c.args.zero.now.bins c.args.rows.now
+      made = subst (λ (files : Option Files). OnOk c.merge_secure.result.1 (HasMade s version c.args.m c.args.zero.now.bins c.args.rows.now
           (g.O.Totals.took c.merge_secure.new.totals) files (g.B.Bay.files c.merge_secure.new.bay))) read.seen e.made;
       malformed = λ seen told at is. e.malformed seen (read.seen ∙ told) at is;
       malformed_after = e.malformed_after;

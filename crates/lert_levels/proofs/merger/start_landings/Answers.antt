@@ -37,7 +37,10 @@ start-requires c =
     let within = landing_within s c.args.m (i + 1) (get_or c.args.rows.now i []) (c.requires.rows.each i c.loop-lower-test.true) in
     let below : i < length c.loop-lower.landings = omega (arith, c.loop-lower-test.true, c.loop-lower.invariant.len, c.requires.enough) in
     let is = c.loop-lower.invariant.landings i c.index-landings-lower.result below in
-    subst (λ (t : Numbers). c.from.result ≤ t.bins) (sym is.settings) (omega (arith, frame_is at.After-from (here at.After-bins), within))
+    record {
+      version = c.requires.version;
+      frame = subst (λ (t : Numbers). c.from.result ≤ t.bins) (sym is.settings) (omega (arith, frame_is at.After-from (here at.After-bins), within));
+    }
 
 pub loop-lower-preserved : goal.loop-lower-preserved
 loop-lower-preserved c =
@@ -50,8 +53,8 @@ loop-lower-preserved c =
     let is = was.landings i c.index-landings-lower.result below in
     record {
       len = length-set c.loop-lower.landings i c.start.new.self ∙ was.len;
-      started = set_more (λ k (l : Landing). (l.frame ≡ landing_frame s c.args.m c.args.rows.now k) × (taken l ≡ []) × ((file : List ℕ) → IsLanding l file)) c.loop-lower.landings i
-          c.start.new.self below was.started (begun.frame ∙ frame_is at.After-from (here at.After-bins), begun.taken, begun.landing);
+      started = set_more (λ k (l : Landing). (l.frame ≡ landing_frame s c.args.m c.args.rows.now k) × (l.writer.version ≡ c.args.version) × (taken l ≡ []) × ((file : List ℕ) → IsLanding l file)) c.loop-lower.landings i
+          c.start.new.self below was.started (begun.frame ∙ frame_is at.After-from (here at.After-bins), begun.version, begun.taken, begun.landing);
       landings = landings_set s c.loop-lower.landings i c.start.new.self below was.landings
           (record { settings = begun.settings ∙ is.settings; level_is = begun.level ∙ is.level_is });
     }
@@ -62,8 +65,9 @@ returns c =
     record {
       started = record {
         frame = λ k d below. (was.started k d (omega (arith, below, c.loop-lower-test.false))).0;
-        empty = λ k d below. (was.started k d (omega (arith, below, c.loop-lower-test.false))).1;
-        landing = λ k d below. (was.started k d (omega (arith, below, c.loop-lower-test.false))).2;
+        of_version = λ k d below. (was.started k d (omega (arith, below, c.loop-lower-test.false))).1;
+        empty = λ k d below. (was.started k d (omega (arith, below, c.loop-lower-test.false))).2;
+        landing = λ k d below. (was.started k d (omega (arith, below, c.loop-lower-test.false))).3;
       };
       landings = was.landings;
       len = was.len;

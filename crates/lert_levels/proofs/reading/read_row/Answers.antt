@@ -24,8 +24,9 @@ read-requires-clause-width g c =
 
 pub loop-bin-init : goal.loop-bin-init
 loop-bin-init g c = record {
-  begun = λ before are. subst (λ (xs : List Source). AreBegun c.args.streams.now.settings xs c.args.streams.now.bins) (sym (append-nil before)) are;
+  begun = λ before are. subst (λ (xs : List Source). AreBegun c.args.streams.now.settings c.args.streams.now.version xs c.args.streams.now.bins) (sym (append-nil before)) are;
   settings = refl;
+  version = refl;
   spare = omega arith;
 }
 
@@ -34,13 +35,14 @@ loop-bin-preserved g c =
     let is = c.loop-bin.invariant in
     let begins = c.read.ensures.begins in
     record {
-      begun = λ before are. begun_bin c.args.streams.now.settings before c.args.row.now c.loop-bin.bin-index nothing c.loop-bin.streams c.read.new.self c.args.level c.from.result _
-          c.loop-bin-test.true is.settings c.from.ensures refl begins (is.begun before are);
+      begun = λ before are. begun_bin c.args.streams.now.settings c.args.streams.now.version before c.args.row.now c.loop-bin.bin-index nothing c.loop-bin.streams c.read.new.self c.args.level c.from.result _
+          c.loop-bin-test.true is.settings is.version c.from.ensures refl begins (is.begun before are);
       settings = begins.settings ∙ is.settings;
+      version = begins.version ∙ is.version;
       spare = omega (arith, begins.spare, is.spare);
     }
 
 pub returns-clause-begun : goal.returns-clause-begun
 returns-clause-begun g c before are =
-    subst (λ (row : List BinAt). AreBegun c.args.streams.now.settings (before ++ map of_bin (map (placed_at c.args.level) row)) c.loop-bin.streams.bins)
+    subst (λ (row : List BinAt). AreBegun c.args.streams.now.settings c.args.streams.now.version (before ++ map of_bin (map (placed_at c.args.level) row)) c.loop-bin.streams.bins)
     (take_all c.loop-bin.bin-index c.args.row.now c.loop-bin-test.false) (c.loop-bin.invariant.begun before are)

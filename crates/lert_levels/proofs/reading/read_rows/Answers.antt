@@ -1,4 +1,4 @@
-use Rattle.std.proofs.{Common.{◌≡◌, ◌+◌, ◌*◌, ◌≤◌, ◌∙◌, ◌++◌, List, map, take, subst, sym, ap, arith, append-nil, add-one}, Math.Nat.{mul-suc, mul-le-mul_left}, lemmas.List.take_all}
+use Rattle.std.proofs.{Common.{◌≡◌, ◌+◌, ◌*◌, ◌≤◌, ◌∙◌, ◌++◌, List, map, take, subst, sym, ap, arith, append-nil, add-one, refl}, Math.Nat.{mul-suc, mul-le-mul_left}, lemmas.List.take_all}
 use Rattle.lert_spec.specs.declared.numbers.Numbers.{Numbers}
 use Rattle.lert_levels.specs.{declared.rows.bin_at.BinAt.BinAt, rows.Rows.IsRow, Sources.{Source, of_bin, placed, placed_at, AreBegun}}
 use Rattle.lert_levels.proofs.{rows.ReadLaws.{row_here, hand_to}, PlacedLaws.begun_row}
@@ -28,8 +28,9 @@ read_row-requires-clause-spare g c =
 
 pub loop-lower-init : goal.loop-lower-init
 loop-lower-init g c = record {
-  begun = λ before are. subst (λ (xs : List Source). AreBegun c.args.settings.now xs c.args.streams.now.bins) (sym (append-nil before)) are;
+  begun = λ before are. subst (λ (xs : List Source). AreBegun c.args.settings.now c.args.streams.now.version xs c.args.streams.now.bins) (sym (append-nil before)) are;
   settings = c.requires.same;
+  version = refl;
   spare = omega arith;
 }
 
@@ -37,6 +38,7 @@ pub loop-lower-preserved : goal.loop-lower-preserved
 loop-lower-preserved g c =
     let i = c.loop-lower.lower in
     let s = c.args.settings.now in
+    let version = c.args.streams.now.version in
     let rows = c.args.rows.now in
     let now = c.bins.result.now in
     let here = row_here rows i c.index-rows-lower.result now c.loop-lower-test.true c.index-rows-lower.is c.bins.ensures.bins in
@@ -46,16 +48,19 @@ loop-lower-preserved g c =
     let next : s.bins * (i + 1) ≡ s.bins * i + s.bins = ap (λ n. s.bins * n) (add-one i) ∙ mul-suc s.bins i in
     record {
       begun = λ before are.
-          begun_row s before rows i now c.read_row.new.streams.bins here c.loop-lower-test.true
-          (subst (λ (t : Numbers). AreBegun t (before ++ map of_bin (placed 1 (take i rows))) c.loop-lower.streams.bins →
-          AreBegun t ((before ++ map of_bin (placed 1 (take i rows))) ++ map of_bin (map (placed_at (i + 1)) now)) c.read_row.new.streams.bins) is.settings
-          (e.begun (before ++ map of_bin (placed 1 (take i rows)))) (is.begun before are));
+          begun_row s version before rows i now c.read_row.new.streams.bins here c.loop-lower-test.true
+          (subst (λ v. AreBegun s v (before ++ map of_bin (placed 1 (take i rows))) c.loop-lower.streams.bins →
+          AreBegun s v ((before ++ map of_bin (placed 1 (take i rows))) ++ map of_bin (map (placed_at (i + 1)) now)) c.read_row.new.streams.bins) is.version
+          (subst (λ (t : Numbers). AreBegun t c.loop-lower.streams.version (before ++ map of_bin (placed 1 (take i rows))) c.loop-lower.streams.bins →
+          AreBegun t c.loop-lower.streams.version ((before ++ map of_bin (placed 1 (take i rows))) ++ map of_bin (map (placed_at (i + 1)) now)) c.read_row.new.streams.bins) is.settings
+          (e.begun (before ++ map of_bin (placed 1 (take i rows))))) (is.begun before are));
       settings = e.settings ∙ is.settings;
+      version = e.version ∙ is.version;
       spare = omega (arith, e.spare, is.spare, row.few);
     }
 
 pub returns-clause-begun : goal.returns-clause-begun
 returns-clause-begun g c before are =
     let rows = c.args.rows.now in
-    subst (λ (rs : List (List BinAt)). AreBegun c.args.settings.now (before ++ map of_bin (placed 1 rs)) c.loop-lower.streams.bins)
+    subst (λ (rs : List (List BinAt)). AreBegun c.args.settings.now c.args.streams.now.version (before ++ map of_bin (placed 1 rs)) c.loop-lower.streams.bins)
     (take_all c.loop-lower.lower rows c.loop-lower-test.false) (c.loop-lower.invariant.begun before are)

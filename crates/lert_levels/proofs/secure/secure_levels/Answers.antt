@@ -23,6 +23,7 @@ pub secure_row-requires : goal.secure_row-requires
 secure_row-requires g c =
     let i = c.loop-lower.lower in
     rw c.loop-lower.invariant.room (record {
+      version = c.requires.version;
       first = omega arith;
       last = omega (arith, c.requires.rows.few, c.loop-lower-test.true);
       row = subst (IsRow c.args.settings.now (i + 1)) (here g (goal.at.secure_row-requires g c).After-bins) (c.requires.rows.each i c.loop-lower-test.true);
@@ -40,8 +41,8 @@ loop-lower-preserved g c =
     let e = c.in_ok-secure_row.ensures in
     record {
       secure = λ seen told long.
-          rows_more (IsSecure s (seen FRAMES)) c.args.rows.now i now (here g (goal.at.loop-lower-preserved g c).After-bins) c.loop-lower-test.true (is.secure seen told long)
-          (subst (λ (t : Numbers). AllOf (IsSecure t (seen FRAMES)) (map of_bin (map (placed_at (i + 1)) now))) is.room (e.secure seen (is.only_reads.seen ∙ told) long));
+          rows_more (IsSecure s c.args.version (seen FRAMES)) c.args.rows.now i now (here g (goal.at.loop-lower-preserved g c).After-bins) c.loop-lower-test.true (is.secure seen told long)
+          (subst (λ (t : Numbers). AllOf (IsSecure t c.args.version (seen FRAMES)) (map of_bin (map (placed_at (i + 1)) now))) is.room (e.secure seen (is.only_reads.seen ∙ told) long));
       room = e.room ∙ is.room;
       only_reads = reads_on (bays g) (lawful g) c.args.bay.now c.loop-lower.bay c.secure_row.new.bay ⊥ ⊥ is.only_reads
           (reads_as (bays g) (lawful g) c.loop-lower.bay c.secure_row.new.bay _ ⊥ (λ none. absurd none) e.only_reads);
@@ -51,7 +52,7 @@ pub returns : goal.returns
 returns g c =
     let is = c.loop-lower.invariant in
     record {
-      secure = λ seen told long. subst (AreSecure c.args.settings.now (seen FRAMES) 1) (take_all c.loop-lower.lower c.args.rows.now c.loop-lower-test.false) (is.secure seen told long);
+      secure = λ seen told long. subst (AreSecure c.args.settings.now c.args.version (seen FRAMES) 1) (take_all c.loop-lower.lower c.args.rows.now c.loop-lower-test.false) (is.secure seen told long);
       malformed = λ seen told at broken. absurd (not_err _ _ broken);
       room = is.room;
       only_reads = reads_as (bays g) (lawful g) c.args.bay.now c.loop-lower.bay ⊥ _ (λ failed. not_err _ _ failed) is.only_reads;
@@ -69,7 +70,7 @@ returns-in_err-secure_row g c =
       malformed = λ seen told at broken. record {
         number = i;
         within = c.loop-lower-test.true;
-        breaks = hand_from (λ t row. RowBreaks t (i + 1) row (seen FRAMES) at) c.args.settings.now _ c.args.rows.now i now (here g (goal.at.returns-in_err-secure_row g c).After-bins) is.room
+        breaks = hand_from (λ t row. RowBreaks t c.args.version (i + 1) row (seen FRAMES) at) c.args.settings.now _ c.args.rows.now i now (here g (goal.at.returns-in_err-secure_row g c).After-bins) is.room
             (e.malformed seen (is.only_reads.seen ∙ told) at (same_err _ _ broken));
       };
       room = e.room ∙ is.room;

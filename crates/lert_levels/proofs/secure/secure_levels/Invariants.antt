@@ -10,7 +10,7 @@ bays g = seen_by g.B.Faulty g.B.Bay
 abbrev pub invariant-loop-lower : goal.invariant-loop-lower
 invariant-loop-lower g l = record {
   secure : (seen : Files) → g.B.Bay.files l.fn.bay ≡ Some seen → l.len ≤ length (seen FRAMES) →
-      AreSecure l.settings (seen FRAMES) 1 (take l.lower l.rows);
+      AreSecure l.settings l.version (seen FRAMES) 1 (take l.lower l.rows);
   room : l.room ≡ l.settings;
   only_reads : OnlyReads (bays g) l.fn.bay l.bay ⊥;
 }

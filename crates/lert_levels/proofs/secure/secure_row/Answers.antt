@@ -17,14 +17,15 @@ lawful g = record { as_read = g.met.B.Bay.as_read; since_now = g.met.B.Bay.since
 pub bounds-row-bin-index : goal.bounds-row-bin-index
 bounds-row-bin-index g c = c.loop-bin-test.true
 
-pub overflow_sub-bin : goal.overflow_sub-bin
-overflow_sub-bin g c = omega (arith, c.requires.row.some c.loop-bin.bin-index no_bin c.loop-bin-test.true)
+pub overflow_sub-width : goal.overflow_sub-width
+overflow_sub-width g c = omega (arith, c.requires.row.some c.loop-bin.bin-index no_bin c.loop-bin-test.true)
 
 pub secure-requires : goal.secure-requires
 secure-requires g c =
     let i = c.loop-bin.bin-index in
     let row = c.requires.row in
     rw c.loop-bin.invariant.room (record {
+      version = c.requires.version;
       first = c.requires.first;
       last = c.requires.last;
       frame = omega (arith, c.from.ensures, row.frames i no_bin c.loop-bin-test.true);
@@ -45,9 +46,9 @@ loop-bin-preserved g c =
     let bin = get_or c.args.row.now i no_bin in
     record {
       secure = λ seen told long.
-          row_more (IsSecure s (seen FRAMES)) level c.args.row.now i no_bin c.loop-bin-test.true (is.secure seen told long)
-          (subst (λ (frame : ℕ). (frame_place s level frame + frame_len s level ≤ length (seen FRAMES)) ⊎ (frame_left s level frame (width_of bin) (seen FRAMES) ≡ None)) c.from.ensures
-          (subst (λ (t : Numbers). (frame_place t level c.from.result + frame_len t level ≤ length (seen FRAMES)) ⊎ (frame_left t level c.from.result (width_of bin) (seen FRAMES) ≡ None)) is.room
+          row_more (IsSecure s c.args.version (seen FRAMES)) level c.args.row.now i no_bin c.loop-bin-test.true (is.secure seen told long)
+          (subst (λ (frame : ℕ). (frame_place s c.args.version level frame + frame_len s c.args.version level ≤ length (seen FRAMES)) ⊎ (frame_left s c.args.version level frame (width_of bin) (seen FRAMES) ≡ None)) c.from.ensures
+          (subst (λ (t : Numbers). (frame_place t c.args.version level c.from.result + frame_len t c.args.version level ≤ length (seen FRAMES)) ⊎ (frame_left t c.args.version level c.from.result (width_of bin) (seen FRAMES) ≡ None)) is.room
           (e.secured seen (is.only_reads.seen ∙ told) long)));
       room = e.settings ∙ is.room;
       only_reads = reads_on (bays g) (lawful g) c.args.bay.now c.loop-bin.bay c.secure.new.bay ⊥ ⊥ is.only_reads
@@ -59,7 +60,7 @@ returns g c =
     let is = c.loop-bin.invariant in
     record {
       secure = λ seen told long.
-          subst (λ row. AllOf (IsSecure c.args.room.now (seen FRAMES)) (map of_bin (map (placed_at c.args.level) row))) (take_all c.loop-bin.bin-index c.args.row.now c.loop-bin-test.false)
+          subst (λ row. AllOf (IsSecure c.args.room.now c.args.version (seen FRAMES)) (map of_bin (map (placed_at c.args.level) row))) (take_all c.loop-bin.bin-index c.args.row.now c.loop-bin-test.false)
           (is.secure seen told long);
       malformed = λ seen told at broken. absurd (not_err _ _ broken);
       room = is.room;
@@ -81,8 +82,8 @@ returns-in_err-secure g c =
         bin = bin;
         named = Contains-get_or c.args.row.now i no_bin c.loop-bin-test.true;
         breaks = record {
-          left = subst (λ (frame : ℕ). frame_left s level frame (width_of bin) (seen FRAMES) ≡ Some at) c.from.ensures
-              (subst (λ (t : Numbers). frame_left t level c.from.result (width_of bin) (seen FRAMES) ≡ Some at) is.room
+          left = subst (λ (frame : ℕ). frame_left s c.args.version level frame (width_of bin) (seen FRAMES) ≡ Some at) c.from.ensures
+              (subst (λ (t : Numbers). frame_left t c.args.version level c.from.result (width_of bin) (seen FRAMES) ≡ Some at) is.room
               (e.malformed seen (is.only_reads.seen ∙ told) at (same_err _ _ broken)));
         };
       };

@@ -10,7 +10,7 @@ bays g = seen_by g.B.Faulty g.B.Bay
 abbrev pub invariant-loop-bin : goal.invariant-loop-bin
 invariant-loop-bin g l = record {
   secure : (seen : Files) → g.B.Bay.files l.fn.bay ≡ Some seen → l.len ≤ length (seen FRAMES) →
-      AllOf (IsSecure l.fn.room (seen FRAMES)) (map of_bin (map (placed_at l.level) (take l.bin-index l.row)));
+      AllOf (IsSecure l.fn.room l.version (seen FRAMES)) (map of_bin (map (placed_at l.level) (take l.bin-index l.row)));
   room : l.room ≡ l.fn.room;
   only_reads : OnlyReads (bays g) l.fn.bay l.bay ⊥;
 }

@@ -14,7 +14,7 @@ lawful : (g : given.Over) → IsLawful (bays g)
 lawful g = record { as_read = g.met.B.Bay.as_read; since_now = g.met.B.Bay.since_now; only_now = g.met.B.Bay.only_now; since_earlier = g.met.B.Bay.since_earlier }
 
 pub secure_levels-requires : goal.secure_levels-requires
-secure_levels-requires g c = record { same = c.requires.same; rows = c.requires.rows }
+secure_levels-requires g c = record { same = c.requires.same; version = c.requires.version; rows = c.requires.rows }
 
 pub returns : goal.returns
 returns g c =

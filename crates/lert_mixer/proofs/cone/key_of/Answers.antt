@@ -1,14 +1,11 @@
-use Rattle.std.proofs.Common.{◌≡◌, ◌+◌, ◌-◌, ◌*◌, ◌/◌, ◌^◌, ◌%◌, ap, ap₂, sym, ◌∙◌, arith, bit_or}
-use Rattle.std.proofs.lemmas.Nat.{shr_high, mod_low}
-use Rattle.lert_spec.specs.declared.numbers.Numbers.{Numbers}
-use Rattle.lert_spec.specs.Mix.{mix, cone_of, tail_of}
+use Rattle.std.proofs.{Common.{◌≡◌, ◌+◌, ◌-◌, ◌*◌, ◌/◌, ◌^◌, ◌%◌, ap, ap₂, sym, ◌∙◌, arith, bit_or}, lemmas.Nat.{shr_high, mod_low}}
+use Rattle.lert_spec.specs.{Edges.tail_bits, declared.numbers.Numbers.Numbers, Mix.{mix, cone_of, tail_of}}
 use Rattle.lert_spec.proofs.MixLaws.{one_key}
-use Rattle.lert_mixer.proofs.Parts.{joined}
+use Rattle.lert_mixer.proofs.{Parts.joined, cone.key_of.Goals.After-unmix}
 use Rattle.lert_mixer.proofs.cone.key_of.Goals as goal
-use Rattle.lert_mixer.proofs.cone.key_of.Goals.{After-unmix}
 
 -- the mixed value of the key
-mixed : (c : After-unmix) → mix c.unmix.result ≡ c.args.cone * 2 ^ (64 - c.args.settings.now.cone_bits) + c.args.tail
+mixed : (c : After-unmix) → mix c.unmix.result ≡ c.args.cone * 2 ^ tail_bits c.args.settings.now + c.args.tail
 mixed c =
     let bits = ap (λ (s : Numbers). s.cone_bits) c.numbers-cone_bits.ensures.value in
     c.unmix.ensures.mixed
@@ -17,12 +14,12 @@ mixed c =
 
 cone_is : (c : After-unmix) → cone_of c.args.settings.now c.unmix.result ≡ c.args.cone
 cone_is c =
-    let bits = 64 - c.args.settings.now.cone_bits in
+    let bits = tail_bits c.args.settings.now in
     ap (λ m. m / 2 ^ bits) (mixed c) ∙ shr_high c.args.cone bits c.args.tail c.requires.tail
 
 tail_is : (c : After-unmix) → tail_of c.args.settings.now c.unmix.result ≡ c.args.tail
 tail_is c =
-    let bits = 64 - c.args.settings.now.cone_bits in
+    let bits = tail_bits c.args.settings.now in
     ap (λ m. m % 2 ^ bits) (mixed c) ∙ mod_low c.args.cone bits c.args.tail c.requires.tail
 
 pub returns-clause-cone : goal.returns-clause-cone

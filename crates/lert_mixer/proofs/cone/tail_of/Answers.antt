@@ -1,16 +1,14 @@
 use Rattle.std.proofs.Common.{◌≡◌, ◌-◌, ◌/◌, ◌^◌, ◌%◌, ap, ◌∙◌, arith, bit_and}
-use Rattle.lert_spec.specs.declared.numbers.Numbers.{Numbers}
-use Rattle.lert_spec.specs.Mix.{tail_of}
+use Rattle.lert_spec.specs.{Edges.tail_bits, declared.numbers.Numbers.Numbers, Mix.tail_of}
 use Rattle.lert_spec.proofs.MixLaws.{tail_below}
-use Rattle.lert_mixer.proofs.Parts.{low_part}
+use Rattle.lert_mixer.proofs.{Parts.low_part, cone.tail_of.Goals.After-numbers}
 use Rattle.lert_mixer.proofs.cone.tail_of.Goals as goal
-use Rattle.lert_mixer.proofs.cone.tail_of.Goals.{After-numbers}
 
 value : (c : After-numbers) → bit_and c.mix.result ((2 ^ 64 - 1) / 2 ^ c.numbers.result.cone_bits) ≡ tail_of c.args.settings.now c.args.key
 value c =
     let n = c.numbers.result in
     low_part c.mix.result n.cone_bits (omega (arith, c.numbers.ensures.valid.limits.cone_bits_to))
-    ∙ ap (λ m. m % 2 ^ (64 - n.cone_bits)) c.mix.ensures
+    ∙ ap (λ m. m % 2 ^ tail_bits n) c.mix.ensures
     ∙ ap (λ (s : Numbers). tail_of s c.args.key) c.numbers.ensures.value
 
 pub returns-clause-value : goal.returns-clause-value

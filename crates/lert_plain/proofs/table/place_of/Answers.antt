@@ -1,7 +1,6 @@
 use Rattle.std.proofs.Common.{arith}
-use Rattle.lert_plain.proofs.Search.{IsBetween-raise, IsBetween-lower, IsAbsent-end}
+use Rattle.lert_plain.proofs.{Search.{IsBetween-raise, IsBetween-lower, IsAbsent-end}, table.place_of.Goals.{else-low-pieces-via-then-low-pieces+else-pieces-low, else-low-pieces-via-else-low-pieces}}
 use Rattle.lert_plain.proofs.table.place_of.Goals as goal
-use Rattle.lert_plain.proofs.table.place_of.Goals.{else-low-pieces-via-then-low-pieces+else-pieces-low, else-low-pieces-via-else-low-pieces}
 
 pub loop-low-preserved-then-pieces-middle : goal.loop-low-preserved-then-pieces-middle
 loop-low-preserved-then-pieces-middle c =

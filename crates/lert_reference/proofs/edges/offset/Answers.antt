@@ -1,7 +1,6 @@
 use Rattle.std.proofs.Common.{◌≡◌, ◌+◌, ◌-◌, ◌*◌, suc, arith, ap, ap₂, ◌∙◌}
 use Rattle.lert_spec.specs.Edges.{offset}
-use Rattle.lert_spec.proofs.EdgeLaws.{spans_below, spans_below-add}
-use Rattle.lert_spec.proofs.LimitLaws.{spans_within, offset_within}
+use Rattle.lert_spec.proofs.{EdgeLaws.{spans_below, spans_below-add}, LimitLaws.{spans_within, offset_within}}
 use Rattle.lert_reference.proofs.edges.offset.Goals as goal
 use Rattle.lert_reference.proofs.edges.offset.Goals.{After-span-spans, After-loop-younger}
 

@@ -1,7 +1,6 @@
 use Rattle.std.proofs.Common.{◌≡◌, ◌+◌, ◌*◌, suc, arith, ap, sym, ◌∙◌}
 use Rattle.lert_spec.specs.Edges.{span}
-use Rattle.lert_spec.proofs.EdgeLaws.{span-suc}
-use Rattle.lert_spec.proofs.LimitLaws.{span_within}
+use Rattle.lert_spec.proofs.{EdgeLaws.span-suc, LimitLaws.span_within}
 use Rattle.lert_reference.proofs.edges.span.Goals as goal
 use Rattle.lert_reference.proofs.edges.span.Goals.{In-loop-younger}
 

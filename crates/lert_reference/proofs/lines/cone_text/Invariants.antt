@@ -1,6 +1,5 @@
 use Rattle.std.proofs.Common.{◌≡◌, ◌++◌, length, take}
-use Rattle.std.specs.List.{flat_map}
-use Rattle.std.specs.String.{string_bytes}
+use Rattle.std.specs.{List.flat_map, String.string_bytes}
 use Rattle.lert_spec.specs.Lines.{cone_line, report_line}
 use Rattle.lert_reference.proofs.lines.cone_text.Given as goal
 

@@ -1,6 +1,6 @@
 use Rattle.std.proofs.Common.{◌≡◌, take}
-use Rattle.lert_spec.specs.Mix.{part_of}
+use Rattle.lert_spec.specs.{Counts.weighed, Mix.part_in}
 use Rattle.lert_reference.proofs.parts.part.Given as goal
 
-abbrev pub invariant-loop-key : goal.invariant-loop-key
-invariant-loop-key l = l.part.items ≡ part_of l.s l.of (take l.key-index l.keys)
+abbrev pub invariant-loop-item : goal.invariant-loop-item
+invariant-loop-item l = l.part.items ≡ part_in weighed l.s l.of (take l.item-index l.items)

@@ -1,9 +1,9 @@
 use Rattle.std.proofs.Common.{◌≡◌, ◌≤◌, length, drop}
-use Rattle.lert_spec.specs.Look.{mixed_order}
+use Rattle.lert_spec.specs.{Counts.weighed, Look.mixed_in}
 use Rattle.lert_reference.proofs.reports.mixed_order.Given as goal
 
 abbrev pub invariant-loop-left : goal.invariant-loop-left
-invariant-loop-left l = (l.left ≤ length l.events) × (l.keys.items ≡ mixed_order (drop l.left l.events))
+invariant-loop-left l = (l.left ≤ length l.events) × (l.keys.items ≡ mixed_in weighed (drop l.left l.events))
 
 abbrev pub decreases-loop-left : goal.decreases-loop-left
 decreases-loop-left l = l.left

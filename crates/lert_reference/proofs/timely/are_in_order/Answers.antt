@@ -1,5 +1,4 @@
-use Rattle.std.proofs.Common.{rules, tests}
-use Rattle.std.proofs.lemmas.Fn.{always_returns_same}
+use Rattle.std.proofs.{Common.{rules, tests}, lemmas.Fn.always_returns_same}
 use Rattle.lert_reference.proofs.InOrder.{Decides-in_order}
 use Rattle.lert_reference.proofs.timely.are_in_order.Goals as goal
 

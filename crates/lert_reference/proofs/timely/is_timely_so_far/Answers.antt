@@ -1,9 +1,7 @@
-use Rattle.std.proofs.Common.{◌⊎◌, sym, ◌∙◌}
-use Rattle.std.proofs.lemmas.Bool.{false≢true}
-use Rattle.lert_spec.specs.Timely.{IsReportedOnTime, IsNotYetDue}
-use Rattle.lert_reference.proofs.TimelyTests.{light_isn't_listed, listed_is_heavy, each_heavy}
+use Rattle.std.proofs.{Common.{◌⊎◌, sym, ◌∙◌}, lemmas.Bool.false≢true}
+use Rattle.lert_spec.specs.{Counts.weighed, Timely.{IsReportedOnTimeIn, IsNotYetDueIn}}
+use Rattle.lert_reference.proofs.{TimelyTests.{light_isn't_listed, listed_is_heavy, each_heavy}, timely.is_timely_so_far.Goals.{then-are_in_order, else-are_in_order}}
 use Rattle.lert_reference.proofs.timely.is_timely_so_far.Goals as goal
-use Rattle.lert_reference.proofs.timely.is_timely_so_far.Goals.{then-are_in_order, else-are_in_order}
 
 pub returns-then-are_heavy : goal.returns-then-are_heavy
 returns-then-are_heavy c =
@@ -15,7 +13,8 @@ returns-then-are_heavy c =
             λ reported. record {
               in_order = c.are_in_order.ensures.0 w.if-are_in_order.true;
               light = light_isn't_listed threshold events reports (w.are_heavy.ensures.0 (sym w.value-is ∙ c.if-are_heavy.true));
-              heavy = each_heavy (λ key. IsReportedOnTime threshold c.args.bins events reports key ⊎ IsNotYetDue threshold c.args.bins events reports key) threshold events c.requires
+              heavy = each_heavy (λ key. IsReportedOnTimeIn weighed threshold c.args.bins events reports key ⊎ IsNotYetDueIn weighed threshold c.args.bins events reports key)
+                  threshold events c.requires.some
                   (c.are_reported_so_far.ensures.0 reported);
             },
             λ timely. c.are_reported_so_far.ensures.1 (λ k d within. timely.heavy _),

@@ -1,8 +1,7 @@
 use Rattle.std.proofs.Common.{◌≡◌, sym, ap, take, drop, length, ◌+◌, ◌-◌, ◌*◌, ◌∙◌, arith}
-use Rattle.byteorder.specs.Endian.{little_from}
-use Rattle.byteorder.specs.Numbers.{little_from-take}
-use Rattle.lert_spec.specs.Trace.{key_at}
-use Rattle.lert_spec.proofs.TraceLaws.{little_from-drop}
+use Rattle.byteorder.specs.{Endian.little_from, Numbers.little_from-take}
+use Rattle.lert_trace.specs.Trace.{key_at}
+use Rattle.lert_spec.proofs.TextLaws.{little_from-drop}
 use Rattle.lert_reference.proofs.traces.key_at.Goals as goal
 
 pub returns : goal.returns

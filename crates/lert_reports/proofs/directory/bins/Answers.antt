@@ -1,8 +1,7 @@
 use Rattle.std.proofs.Common.{subst, arith}
 use Rattle.lert_spec.specs.Limits.{IsValid}
-use Rattle.lert_reports.proofs.BinCount.{bin_count_is, edge_fits}
+use Rattle.lert_reports.proofs.{BinCount.{bin_count_is, edge_fits}, directory.bins.Goals.After-edge-high}
 use Rattle.lert_reports.proofs.directory.bins.Goals as goal
-use Rattle.lert_reports.proofs.directory.bins.Goals.{After-edge-high}
 
 valid : (c : After-edge-high) → IsValid c.args.settings.now
 valid c = subst IsValid c.numbers.ensures.value c.numbers.ensures.valid

@@ -1,11 +1,9 @@
-use Rattle.std.proofs.Common.{◌≡◌, ℕ, ◌+◌, ◌*◌, ◌<◌, ◌≤◌, ◌^◌, ◌∙◌, ◌++◌, ◌∷◌, [], List, length, take, ap, subst, sym, arith}
+use Rattle.std.proofs.{Common.{◌≡◌, ℕ, ◌+◌, ◌*◌, ◌<◌, ◌≤◌, ◌^◌, ◌∙◌, ◌++◌, ◌∷◌, [], List, length, take, ap, subst, sym, arith}, lemmas.List.append_assoc}
 use Rattle.std.specs.Prelude.{flat_map}
-use Rattle.std.proofs.lemmas.List.{append_assoc}
 use Rattle.byteorder.specs.Endian.{little_bytes}
 use Rattle.lert_gatelog.specs.Gated.{appendix}
 use Rattle.lert_reports.proofs.LogLaws.{log_payload_length}
-use Rattle.lert_reports.specs.declared.log.LogKind.{LogKind}
-use Rattle.lert_reports.specs.LogText.{kind_number, log_payload, report_bytes}
+use Rattle.lert_reports.specs.{declared.log.LogKind.LogKind, LogText.{kind_number, log_payload, report_bytes}}
 use Rattle.lert_spec.specs.declared.report.Report.{Report}
 use Rattle.lert_reports.proofs.log.write_log.Goals as goal
 

@@ -1,7 +1,5 @@
 use Rattle.std.proofs.Common.{◌≡◌, ap, sym, ◌∙◌, refl, arith, length}
-use Rattle.lert_counter.specs.Group.{group}
-use Rattle.lert_counter.specs.Reading.{read_as}
-use Rattle.lert_counter.specs.declared.group.Group.{Group}
+use Rattle.lert_counter.specs.{Group.group, Reading.read_as, declared.group.Group.Group}
 use Rattle.lert_runs.specs.RunText.{run_text}
 use Rattle.lert_runs.proofs.WalkLemmas.{looks_first, next, looks_next, place_here, place_before, place_end}
 use Rattle.lert_runs.proofs.place.find.Goals as goal

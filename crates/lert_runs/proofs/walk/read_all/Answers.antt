@@ -1,13 +1,9 @@
-use Rattle.std.proofs.Common.{◌≡◌, ◌^◌, ◌<◌, ap, length, arith, inl, inr, ◌⊎◌, refl}
-use Rattle.std.proofs.lemmas.Nat.{one_shl, pow_pos}
-use Rattle.lert_counter.specs.Group.{group}
-use Rattle.lert_counter.specs.Reading.{read_as}
-use Rattle.lert_counter.specs.declared.group.Group.{Group}
+use Rattle.std.proofs.{Common.{◌≡◌, ◌^◌, ◌<◌, ap, length, arith, inl, inr, ◌⊎◌, refl}, lemmas.Nat.{one_shl, pow_pos}}
+use Rattle.lert_counter.specs.{Group.group, Reading.read_as, declared.group.Group.Group}
 use Rattle.lert_runs.specs.RunText.{run_text}
-use Rattle.lert_runs.proofs.WalkLemmas.{stands_first, stands_next, next}
-use Rattle.lert_runs.proofs.ReadLemmas.{read_first, read_more, read_some, read_end, below-next}
-use Rattle.lert_runs.proofs.walk.read_all.Goals as goal
+use Rattle.lert_runs.proofs.{WalkLemmas.{stands_first, stands_next, next}, ReadLemmas.{read_first, read_more, read_some, read_end, below-next}}
 use Rattle.lert_runs.proofs.walk.read_all.Goals.{else-at-gt0-via-then-at-gt0+else-group-last, else-at-gt0-via-else-at-gt0}
+use Rattle.lert_runs.proofs.walk.read_all.Goals as goal
 
 pub loop-at-init : goal.loop-at-init
 loop-at-init c = record {

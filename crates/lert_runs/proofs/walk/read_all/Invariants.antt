@@ -1,7 +1,6 @@
 use Rattle.std.proofs.Common.{length, ◌-◌, ◌^◌, ◌<◌, ℕ, List}
 use Rattle.lert_runs.specs.RunText.{IsTextOf}
-use Rattle.lert_runs.proofs.ReadLemmas.{ReadUpTo}
-use Rattle.lert_runs.proofs.WalkLemmas.{Stands}
+use Rattle.lert_runs.proofs.{ReadLemmas.ReadUpTo, WalkLemmas.Stands}
 use Rattle.lert_runs.proofs.walk.read_all.Given as goal
 
 abbrev pub invariant-loop-at : goal.invariant-loop-at

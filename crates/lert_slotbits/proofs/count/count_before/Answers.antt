@@ -1,6 +1,4 @@
-use Rattle.std.proofs.Common.{◌≡◌, ◌+◌, ◌*◌, ◌/◌, ◌%◌, arith, ap, ◌∙◌, take, get_or, count_ones}
-use Rattle.std.proofs.lemmas.List.{get_or-take, length-take}
-use Rattle.std.proofs.lemmas.Nat.{ones-le}
+use Rattle.std.proofs.{Common.{◌≡◌, ◌+◌, ◌*◌, ◌/◌, ◌%◌, arith, ap, ◌∙◌, take, get_or, count_ones}, lemmas.List.{get_or-take, length-take}, lemmas.Nat.ones-le}
 use Rattle.lert_slotbits.specs.Bits.{row_of, trues}
 use Rattle.lert_slotbits.proofs.CountLemmas.{trues_word_more, trues_to, trues-take_word}
 use Rattle.lert_slotbits.proofs.count.count_before.Goals as goal

@@ -1,10 +1,8 @@
 use Rattle.std.proofs.Common.{◌≡◌, arith, ◌∙◌, refl}
 use Rattle.std.specs.Int.{bit_at}
 use Rattle.lert_slotbits.specs.Bits.{word_bits}
-use Rattle.lert_slotbits.proofs.RowLemmas.{bit_of_word, length_word_bits}
-use Rattle.lert_slotbits.proofs.CountLemmas.{bit_yes, bit_no, trues_all}
+use Rattle.lert_slotbits.proofs.{RowLemmas.{bit_of_word, length_word_bits}, CountLemmas.{bit_yes, bit_no, trues_all}, count.place_in.Goals.{then-bit_of-eq1+else-left-eq0, else-bit_of-eq1}}
 use Rattle.lert_slotbits.proofs.count.place_in.Goals as goal
-use Rattle.lert_slotbits.proofs.count.place_in.Goals.{then-bit_of-eq1+else-left-eq0, else-bit_of-eq1}
 
 pub returns-then-left-eq0-clause-set : goal.returns-then-left-eq0-clause-set
 returns-then-left-eq0-clause-set c = bit_of_word c.args.word c.loop-at.at c.loop-at-test.true

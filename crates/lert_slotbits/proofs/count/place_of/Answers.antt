@@ -1,7 +1,5 @@
 use Rattle.std.proofs.Common.{arith, sym, ◌∙◌, get_or}
-use Rattle.lert_slotbits.proofs.RowLemmas.{bit_of_word}
-use Rattle.lert_slotbits.proofs.GapLemmas.{row_bit}
-use Rattle.lert_slotbits.proofs.CountLemmas.{trues_word_more, trues_to, trues-word, trues_whole}
+use Rattle.lert_slotbits.proofs.{RowLemmas.bit_of_word, GapLemmas.row_bit, CountLemmas.{trues_word_more, trues_to, trues-word, trues_whole}}
 use Rattle.lert_slotbits.proofs.count.place_of.Goals as goal
 
 pub place_in-requires : goal.place_in-requires

@@ -1,6 +1,5 @@
-use Rattle.std.proofs.Common.{◌≡◌, ◌+◌, ◌/◌, ◌-◌, arith, ap, ◌∙◌, get_or, refl}
+use Rattle.std.proofs.{Common.{◌≡◌, ◌+◌, ◌/◌, ◌-◌, arith, ap, ◌∙◌, get_or, refl}, lemmas.List.get_or-set_other}
 use Rattle.std.specs.Int.{bit_at}
-use Rattle.std.proofs.lemmas.List.{get_or-set_other}
 use Rattle.lert_slotbits.proofs.GapLemmas.{IsMovedPart, gap_starts, gap_goes_on, gap_ends}
 use Rattle.lert_slotbits.proofs.gap.open.Goals as goal
 

@@ -1,6 +1,5 @@
-use Rattle.std.proofs.Common.{arith, ◌+◌}
+use Rattle.std.proofs.{Common.{arith, ◌+◌}, lemmas.Nat.Bits.bit_at-trailing_zeros}
 use Rattle.std.specs.Int.{w64}
-use Rattle.std.proofs.lemmas.Nat.Bits.{bit_at-trailing_zeros}
 use Rattle.lert_slotbits.proofs.ScanLemmas.{marks_of, marks_first, passed_word, first_of}
 use Rattle.lert_slotbits.proofs.scan.first_bit.Goals as goal
 

@@ -1,5 +1,5 @@
 use Rattle.std.proofs.Common.{arith, drop}
-use Rattle.lert_spec.proofs.TraceLaws.{agreed-past}
+use Rattle.lert_spec.proofs.TextLaws.{agreed-past}
 use Rattle.lert_spec.proofs.common.agreed.Goals as goal
 
 pub returns-else-same-bytes : goal.returns-else-same-bytes

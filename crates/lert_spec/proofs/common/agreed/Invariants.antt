@@ -1,5 +1,5 @@
 use Rattle.std.proofs.Common.{◌≡◌, ◌+◌, ◌-◌, ◌≤◌, length, drop}
-use Rattle.lert_spec.specs.Trace.{agreed}
+use Rattle.lert_spec.specs.Agreed.{agreed}
 use Rattle.lert_spec.proofs.common.agreed.Given as goal
 
 -- the first `same` bytes are those that the texts have in common, and the rest decides

@@ -1,9 +1,10 @@
-use Rattle.std.proofs.Common.{ℕ, ◌≤◌, ◌++◌, [], ◌∷◌, List, get_or, sym, subst}
+use Rattle.std.proofs.Common.{ℕ, ◌≤◌, ◌++◌, [], ◌∷◌, List, get_or, sym, subst, arith}
 use Rattle.lert_frames.specs.Place.{tail_limit}
 use Rattle.lert_spec.specs.declared.numbers.Numbers.{Numbers}
 use Rattle.lert_spec.specs.declared.piece.Piece.{Piece}
 use Rattle.lert_spec.specs.Edges.{span}
-use Rattle.lert_spec.specs.Table.{total, AreGiven}
+use Rattle.lert_spec.specs.Table.{costs, AreGiven}
+use Rattle.lert_spec.proofs.CostLaws.{costs_to}
 use Rattle.lert_frames.proofs.PutLaws.{put_given, put_fits}
 use Rattle.lert_streams_tests.proofs.bins.write.Goals as goal
 
@@ -20,6 +21,8 @@ put-requires c =
     record {
       given = subst (λ (s : Numbers). AreGiven (tail_limit s) more) (sym was.settings)
           (put_given (tail_limit first.settings) i c.args.pieces.now w.put nothing c.loop-piece-test.true was.put c.requires.given);
-      fits = subst (λ (s : Numbers). total more ≤ span s w.level) (sym was.settings) (subst (λ (n : ℕ). total more ≤ span first.settings n) (sym was.level)
-          (put_fits (tail_limit first.settings) i c.args.pieces.now w.put nothing c.loop-piece-test.true was.put (span first.settings first.level) c.requires.fits));
+      fits =
+          let few : costs w.version c.args.pieces.now ≤ span first.settings first.level = omega (arith, costs_to w.version c.args.pieces.now, c.requires.fits) in
+          subst (λ (s : Numbers). costs w.version more ≤ span s w.level) (sym was.settings) (subst (λ (n : ℕ). costs w.version more ≤ span first.settings n) (sym was.level)
+          (put_fits (tail_limit first.settings) i c.args.pieces.now w.put nothing c.loop-piece-test.true was.put w.version (span first.settings first.level) few));
     }

@@ -1,5 +1,4 @@
-use Rattle.std.proofs.Common.{◌≤◌, true, sym, ap, ◌∙◌, subst, refl}
-use Rattle.std.proofs.lemmas.Result.{err_from_is_err_and}
+use Rattle.std.proofs.{Common.{◌≤◌, true, sym, ap, ◌∙◌, subst, refl}, lemmas.Result.err_from_is_err_and}
 use Rattle.lert_trace.proofs.Heading.{agreed-ahead, agreed-whole, header-within, taken-header}
 use Rattle.lert_trace.proofs.header.read_header.Goals as goal
 

@@ -1,7 +1,5 @@
-use Rattle.std.proofs.Common.{rules, tests}
+use Rattle.std.proofs.{Common.{rules, tests}, lemmas.Iterator.YieldsList-from_slice, lemmas.Iterator.Search.position_from_yields_List}
 use Rattle.std.specs.Str.{bytes_eq}
-use Rattle.std.proofs.lemmas.Iterator.{YieldsList-from_slice}
-use Rattle.std.proofs.lemmas.Iterator.Search.{position_from_yields_List}
 use Rattle.lert_args.proofs.LookupLaws.{found_place}
 use Rattle.lert_words_tests.proofs.by_hand.find_option.Goals as goal
 

@@ -1,8 +1,6 @@
 use Rattle.std.proofs.Common.{Ok, refl, subst, sym, ◌∙◌}
-use Rattle.lert_args.specs.Said.{behind}
-use Rattle.lert_words_tests.specs.Steps.{Steps, after_kind}
-use Rattle.lert_args.specs.Lookups.{texts}
-use Rattle.lert_words_tests.specs.declared.by_hand.Stage.TheVariants.{Between, Behind}
+use Rattle.lert_args.specs.{Said.behind, Lookups.texts}
+use Rattle.lert_words_tests.specs.{Steps.{Steps, after_kind}, declared.by_hand.Stage.TheVariants.{Between, Behind}}
 use Rattle.lert_words_tests.proofs.HeldLaws.{Steps-going, kind-ends}
 use Rattle.lert_words_tests.proofs.by_hand.read_between.Goals as goal
 

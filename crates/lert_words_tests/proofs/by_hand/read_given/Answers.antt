@@ -1,5 +1,4 @@
-use Rattle.std.proofs.Common.{rules}
-use Rattle.std.proofs.lemmas.Result.{err_from_is_err_and}
+use Rattle.std.proofs.{Common.rules, lemmas.Result.err_from_is_err_and}
 use Rattle.lert_words_tests.proofs.PassLaws.{IsRead-more, IsRead-none, refused_at}
 use Rattle.lert_words_tests.proofs.by_hand.read_given.Goals as goal
 

@@ -1,9 +1,7 @@
 use Rattle.std.proofs.Common.{◌≡◌, true, Ok, ap, subst, sym, ◌∙◌, get_or, []}
 use Rattle.std.specs.List.{after_first, before_first, list_any}
-use Rattle.lert_args.specs.Said.{is_among, is_equals_sign, value_of}
-use Rattle.lert_words_tests.specs.Steps.{Steps, after_kind}
-use Rattle.lert_args.specs.Lookups.{texts}
-use Rattle.lert_words_tests.specs.declared.by_hand.Stage.TheVariants.{Between, ValueOf}
+use Rattle.lert_args.specs.{Said.{is_among, is_equals_sign, value_of}, Lookups.texts}
+use Rattle.lert_words_tests.specs.{Steps.{Steps, after_kind}, declared.by_hand.Stage.TheVariants.{Between, ValueOf}}
 use Rattle.lert_words_tests.proofs.HeldLaws.{Steps-going, kind-awaits, kind-valued}
 use Rattle.lert_words_tests.proofs.by_hand.read_option.Goals as goal
 

@@ -1,5 +1,4 @@
-use Rattle.std.proofs.Common.{arith}
-use Rattle.std.proofs.lemmas.Str.Pattern.{split_once_first}
+use Rattle.std.proofs.{Common.arith, lemmas.Str.Pattern.split_once_first}
 use Rattle.lert_words_tests.proofs.HeldLaws.{around_first}
 use Rattle.lert_words_tests.proofs.word.split_value.Goals as goal
 

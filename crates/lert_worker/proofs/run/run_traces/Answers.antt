@@ -1,12 +1,8 @@
 use Rattle.std.proofs.Common.{◌≡◌, ◌<◌, ◌^◌, length, arith, subst, refl, ◌∙◌}
 use Rattle.lert_fleet.proofs.Places.{read_at}
 use Rattle.lert_spec.specs.declared.numbers.Numbers.{Numbers}
-use Rattle.lert_worker.specs.Sending.{AreSent}
-use Rattle.lert_worker.specs.Trace.{IsNamed}
-use Rattle.lert_worker.specs.declared.end.WorkerEnd.TheVariants.{Ran}
-use Rattle.lert_worker.proofs.GoingLaws.{runs_all, runs_more, runs_none, runs_stopped}
-use Rattle.lert_worker.proofs.Given.{trace_few}
-use Rattle.lert_worker.proofs.MayLaws.{may_named, resting_named}
+use Rattle.lert_worker.specs.{Sending.AreSent, Trace.IsNamed, declared.end.WorkerEnd.TheVariants.Ran}
+use Rattle.lert_worker.proofs.{GoingLaws.{runs_all, runs_more, runs_none, runs_stopped}, Given.trace_few, MayLaws.{may_named, resting_named}}
 use Rattle.lert_worker.proofs.run.run_traces.Goals as goal
 
 pub loop-place-init : goal.loop-place-init

@@ -1,6 +1,5 @@
 use Rattle.std.proofs.Common.{◌≡◌}
-use Rattle.lert_worker.specs.Outbox.{IsResting, MaySend}
-use Rattle.lert_worker.specs.Runs.{RunsSoFar}
+use Rattle.lert_worker.specs.{Outbox.{IsResting, MaySend}, Runs.RunsSoFar}
 use Rattle.lert_worker.proofs.run.run_traces.Given as goal
 
 -- the traces so far were read to their ends

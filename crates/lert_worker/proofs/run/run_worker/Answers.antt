@@ -1,8 +1,7 @@
 use Rattle.std.proofs.Common.{◌≡◌, ◌^◌, ap, refl, sym, ◌∙◌, subst}
 use Rattle.lert_spec.specs.declared.numbers.Numbers.{Numbers}
 use Rattle.lert_worker.specs.Ran.{MayRun, Working}
-use Rattle.lert_worker.proofs.GoingLaws.{has_run}
-use Rattle.lert_worker.proofs.MayLaws.{may_send_of}
+use Rattle.lert_worker.proofs.{GoingLaws.has_run, MayLaws.may_send_of}
 use Rattle.lert_worker.proofs.run.run_worker.Goals as goal
 
 pub returns : goal.returns

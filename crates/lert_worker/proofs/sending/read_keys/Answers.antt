@@ -1,9 +1,6 @@
-use Rattle.std.proofs.Common.{◌^◌, ◌++◌, ◌∷◌, [], refl, sym, ◌∙◌, subst}
-use Rattle.std.proofs.lemmas.Option.{same_Some}
+use Rattle.std.proofs.{Common.{◌^◌, ◌++◌, ◌∷◌, [], refl, sym, ◌∙◌, subst}, lemmas.Option.same_Some}
 use Rattle.lert_trace.specs.Reader.{Means}
-use Rattle.lert_worker.specs.Sending.{AreSent, Lanes}
-use Rattle.lert_worker.specs.Trace.{IsNamed}
-use Rattle.lert_worker.specs.declared.end.WorkerEnd.TheVariants.{Trace}
+use Rattle.lert_worker.specs.{Sending.{AreSent, Lanes}, Trace.IsNamed, declared.end.WorkerEnd.TheVariants.Trace}
 use Rattle.lert_worker.proofs.ReadLaws.{at_end, ends_by_cone, fewer_left, named_by_cone, was_ended, was_more, was_new, was_still}
 use Rattle.lert_worker.proofs.Steps.{lanes_start, lanes_stopped, room_resting, same_on, to_new, to_old}
 use Rattle.lert_worker.proofs.sending.read_keys.Goals as goal

@@ -1,7 +1,5 @@
 use Rattle.std.proofs.Common.{ℕ, List, ◌-◌}
-use Rattle.lert_worker.specs.Ends.{WasRead}
-use Rattle.lert_worker.specs.Outbox.{HaveRoom, IsSame, MaySend}
-use Rattle.lert_worker.specs.Sending.{Lanes}
+use Rattle.lert_worker.specs.{Ends.WasRead, Outbox.{HaveRoom, IsSame, MaySend}, Sending.Lanes}
 use Rattle.lert_worker.proofs.sending.read_keys.Given as goal
 
 -- the keys that were read are in the cones and in the rings

@@ -1,7 +1,6 @@
 use Rattle.std.proofs.Common.{◌≢◌, ◌^◌, ◌<◌, length, refl, ◌∙◌, sym, subst}
 use Rattle.lert_buffers.specs.Rings.{ring_of}
-use Rattle.lert_worker.proofs.RestLaws.{lanes_above, lanes_rested, may_go, rest_goes, rest_none, rest_turned, ring_empty, room_rest}
-use Rattle.lert_worker.proofs.MayLaws.{same_none}
+use Rattle.lert_worker.proofs.{RestLaws.{lanes_above, lanes_rested, may_go, rest_goes, rest_none, rest_turned, ring_empty, room_rest}, MayLaws.same_none}
 use Rattle.lert_worker.proofs.sending.send_rest.Goals as goal
 
 pub returns-then-left-eq0-clause-sent : goal.returns-then-left-eq0-clause-sent

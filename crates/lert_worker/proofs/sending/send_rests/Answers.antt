@@ -1,10 +1,7 @@
 use Rattle.std.proofs.Common.{◌+◌, ◌<◌, ◌≤◌, ◌^◌, length, ap, sym, ◌∙◌, subst, arith}
 use Rattle.lert_spec.specs.declared.numbers.Numbers.{Numbers}
-use Rattle.lert_worker.specs.Sending.{AreSent, Lanes}
-use Rattle.lert_worker.specs.declared.end.WorkerEnd.TheVariants.{Ran}
-use Rattle.lert_worker.proofs.Steps.{drained_below, drained_more, same_on, sent_below, sent_none, to_new, to_old}
-use Rattle.lert_worker.proofs.MayLaws.{same_none}
-use Rattle.lert_worker.specs.Trace.{IsByCone}
+use Rattle.lert_worker.specs.{Sending.{AreSent, Lanes}, declared.end.WorkerEnd.TheVariants.Ran, Trace.IsByCone}
+use Rattle.lert_worker.proofs.{Steps.{drained_below, drained_more, same_on, sent_below, sent_none, to_new, to_old}, MayLaws.same_none}
 use Rattle.lert_worker.proofs.sending.send_rests.Goals as goal
 
 pub returns-in-Err-clause-refused : goal.returns-in-Err-clause-refused

@@ -1,9 +1,7 @@
 use Rattle.std.proofs.Common.{ℕ, List}
 use Rattle.lert_base.specs.declared.cone_fault.ConeFault.{ConeFault}
 use Rattle.lert_fleet.specs.Cones.{FleetPassSight}
-use Rattle.lert_worker.specs.Outbox.{AreDrained, HaveRoom, IsSame, MaySend}
-use Rattle.lert_worker.specs.Sending.{AreSent, Lanes}
-use Rattle.lert_worker.specs.declared.end.WorkerEnd.TheVariants.{Ran}
+use Rattle.lert_worker.specs.{Outbox.{AreDrained, HaveRoom, IsSame, MaySend}, Sending.{AreSent, Lanes}, declared.end.WorkerEnd.TheVariants.Ran}
 use Rattle.lert_worker.proofs.sending.send_rests.Given as goal
 
 -- the cones so far have the rests of their rings, and the others are as they were

@@ -1,10 +1,6 @@
 use Rattle.std.proofs.Common.{◌^◌}
-use Rattle.lert_worker.specs.Sending.{AreSent, Lanes}
-use Rattle.lert_worker.specs.Trace.{IsNamed}
-use Rattle.lert_worker.specs.declared.end.WorkerEnd.TheVariants.{Ran}
-use Rattle.lert_worker.proofs.ReadLaws.{ends_by_cone, named_by_cone}
-use Rattle.lert_worker.proofs.Steps.{same_on, same_outbox, to_new, to_old}
-use Rattle.lert_worker.proofs.MayLaws.{may_rested}
+use Rattle.lert_worker.specs.{Sending.{AreSent, Lanes}, Trace.IsNamed, declared.end.WorkerEnd.TheVariants.Ran}
+use Rattle.lert_worker.proofs.{ReadLaws.{ends_by_cone, named_by_cone}, Steps.{same_on, same_outbox, to_new, to_old}, MayLaws.may_rested}
 use Rattle.lert_worker.proofs.sending.send_trace.Goals as goal
 
 pub returns-in-Err-send_rests-clause-sent : goal.returns-in-Err-send_rests-clause-sent

@@ -1,10 +1,8 @@
 use Rattle.std.proofs.Common.{◌+◌, ◌*◌, ◌<◌, ◌^◌, ◌++◌, ◌∷◌, [], length, refl, ap, sym, ◌∙◌, subst, arith}
 use Rattle.lert_buffers.specs.Rings.{Rings, fill_of, ring_of}
 use Rattle.lert_spec.specs.declared.numbers.Numbers.{Numbers}
-use Rattle.lert_worker.specs.Outbox.{HaveRoom, IsSendable}
-use Rattle.lert_worker.specs.Sending.{waits_at}
-use Rattle.lert_worker.proofs.TakeLaws.{may_send, room_brought, room_emptied, took, took_refused, waits_few}
-use Rattle.lert_worker.proofs.MayLaws.{alike_with, may_with}
+use Rattle.lert_worker.specs.{Outbox.{HaveRoom, IsSendable}, Sending.waits_at}
+use Rattle.lert_worker.proofs.{TakeLaws.{may_send, room_brought, room_emptied, took, took_refused, waits_few}, MayLaws.{alike_with, may_with}}
 use Rattle.lert_worker.proofs.sending.take_key.Goals as goal
 
 pub returns-in-Ok-clause-room : goal.returns-in-Ok-clause-room

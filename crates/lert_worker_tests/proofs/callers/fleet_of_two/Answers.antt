@@ -1,6 +1,4 @@
-use Rattle.std.proofs.Common.{◌∙◌, ap, arith, length, sym}
-use Rattle.std.proofs.lemmas.List.{length-map}
-use Rattle.std.proofs.lemmas.Result.{IfOk-at_ok}
+use Rattle.std.proofs.{Common.{◌∙◌, ap, arith, length, sym}, lemmas.List.length-map, lemmas.Result.IfOk-at_ok}
 use Rattle.lert_worker_tests.proofs.callers.fleet_of_two.Goals as goal
 
 pub returns-clause-passes : goal.returns-clause-passes

@@ -1,12 +1,7 @@
-use Rattle.std.proofs.Common.{◌≡◌, ℕ, List, [], ◌∷◌, ◌++◌, Some, slice_get, ap, subst, arith}
+use Rattle.std.proofs.{Common.{◌≡◌, ℕ, List, [], ◌∷◌, ◌++◌, Some, slice_get, ap, subst, arith}, lemmas.Option.slice_get_within, lemmas.Result.IfOk-weaker}
 use Rattle.std.specs.Prelude.{Result, IfOk}
-use Rattle.std.proofs.lemmas.Option.{slice_get_within}
-use Rattle.std.proofs.lemmas.Result.{IfOk-weaker}
-use Rattle.lert_base.specs.declared.held.Held.{Ghosts as HeldOf}
-use Rattle.lert_base.specs.Packet.{Packet}
-use Rattle.lert_conelock.specs.Prefix.{IsPrefix}
-use Rattle.lert_conelock.specs.After.{StandsAfter, AnswersAfter}
-use Rattle.lert_conelock.specs.Sight.{Sight, LockSight, Acted}
+use Rattle.lert_base.specs.{declared.held.Held.Ghosts as HeldOf, Packet.Packet}
+use Rattle.lert_conelock.specs.{Prefix.IsPrefix, After.{StandsAfter, AnswersAfter}, Sight.{Sight, LockSight, Acted}}
 use Rattle.lert_conelock.proofs.Prefixes.{prefix_trans}
 use Rattle.lert_fleet.specs.Cones.{FleetSight, FleetPassSight, IsPassOf, AtCone, JoinsEach, ClosesEach}
 use Rattle.lert_fleet.proofs.Places.{some_at}

@@ -1,5 +1,4 @@
-use Rattle.std.proofs.Common.{◌≡◌, ◌∙◌, ℕ, ◌+◌, List, [], ◌∷◌, ◌++◌, All, ap, arith, length, refl, subst, sym}
-use Rattle.std.proofs.lemmas.Result.{IfOk-at_ok}
+use Rattle.std.proofs.{Common.{◌≡◌, ◌∙◌, ℕ, ◌+◌, List, [], ◌∷◌, ◌++◌, All, ap, arith, length, refl, subst, sym}, lemmas.Result.IfOk-at_ok}
 use Rattle.lert_base.specs.Packet.{Packet, own}
 use Rattle.lert_worker_tests.proofs.PairLaws.{both}
 use Rattle.lert_worker_tests.specs.declared.counter.Counter.{Counter}

@@ -1,5 +1,4 @@
-use Rattle.std.proofs.Common.{◌∙◌, ap, arith, refl}
-use Rattle.std.proofs.lemmas.Result.{IfOk-at_ok}
+use Rattle.std.proofs.{Common.{◌∙◌, ap, arith, refl}, lemmas.Result.IfOk-at_ok}
 use Rattle.lert_worker_tests.proofs.FourLaws.{hired}
 use Rattle.lert_worker_tests.proofs.four.hire.Goals as goal
 

@@ -1,5 +1,4 @@
-use Rattle.std.proofs.Common.{◌≡◌, ◌∙◌, ℕ, ◌+◌, ap, length, refl, subst, sym}
-use Rattle.std.proofs.lemmas.List.{length-map}
+use Rattle.std.proofs.{Common.{◌≡◌, ◌∙◌, ℕ, ◌+◌, ap, length, refl, subst, sym}, lemmas.List.length-map}
 use Rattle.lert_base.specs.declared.cone_fault.ConeFault.{ConeFault}
 use Rattle.lert_fleet.specs.Cones.{FleetPassSight, IsPassOf}
 use Rattle.lert_worker_tests.specs.Fours.{IsHired, IsBack}

@@ -1,8 +1,6 @@
-use Rattle.std.proofs.Common.{List, ap, subst}
-use Rattle.std.proofs.lemmas.Result.{IfOk-weaker}
+use Rattle.std.proofs.{Common.{List, ap, subst}, lemmas.Result.IfOk-weaker}
 use Rattle.lert_base.specs.Packet.{Packet}
-use Rattle.lert_conelock.specs.Prefix.{IsPrefix}
-use Rattle.lert_conelock.specs.Sight.{Sight}
+use Rattle.lert_conelock.specs.{Prefix.IsPrefix, Sight.Sight}
 use Rattle.lert_conelock.proofs.Prefixes.{prefix_trans}
 use Rattle.lert_worker_tests.proofs.lock.act_join_close.Goals as goal
 

@@ -1,9 +1,8 @@
-use Rattle.std.proofs.Common.{◌+◌, ◌-◌, ◌*◌, ◌≡◌, arith, ap, ap₂, ◌∙◌, refl, min}
-use Rattle.lert_spec.specs.Edges.{capacity}
+use Rattle.std.proofs.Common.{ℕ, ◌+◌, ◌-◌, ◌≡◌, arith, ap, ap₂, ◌∙◌, refl, min}
+use Rattle.lert_spec.specs.{declared.numbers.Numbers.Numbers, Edges.{capacity, offset, span}}
 use Rattle.lert_spec.proofs.LimitLaws.{capacity_from, capacity_to}
-use Rattle.lert_base.proofs.Levels.{read_span, read_offset, span_positive, valid_as_seen}
+use Rattle.lert_base.proofs.{Levels.{read_span, read_offset, span_positive, valid_as_seen}, settings.Settings.capacity.Goals.After-min}
 use Rattle.lert_base.proofs.settings.Settings.capacity.Goals as goal
-use Rattle.lert_base.proofs.settings.Settings.capacity.Goals.{After-min}
 
 pub overflow_add-positions : goal.overflow_add-positions
 overflow_add-positions c =
@@ -22,7 +21,8 @@ value c =
     let s = c.self.inside.numbers in
     let wide = read_span s s c.self.inside.spans c.self.inside.offsets s.levels c.self.invariant refl (omega arith) in
     let far = read_offset s s c.self.inside.spans c.self.inside.offsets s.levels c.self.invariant refl (omega arith) in
-    c.min.ensures ∙ ap₂ (λ o w. min (o + w - 1) (s.threshold * s.room)) far wide ∙ ap capacity c.self.view_is
+    let positions = ap₂ (λ (o w : ℕ). o + w - 1) far wide ∙ ap (λ (n : Numbers). offset n n.levels + span n n.levels - 1) c.self.view_is in
+    c.min.ensures ∙ ap₂ min positions c.weight_room.ensures.value
 
 pub returns-clause-value : goal.returns-clause-value
 returns-clause-value c = value c

@@ -1,7 +1,6 @@
 use borrow.Author.Count.{below_more}
-use Rattle.std.proofs.Common.{◌≢◌, ◌-◌, arith, refl}
+use Rattle.std.proofs.{Common.{◌≢◌, ◌-◌, arith, refl}, lemmas.Bool.false≢true}
 use Rattle.lert_spec.specs.Edges.{edge}
-use Rattle.std.proofs.lemmas.Bool.{false≢true}
 use Rattle.lert_base.proofs.Levels.{valid_as_seen, depth_reached}
 use Rattle.lert_base.proofs.settings.Settings.depth.Goals as goal
 

@@ -1,5 +1,4 @@
-use Rattle.std.proofs.Common.{◌-◌, ◌*◌, ◌/◌, ap, ◌∙◌}
-use Rattle.std.proofs.Math.Nat.{mul_comm}
+use Rattle.std.proofs.{Common.{◌-◌, ◌*◌, ◌/◌, ap, ◌∙◌}, Math.Nat.mul_comm}
 use Rattle.lert_base.proofs.settings.Settings.edge.Goals as goal
 
 pub returns : goal.returns

@@ -1,12 +1,9 @@
-use Rattle.std.proofs.Common.{◌≡◌, ◌+◌, ◌-◌, ◌*◌, arith, ap, ap₂, ◌∙◌, slice_index_or}
-use Rattle.std.proofs.lemmas.List.FromFn.{fill_by_all}
+use Rattle.std.proofs.{Common.{◌≡◌, ◌+◌, ◌-◌, ◌*◌, arith, ap, ap₂, ◌∙◌, slice_index_or}, lemmas.List.FromFn.fill_by_all}
 use Rattle.lert_spec.specs.Edges.{offset}
 use Rattle.lert_spec.proofs.LimitLaws.{spans_within, offset_within}
 use Rattle.lert_base.specs.Computed.{offsets_of, sum_below}
-use Rattle.lert_base.proofs.Filled.{filled_more, sum_next, sum_is}
-use Rattle.lert_base.proofs.Levels.{get_or-spans_of}
+use Rattle.lert_base.proofs.{Filled.{filled_more, sum_next, sum_is}, Levels.get_or-spans_of, settings.levels.offsets_of.Goals.In-loop-level}
 use Rattle.lert_base.proofs.settings.levels.offsets_of.Goals as goal
-use Rattle.lert_base.proofs.settings.levels.offsets_of.Goals.{In-loop-level}
 
 next : (c : In-loop-level) → c.loop-level.sum + slice_index_or c.args.spans.now c.loop-level.level 0 ≡ sum_below c.args.numbers.now (c.loop-level.level + 1)
 next c =

@@ -1,11 +1,9 @@
-use Rattle.std.proofs.Common.{◌≡◌, ◌-◌, ◌*◌, arith, ap, ◌∙◌, slice_index_or}
-use Rattle.std.proofs.lemmas.List.FromFn.{fill_by_all}
+use Rattle.std.proofs.{Common.{◌≡◌, ◌-◌, ◌*◌, arith, ap, ◌∙◌, slice_index_or}, lemmas.List.FromFn.fill_by_all}
 use Rattle.lert_spec.specs.Edges.{span}
 use Rattle.lert_spec.proofs.LimitLaws.{span_within}
 use Rattle.lert_base.specs.Computed.{spans_of}
-use Rattle.lert_base.proofs.Filled.{filled_more, span_next}
+use Rattle.lert_base.proofs.{Filled.{filled_more, span_next}, settings.levels.spans_of.Goals.In-loop-level}
 use Rattle.lert_base.proofs.settings.levels.spans_of.Goals as goal
-use Rattle.lert_base.proofs.settings.levels.spans_of.Goals.{In-loop-level}
 
 next : (c : In-loop-level) → slice_index_or c.loop-level.spans (c.loop-level.level - 1) 0 * c.args.numbers.now.ratio ≡ span c.args.numbers.now c.loop-level.level
 next c =

@@ -1,8 +1,6 @@
 use Rattle.std.proofs.Common.{◌≡◌, ℕ, [], ◌∷◌, not, Option, Some, None, sym, ◌∙◌}
-use Rattle.std.specs.Prelude.{IfNone}
-use Rattle.std.specs.List.{position_from}
-use Rattle.lert_spec.specs.declared.numbers.Numbers.{Numbers}
-use Rattle.lert_spec.specs.Limits.{IsInLimits, limits_kept}
+use Rattle.std.specs.{Prelude.IfNone, List.position_from}
+use Rattle.lert_spec.specs.{declared.numbers.Numbers.Numbers, Limits.{IsInLimits, limits_kept}}
 use Rattle.lert_spec.proofs.LimitLaws.{IsInLimits-from_none}
 use Rattle.lert_base.proofs.settings.rules.broken_limit.Goals as goal
 

@@ -1,9 +1,6 @@
-use Rattle.std.proofs.Common.{◌≡◌, ℕ, ◌*◌, ◌^◌, ◌%◌, ◌≤◌, arith, lit<, [], ◌∷◌, not, Option, Some, None, ap₂, sym, ◌∙◌}
-use Rattle.std.proofs.Math.Nat.{pow-le-pow_right}
-use Rattle.std.specs.Prelude.{IfNone, nat_le}
-use Rattle.std.specs.List.{position_from}
-use Rattle.lert_spec.specs.declared.numbers.Numbers.{Numbers}
-use Rattle.lert_spec.specs.Limits.{IsInLimits, IsValid, sums_kept}
+use Rattle.std.proofs.{Common.{◌≡◌, ℕ, ◌*◌, ◌^◌, ◌%◌, ◌≤◌, arith, lit<, [], ◌∷◌, not, Option, Some, None, ap₂, sym, ◌∙◌}, Math.Nat.pow-le-pow_right}
+use Rattle.std.specs.{Prelude.{IfNone, nat_le}, List.position_from}
+use Rattle.lert_spec.specs.{declared.numbers.Numbers.Numbers, Limits.{IsInLimits, IsValid, sums_kept}}
 use Rattle.lert_spec.proofs.LimitLaws.{IsValid-from_none}
 use Rattle.lert_base.proofs.settings.rules.broken_sum.Goals as goal
 
@@ -15,7 +12,7 @@ returns-clause-value c =
     let s = c.args.numbers.now in
     c.first_false.ensures
     ∙ ap₂ (λ cones end. position_from not 9
-    (nat_le (cones * s.bins * s.base) (2 ^ 24) ∷ nat_le (cones * s.room) (2 ^ 24) ∷ nat_le end (2 ^ 32) ∷ []))
+    (nat_le (cones * s.bins * s.base) (2 ^ 23) ∷ nat_le (cones * s.room) (2 ^ 24) ∷ nat_le end (2 ^ 31) ∷ []))
     (cones s.cone_bits c.requires.limits.cone_bits_to) c.requires.end
 
 valid : (s : Numbers) → IsInLimits s → (broken : Option ℕ) → broken ≡ position_from not 9 (sums_kept s) → IfNone broken (IsValid s)

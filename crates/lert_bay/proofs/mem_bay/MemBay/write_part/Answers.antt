@@ -1,5 +1,4 @@
-use Rattle.std.proofs.Common.{◌≡◌, ◌<◌, length, take, arith}
-use Rattle.std.proofs.lemmas.Result.{on_ok_weaker, on_err_weaker}
+use Rattle.std.proofs.{Common.{◌≡◌, ◌<◌, length, take, arith}, lemmas.Result.{on_ok_weaker, on_err_weaker}}
 use Rattle.lert_bay.specs.Files.{Holds}
 use Rattle.lert_bay.proofs.Steps.{rewrites}
 use Rattle.lert_bay.proofs.mem_bay.MemBay.write_part.Goals as goal

@@ -1,8 +1,6 @@
-use Rattle.std.proofs.Common.{Some, ap, refl}
-use Rattle.std.proofs.lemmas.Result.{err_from_is_err_and}
+use Rattle.std.proofs.{Common.{Some, ap, refl}, lemmas.Result.err_from_is_err_and}
 use Rattle.lert_bay.specs.Memory.{seen_of, handed_of}
-use Rattle.lert_bay.proofs.Counting.{counted_ok, counted_err, no_cause, same_images, length_told}
-use Rattle.lert_bay.proofs.Steps.{elapses}
+use Rattle.lert_bay.proofs.{Counting.{counted_ok, counted_err, no_cause, same_images, length_told}, Steps.elapses}
 use Rattle.lert_bay.proofs.mem_bay.MemBayBay.len.Goals as goal
 
 pub returns-in_err-begin : goal.returns-in_err-begin

@@ -1,9 +1,6 @@
-use Rattle.std.proofs.Common.{◌<◌, Some, ap, sym, ◌∙◌, subst}
-use Rattle.std.proofs.lemmas.Result.{err_from_is_err_and}
+use Rattle.std.proofs.{Common.{◌<◌, Some, ap, sym, ◌∙◌, subst}, lemmas.Result.err_from_is_err_and}
 use Rattle.lert_bay.specs.Memory.{seen_of}
-use Rattle.lert_bay.proofs.Counting.{counted_ok, counted_err, no_cause, same_images, hands_none, copies_told, copies_within}
-use Rattle.lert_bay.proofs.HandedLaws.{hands_counted}
-use Rattle.lert_bay.proofs.Steps.{elapses}
+use Rattle.lert_bay.proofs.{Counting.{counted_ok, counted_err, no_cause, same_images, hands_none, copies_told, copies_within}, HandedLaws.hands_counted, Steps.elapses}
 use Rattle.lert_bay.proofs.mem_bay.MemBayBay.read_at.Goals as goal
 
 pub returns-in_err-begin : goal.returns-in_err-begin

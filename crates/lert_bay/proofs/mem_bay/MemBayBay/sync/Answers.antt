@@ -1,8 +1,6 @@
-use Rattle.std.proofs.Common.{Some, ap, ◌∙◌}
-use Rattle.std.proofs.lemmas.Result.{err_from_is_err_and}
+use Rattle.std.proofs.{Common.{Some, ap, ◌∙◌}, lemmas.Result.err_from_is_err_and}
 use Rattle.lert_bay.specs.Memory.{seen_of, handed_of}
-use Rattle.lert_bay.proofs.Counting.{counted_ok, counted_err, no_cause, same_images}
-use Rattle.lert_bay.proofs.Steps.{elapses, settled_seen, settled_images}
+use Rattle.lert_bay.proofs.{Counting.{counted_ok, counted_err, no_cause, same_images}, Steps.{elapses, settled_seen, settled_images}}
 use Rattle.lert_bay.proofs.mem_bay.MemBayBay.sync.Goals as goal
 
 pub returns-in_err-begin : goal.returns-in_err-begin

@@ -1,9 +1,6 @@
-use Rattle.std.proofs.Common.{ℕ, List, length, refl, ap, subst, arith}
-use Rattle.std.proofs.lemmas.List.{take_all}
-use Rattle.lert_bay.specs.Files.{Holds, LeftByFailure}
-use Rattle.lert_bay.specs.Memory.{Rewrites}
-use Rattle.lert_bay.proofs.Tearing.{torn_held}
-use Rattle.lert_bay.proofs.Steps.{write_turns, write_images, write_time, write_handed, part_written}
+use Rattle.std.proofs.{Common.{ℕ, List, length, refl, ap, subst, arith}, lemmas.List.take_all}
+use Rattle.lert_bay.specs.{Files.{Holds, LeftByFailure}, Memory.Rewrites}
+use Rattle.lert_bay.proofs.{Tearing.torn_held, Steps.{write_turns, write_images, write_time, write_handed, part_written}}
 use Rattle.lert_bay.proofs.mem_bay.MemBayBay.write_at.Goals as goal
 
 -- the call is to fail: a part is written

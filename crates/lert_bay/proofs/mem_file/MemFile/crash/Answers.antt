@@ -1,8 +1,5 @@
 use Rattle.std.proofs.Common.{◌≡◌, ◌<◌, ◌≤◌, List, ℕ, length, get_or, All, ap, sym, ◌∙◌, subst, rules}
-use Rattle.lert_bay.specs.Files.{IsOutside}
-use Rattle.lert_bay.specs.Since.{IsTornSince}
-use Rattle.lert_bay.specs.Pending.{before_all, bytes_of}
-use Rattle.lert_bay.specs.declared.overwrite.Overwrite.{Overwrite}
+use Rattle.lert_bay.specs.{Files.IsOutside, Since.IsTornSince, Pending.{before_all, bytes_of}, declared.overwrite.Overwrite.Overwrite}
 use Rattle.lert_bay.proofs.Undone.{pending_crashed, lost_by_crash, take_back_is}
 use Rattle.lert_bay.proofs.mem_file.MemFile.crash.Goals as goal
 

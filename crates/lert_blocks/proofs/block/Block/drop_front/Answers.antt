@@ -1,7 +1,6 @@
 use Rattle.std.proofs.Common.{◌≡◌, ℕ, ◌-◌, ◌*◌, ap, ◌∙◌, refl, arith, take, drop, replicate}
 use lib.Seq.{paste}
-use Rattle.lert_blocks.proofs.FillingLaws.{filled_behind}
-use Rattle.lert_blocks.proofs.PartLaws.{length_rest, moved_zeros, take-moved}
+use Rattle.lert_blocks.proofs.{FillingLaws.filled_behind, PartLaws.{length_rest, moved_zeros, take-moved}}
 use Rattle.lert_blocks.proofs.block.Block.drop_front.Goals as goal
 
 pub returns-clause-filled : goal.returns-clause-filled

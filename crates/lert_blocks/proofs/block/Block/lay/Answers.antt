@@ -1,10 +1,7 @@
-use Rattle.std.proofs.Common.{◌≡◌, ℕ, ◌+◌, ◌*◌, ◌<◌, ◌≤◌, ◌^◌, ◌++◌, ap, ◌∙◌, arith, rules, length, take, drop, get_or, List, length-append}
-use Rattle.std.proofs.lemmas.List.{drop_at, length-take-le, take_at}
-use Rattle.byteorder.specs.Endian.{little_bytes}
-use Rattle.byteorder.specs.Numbers.{length-bytes_low_first}
+use Rattle.std.proofs.{Common.{◌≡◌, ℕ, ◌+◌, ◌*◌, ◌<◌, ◌≤◌, ◌^◌, ◌++◌, ap, ◌∙◌, arith, rules, length, take, drop, get_or, List, length-append}, lemmas.List.{drop_at, length-take-le, take_at}}
+use Rattle.byteorder.specs.{Endian.little_bytes, Numbers.length-bytes_low_first}
 use Rattle.lert_blocks.specs.Text.{numbers_text, word_count}
-use Rattle.lert_blocks.proofs.FillingLaws.{filled_text}
-use Rattle.lert_blocks.proofs.PartLaws.{block_laid, length_numbers}
+use Rattle.lert_blocks.proofs.{FillingLaws.filled_text, PartLaws.{block_laid, length_numbers}}
 use Rattle.lert_blocks.proofs.block.Block.lay.Goals as goal
 
 -- the text that is laid, and what stands behind it

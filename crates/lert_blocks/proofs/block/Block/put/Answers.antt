@@ -1,9 +1,7 @@
 use Rattle.std.proofs.Common.{◌≡◌, ◌+◌, ◌-◌, ap, ◌∙◌, refl, arith, length}
 use Rattle.lert_counter.specs.Group.{group}
 use Rattle.lert_blocks.specs.Text.{group_of}
-use Rattle.lert_blocks.proofs.BlockLaws.{quotient_small}
-use Rattle.lert_blocks.proofs.FillingLaws.{filled_more}
-use Rattle.lert_blocks.proofs.PartLaws.{length_rest, row_marked, take-put_end}
+use Rattle.lert_blocks.proofs.{BlockLaws.quotient_small, FillingLaws.filled_more, PartLaws.{length_rest, row_marked, take-put_end}}
 use Rattle.lert_blocks.proofs.block.Block.put.Goals as goal
 
 pub put_group-used-requires-clause-narrow : goal.put_group-used-requires-clause-narrow

@@ -1,5 +1,5 @@
 use Rattle.std.proofs.Common.{◌≡◌, ◌∙◌, ℕ, false, All, List, [], replicate, length, ap, sym, subst, arith}
-use Rattle.lert_levels.specs.{declared.rows.bin_at.BinAt.BinAt, OnDisk.OnDisk, rows.Rows.{IsAt, AreRows, HoldsBins}}
+use Rattle.lert_levels.specs.{declared.rows.bin_at.BinAt.BinAt, OnDisk.{OnDisk, written}, rows.Rows.{IsAt, AreRows, HoldsBins}}
 use Rattle.lert_levels.proofs.{LaterLaws.HoldsBins-none, rows.MoveLaws.AreRows-none}
 use Rattle.lert_reports.specs.Stored.{Stored}
 use Rattle.lert_spec.specs.{declared.report.Report.Report, Limits.IsValid, Mix.cone_of}
@@ -55,7 +55,7 @@ returns-clause-held g c seen =
     returns-clause-rows g c ∙ ap (λ (l : Listing). replicate l.settings.levels []) (sym is) in
     record {
       frames = subst
-          (λ (rows : List (List BinAt)). HoldsBins c.adopted.result.listing.settings c.adopted.result.listing.events rows (seen 2))
-          (sym rows_are) (HoldsBins-none c.adopted.result.listing.settings c.adopted.result.listing.events (seen 2));
+          (λ (rows : List (List BinAt)). HoldsBins c.adopted.result.listing.settings written c.adopted.result.listing.events rows (seen 2))
+          (sym rows_are) (HoldsBins-none c.adopted.result.listing.settings 1 c.adopted.result.listing.events (seen 2));
       reports = returns-clause-none g c ∙ ap (λ (l : Listing). reports_of l) (sym is);
     }

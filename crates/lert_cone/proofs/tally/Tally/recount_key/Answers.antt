@@ -1,5 +1,5 @@
 use Rattle.std.proofs.Common.{◌≡◌, ◌∙◌, ℕ, ◌+◌, ◌-◌, ◌^◌, ◌<◌, List, suc, length, ap, sym, subst, arith, cond, ltb, refl, [], ◌∷◌, ◌++◌, append_assoc, length-append}
-use Rattle.lert_spec.specs.{declared.numbers.Numbers.Numbers, Edges.edge, Mix.cone_of}
+use Rattle.lert_spec.specs.{declared.numbers.Numbers.Numbers, Edges.{edge, tail_bits}, Mix.cone_of}
 use Rattle.lert_levels.specs.rows.Young.{IsNextPosition, with_event}
 use Rattle.lert_cone.specs.Tally.{Tallied, IsRecounted, due_in}
 use Rattle.lert_cone.proofs.{RecountLaws.{again_settings, recount_position, recounted_more}, NextFlush.flush_next}
@@ -20,7 +20,7 @@ pub flush_behind-flush-requires-clause-flush : goal.flush_behind-flush-requires-
 flush_behind-flush-requires-clause-flush g c = c.self.invariant.flush_is
 
 pub count_again-requires-clause-below : goal.count_again-requires-clause-below
-count_again-requires-clause-below g c = subst (λ (s : Numbers). c.tail_of-tail.result < 2 ^ (64 - s.cone_bits)) (sym c.self.invariant.young_settings) c.tail_of-tail.ensures.below
+count_again-requires-clause-below g c = subst (λ (s : Numbers). c.tail_of-tail.result < 2 ^ tail_bits s) (sym c.self.invariant.young_settings) c.tail_of-tail.ensures.below
 
 pub returns-clause-listing : goal.returns-clause-listing
 returns-clause-listing g c =
@@ -76,7 +76,7 @@ returns-clause-recounted g c =
     let from_young : c.args.from ≡ edge c.self.inside.zero.settings 0 c.args.n0 = from_is ∙ ap (λ (v : Numbers). edge v 0 c.args.n0) (sym c.self.invariant.young_settings) in
     recounted_more _ c.args.n0 recounted c.self.invariant.young_settings before c.args.key c.tail_of-tail.result (c.self.inside.len + 1) c.tail_of-tail.ensures.value m_is c.ranges.key.fits own
     c.count_again.new.zero
-    (c.count_again.ensures ∙ ap (λ e. cond (ltb e (c.self.inside.len + 1)) (with_event c.self.inside.zero c.tail_of-tail.result (c.self.inside.len + 1)) c.self.inside.zero) from_young) _
+    (c.count_again.ensures ∙ ap (λ e. cond (ltb e (c.self.inside.len + 1)) (with_event c.self.inside.zero c.tail_of-tail.result 1 (c.self.inside.len + 1)) c.self.inside.zero) from_young) _
     (ap (λ (keys : List ℕ). record {
       listing = record { settings = c.self.inside.settings; cone = c.self.inside.cone; events = keys; closed = c.self.inside.closed };
       young = c.count_again.new.zero;

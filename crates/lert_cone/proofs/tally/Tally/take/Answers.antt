@@ -1,5 +1,5 @@
 use Rattle.std.proofs.Common.{◌≡◌, ◌+◌, ◌-◌, ◌^◌, ◌<◌, ◌≤◌, ◌++◌, ◌∷◌, [], suc, false, length, ap, sym, ◌∙◌, refl, subst, arith, append_assoc, length-append}
-use Rattle.lert_spec.specs.{declared.numbers.Numbers.Numbers, Edges.capacity, Limits.IsValid, Mix.cone_of}
+use Rattle.lert_spec.specs.{declared.numbers.Numbers.Numbers, Edges.{capacity, tail_bits}, Limits.IsValid, Mix.cone_of}
 use Rattle.lert_cone.specs.Tally.{Tallied, IsCounted, due_in}
 use Rattle.lert_cone.proofs.{KeyCounted.{not_counted, no_room, key_counted}, NextFlush.{flush_next, next_flushes, next_stays}, TakeLaws.{rows_before, to_take}, TallyLaws.next_position}
 use Rattle.lert_bay.specs.Kept.{seen_by}
@@ -27,7 +27,7 @@ pub flush_behind-flush-requires-clause-flush : goal.flush_behind-flush-requires-
 flush_behind-flush-requires-clause-flush g c = c.self.invariant.flush_is
 
 pub add-requires-clause-below : goal.add-requires-clause-below
-add-requires-clause-below g c = subst (λ (s : Numbers). c.tail_of-tail.result < 2 ^ (64 - s.cone_bits)) (sym c.self.invariant.young_settings) c.tail_of-tail.ensures.below
+add-requires-clause-below g c = subst (λ (s : Numbers). c.tail_of-tail.result < 2 ^ tail_bits s) (sym c.self.invariant.young_settings) c.tail_of-tail.ensures.below
 
 pub begin-requires : goal.begin-requires
 begin-requires g c = record { there = c.self.invariant.there }

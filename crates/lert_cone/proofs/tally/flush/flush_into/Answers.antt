@@ -1,6 +1,6 @@
 use Rattle.std.proofs.Common.{◌≡◌, ◌∙◌, List, OnOk, Result, Ok, Err, ap, subst, sym, slice_range}
 use Rattle.lert_bay.specs.Files.{IfTold}
-use Rattle.lert_levels.specs.{declared.rows.fault.FlushFault.FlushFault, declared.rows.fault.FlushFault.TheVariants.Failed, Flushed.AreEvents, OnDisk.OnDisk, rows.Ranges.young_bins}
+use Rattle.lert_levels.specs.{declared.rows.fault.FlushFault.FlushFault, declared.rows.fault.FlushFault.TheVariants.Failed, Flushed.AreEvents, OnDisk.{OnDisk, written}, rows.Ranges.young_bins}
 use Rattle.lert_levels.specs.rows.Rows.{HoldsBins, moved}
 use Rattle.lert_spec.specs.{declared.piece.Piece.Piece, Bins.tallied, Edges.{depth, lookback}}
 use Rattle.lert_cone.specs.Due.{Dues, TookFrom}
@@ -24,13 +24,13 @@ returns g c = record {
       } in
       let both = c.flush-result.ensures.told seen told events events_ in
       on_ok (c.flush-result.new.self ≡ record { settings = c.args.levels.now.settings; rows = moved c.args.levels.now.settings c.args.m c.args.levels.now.rows }) (IfTold
-      (g.B.Bay.files c.flush-result.new.bay) (λ after. HoldsBins c.args.levels.now.settings events (moved c.args.levels.now.settings c.args.m c.args.levels.now.rows)
+      (g.B.Bay.files c.flush-result.new.bay) (λ after. HoldsBins c.args.levels.now.settings written events (moved c.args.levels.now.settings c.args.m c.args.levels.now.rows)
       (after 2)) × TookFrom g.N.Begun.start c.flush-result.new.totals.due (tallied c.args.levels.now.settings (slice_range events (lookback c.args.levels.now.settings c.args.m) c.args.m)))
-      (IfTold (g.B.Bay.files c.flush-result.new.bay) (λ after. HoldsBins c.flush-result.new.self.settings events c.flush-result.new.self.rows (after 2)))
-      c.flush-result.result c.flush-result.ensures.ok (ok_of (IfTold (g.B.Bay.files c.flush-result.new.bay) (λ after. HoldsBins c.args.levels.now.settings events
+      (IfTold (g.B.Bay.files c.flush-result.new.bay) (λ after. HoldsBins c.flush-result.new.self.settings written events c.flush-result.new.self.rows (after 2)))
+      c.flush-result.result c.flush-result.ensures.ok (ok_of (IfTold (g.B.Bay.files c.flush-result.new.bay) (λ after. HoldsBins c.args.levels.now.settings written events
       (moved c.args.levels.now.settings c.args.m c.args.levels.now.rows) (after 2)) × TookFrom g.N.Begun.start c.flush-result.new.totals.due (tallied c.args.levels.now.settings
       (slice_range events (lookback c.args.levels.now.settings c.args.m) c.args.m))) (λ (fault : FlushFault). fault ≡ Failed) c.flush-result.result both)
-      (λ is parts after told_after. subst (λ (v : OnDisk). HoldsBins v.settings events v.rows (after 2)) (sym is) (parts.0 after told_after));
+      (λ is parts after told_after. subst (λ (v : OnDisk). HoldsBins v.settings written events v.rows (after 2)) (sym is) (parts.0 after told_after));
   totals = λ events long bins seen told holds.
       let events_ : AreEvents c.args.levels.now c.args.m c.args.zero.now.bins events (seen 2) = record {
         len = long;
@@ -41,16 +41,16 @@ returns g c = record {
       subst (λ (v : Dues). OnOk c.flush-result.result (TookFrom g.N.Begun.start v
       (tallied c.args.levels.now.settings (slice_range events (lookback c.args.levels.now.settings c.args.m) c.args.m))))
       (sym c.into_due.ensures)
-      (on_ok (IfTold (g.B.Bay.files c.flush-result.new.bay) (λ after. HoldsBins c.args.levels.now.settings events (moved c.args.levels.now.settings c.args.m c.args.levels.now.rows)
+      (on_ok (IfTold (g.B.Bay.files c.flush-result.new.bay) (λ after. HoldsBins c.args.levels.now.settings written events (moved c.args.levels.now.settings c.args.m c.args.levels.now.rows)
       (after 2)) × TookFrom g.N.Begun.start c.flush-result.new.totals.due (tallied c.args.levels.now.settings (slice_range events (lookback c.args.levels.now.settings c.args.m) c.args.m)))
-      (IfTold (g.B.Bay.files c.flush-result.new.bay) (λ after. HoldsBins c.args.levels.now.settings events (moved c.args.levels.now.settings c.args.m c.args.levels.now.rows)
+      (IfTold (g.B.Bay.files c.flush-result.new.bay) (λ after. HoldsBins c.args.levels.now.settings written events (moved c.args.levels.now.settings c.args.m c.args.levels.now.rows)
       (after 2)) × TookFrom g.N.Begun.start c.flush-result.new.totals.due (tallied c.args.levels.now.settings (slice_range events (lookback c.args.levels.now.settings c.args.m) c.args.m)))
       (TookFrom g.N.Begun.start c.flush-result.new.totals.due (tallied c.args.levels.now.settings (slice_range events (lookback c.args.levels.now.settings c.args.m) c.args.m)))
-      c.flush-result.result (ok_of (IfTold (g.B.Bay.files c.flush-result.new.bay) (λ after. HoldsBins c.args.levels.now.settings events
+      c.flush-result.result (ok_of (IfTold (g.B.Bay.files c.flush-result.new.bay) (λ after. HoldsBins c.args.levels.now.settings written events
       (moved c.args.levels.now.settings c.args.m c.args.levels.now.rows) (after 2)) × TookFrom g.N.Begun.start c.flush-result.new.totals.due (tallied c.args.levels.now.settings
       (slice_range events (lookback c.args.levels.now.settings c.args.m) c.args.m))) (λ (fault : FlushFault). fault ≡ Failed) c.flush-result.result both)
       (ok_of (IfTold
-      (g.B.Bay.files c.flush-result.new.bay) (λ after. HoldsBins c.args.levels.now.settings events (moved c.args.levels.now.settings c.args.m c.args.levels.now.rows)
+      (g.B.Bay.files c.flush-result.new.bay) (λ after. HoldsBins c.args.levels.now.settings written events (moved c.args.levels.now.settings c.args.m c.args.levels.now.rows)
       (after 2)) × TookFrom g.N.Begun.start c.flush-result.new.totals.due (tallied c.args.levels.now.settings (slice_range events (lookback c.args.levels.now.settings c.args.m) c.args.m))) (λ
       (fault : FlushFault). fault ≡ Failed) c.flush-result.result both) (λ _ parts. parts.1));
   took = subst (λ (v : Dues). OnOk c.flush-result.result ((list : List Piece) × TookFrom g.N.Begun.start v list)) (sym c.into_due.ensures)
@@ -62,7 +62,7 @@ returns g c = record {
         held = holds;
       } in
       let both = c.flush-result.ensures.told seen told events events_ in
-      never_malformed (IfTold (g.B.Bay.files c.flush-result.new.bay) (λ after. HoldsBins c.args.levels.now.settings events (moved c.args.levels.now.settings c.args.m c.args.levels.now.rows)
+      never_malformed (IfTold (g.B.Bay.files c.flush-result.new.bay) (λ after. HoldsBins c.args.levels.now.settings written events (moved c.args.levels.now.settings c.args.m c.args.levels.now.rows)
       (after 2)) × TookFrom g.N.Begun.start c.flush-result.new.totals.due (tallied c.args.levels.now.settings (slice_range events
       (lookback c.args.levels.now.settings c.args.m) c.args.m))) c.flush-result.result both at;
   malformed = λ seen told at is.

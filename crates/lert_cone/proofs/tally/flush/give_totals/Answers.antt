@@ -5,7 +5,7 @@ use Rattle.lert_cone.proofs.{TallyLaws.{young_total, flush_total, rows_still, dr
 use Rattle.lert_cone.proofs.TotalLaws.{edge_within}
 use Rattle.lert_bay.proofs.{KeptLaws.IsLawful, Lasting.lasts_none}
 use Rattle.lert_spec.specs.{declared.numbers.Numbers.Numbers, declared.piece.Piece.Piece, Bins.Bin, Edges.span, Table.count_of}
-use Rattle.lert_levels.specs.{Flushed.InNamed, rows.Loading.OneBreaks, OnDisk.OnDisk, rows.Ranges.young_bins, rows.Rows.{IsAt, AreRows, HoldsBins}, rows.Young.Young}
+use Rattle.lert_levels.specs.{Flushed.InNamed, rows.Loading.OneBreaks, OnDisk.{OnDisk, written}, rows.Ranges.young_bins, rows.Rows.{IsAt, AreRows, HoldsBins}, rows.Young.Young}
 use Rattle.lert_levels.proofs.{rows.LandLaws.rest_none, rows.RowLaws.{IsAt-moved, AreRows-moved}}
 use Rattle.lert_cone.specs.Due.{TookFrom}
 use Rattle.lert_cone.proofs.tally.flush.give_totals.Given as given
@@ -30,7 +30,7 @@ returns-then-not-flushes-clause-gives g c = record {
   rows = rows_still c.args.levels.now.settings c.requires.valid c.args.m c.args.levels.now.rows
       (stays_shallow c.args.levels.now.settings c.requires.valid c.args.m (c.requires.stays c.if-not-flushes.true)) c.requires.rows;
   holds = λ events long bins seen told holds after told_after.
-      subst (λ (files : Files). HoldsBins c.args.levels.now.settings events c.args.levels.now.rows (files 2)) (same_Some seen after (sym told ∙ told_after)) holds;
+      subst (λ (files : Files). HoldsBins c.args.levels.now.settings written events c.args.levels.now.rows (files 2)) (same_Some seen after (sym told ∙ told_after)) holds;
   totals = λ events long bins seen told holds.
       let s = c.args.levels.now.settings in
       let is = young_total s c.requires.valid events c.args.m c.args.tail (sum_by (λ (bin : Bin). count_of bin.pieces c.args.tail) c.args.zero.now.bins)
@@ -49,7 +49,7 @@ returns-then-not-flushes-clause-gives g c = record {
   are = λ are. are;
   still = λ stays. refl;
   unflushed = λ stays. refl;
-  rest = rest_none (bays g) (lawful g) (InNamed c.args.levels.now.settings c.args.levels.now.rows) c.args.bay.now;
+  rest = rest_none (bays g) (lawful g) (InNamed c.args.levels.now.settings written c.args.levels.now.rows) c.args.bay.now;
   kept = record {
     time = lasts_none (g.B.Bay.moment c.args.bay.now) (g.B.Bay.left_since c.args.bay.now);
     never_falls = omega arith;
@@ -90,7 +90,7 @@ returns-in-Ok-clause-gives g c = let did = rw c.in-Ok.is at c.flush_into-taken.e
       (IsAt-moved c.args.levels.now.settings c.requires.valid c.args.m c.requires.first c.requires.last c.args.levels.now.rows c.requires.rows);
   holds = λ events long bins seen told holds after told_after.
       let held = did.holds events long bins seen told holds in
-      subst (λ (t : Numbers). HoldsBins t events c.flush_into-taken.new.levels.rows (after 2)) (ap (λ (v : OnDisk). v.settings) did.flushed) (held after told_after);
+      subst (λ (t : Numbers). HoldsBins t written events c.flush_into-taken.new.levels.rows (after 2)) (ap (λ (v : OnDisk). v.settings) did.flushed) (held after told_after);
   totals = λ events long bins seen told holds.
       let took = did.totals events long bins seen told holds in
       subst (λ (pieces : List Piece). TookFrom g.N.Begun.start c.flush_into-taken.result.0 pieces)
@@ -103,8 +103,8 @@ returns-in-Ok-clause-gives g c = let did = rw c.in-Ok.is at c.flush_into-taken.e
   images = λ events long bins seen told holds each after told_after image may.
       let held = did.holds events long bins seen told holds in
       let durable = did.durable in
-      subst (λ (bytes : List ℕ). HoldsBins c.args.levels.now.settings events c.flush_into-taken.new.levels.rows bytes) (sym (durable after told_after image may))
-      (subst (λ (t : Numbers). HoldsBins t events c.flush_into-taken.new.levels.rows (after 2)) (ap (λ (v : OnDisk). v.settings) did.flushed) (held after told_after));
+      subst (λ (bytes : List ℕ). HoldsBins c.args.levels.now.settings written events c.flush_into-taken.new.levels.rows bytes) (sym (durable after told_after image may))
+      (subst (λ (t : Numbers). HoldsBins t written events c.flush_into-taken.new.levels.rows (after 2)) (ap (λ (v : OnDisk). v.settings) did.flushed) (held after told_after));
   are = λ are.
       subst (λ (v : OnDisk). AreRows c.args.levels.now.settings v.rows) (sym did.flushed)
       (AreRows-moved c.args.levels.now.settings c.requires.valid c.args.m c.requires.first c.requires.last c.args.levels.now.rows c.requires.rows are);
@@ -136,9 +136,9 @@ returns-in-Err-clause-gives g c = let did = rw c.in-Err.is at c.flush_into-taken
   sound = λ events long bins seen told holds at same.
       c.flush_into-taken.ensures.sound events long bins seen told holds at (c.in-Err.is ∙ same);
   malformed = λ seen told at same.
-      subst (λ (v : OnDisk). OneBreaks v.settings v.rows (seen 2) at) (sym did.refused) (c.flush_into-taken.ensures.malformed seen told at (c.in-Err.is ∙ same));
+      subst (λ (v : OnDisk). OneBreaks v.settings written v.rows (seen 2) at) (sym did.refused) (c.flush_into-taken.ensures.malformed seen told at (c.in-Err.is ∙ same));
   malformed_after = λ after told at same.
-      subst (λ (v : OnDisk). OneBreaks v.settings v.rows (after 2) at) (sym did.refused) (c.flush_into-taken.ensures.malformed_after after told at (c.in-Err.is ∙ same));
+      subst (λ (v : OnDisk). OneBreaks v.settings written v.rows (after 2) at) (sym did.refused) (c.flush_into-taken.ensures.malformed_after after told at (c.in-Err.is ∙ same));
   images = λ events long bins seen told holds each. tt;
   are = tt;
   still = λ stays. tt;

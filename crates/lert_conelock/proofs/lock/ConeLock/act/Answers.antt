@@ -1,6 +1,5 @@
-use Rattle.lert_conelock.proofs.Seeing.{idles, takes, first_of, turned_at_last, turned_keeps, turned_met, turned_moved, seen_moves, turned_inside, acted_at_last, declined_at_last}
+use Rattle.lert_conelock.proofs.{Seeing.{idles, takes, first_of, turned_at_last, turned_keeps, turned_met, turned_moved, seen_moves, turned_inside, acted_at_last, declined_at_last}, Turning.trier}
 use Rattle.lert_conelock.specs.Moves.{waits_and_takes}
-use Rattle.lert_conelock.proofs.Turning.{trier}
 use Rattle.lert_conelock.proofs.lock.ConeLock.act.Goals as goal
 
 pub take_turn-requires-clause-idle : goal.take_turn-requires-clause-idle

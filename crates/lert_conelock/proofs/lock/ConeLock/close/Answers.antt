@@ -1,8 +1,7 @@
 use Rattle.std.proofs.Common.{◌≡◌, ℕ, ◌<◌, zero, suc, Bool, false, List, [], ◌∷◌, Option, Some, None, slice_index_or, slice_set, refl, ap, sym, ◌∙◌, subst, arith}
 use Rattle.std.proofs.lemmas.Option.{same_Some, none-some}
 use Rattle.atomic_table.specs.Seated.{TableId}
-use Rattle.lert_conelock.specs.Shown.{Shown}
-use Rattle.lert_conelock.specs.Sight.{Closed, LockSight, Sight, sight}
+use Rattle.lert_conelock.specs.{Shown.Shown, Sight.{Closed, LockSight, Sight, sight}}
 use Rattle.lert_conelock.proofs.Seeing.{idles, ends}
 use Rattle.lert_conelock.proofs.lock.ConeLock.close.Goals as goal
 

@@ -1,7 +1,6 @@
 use Rattle.std.proofs.Common.{◌∙◌, sym, Some}
 use Rattle.lert_conelock.specs.Shown.{joined}
-use Rattle.lert_conelock.proofs.Seeing.{idles, seen_joined, joined_inside}
-use Rattle.lert_conelock.proofs.Turning.{trier}
+use Rattle.lert_conelock.proofs.{Seeing.{idles, seen_joined, joined_inside}, Turning.trier}
 use Rattle.lert_conelock.proofs.lock.ConeLock.join.Goals as goal
 
 pub join-requires-clause-idle : goal.join-requires-clause-idle

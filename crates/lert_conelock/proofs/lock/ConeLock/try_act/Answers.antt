@@ -1,6 +1,5 @@
-use Rattle.lert_conelock.proofs.Seeing.{idles, takes, first_of, turned, turned_keeps, turned_met, turned_moved, seen_moves, turned_inside, acted_once, declined_once, lost_once}
+use Rattle.lert_conelock.proofs.{Seeing.{idles, takes, first_of, turned, turned_keeps, turned_met, turned_moved, seen_moves, turned_inside, acted_once, declined_once, lost_once}, Turning.trier}
 use Rattle.lert_conelock.specs.Lost.{moves_of}
-use Rattle.lert_conelock.proofs.Turning.{trier}
 use Rattle.lert_conelock.proofs.lock.ConeLock.try_act.Goals as goal
 
 pub try_turn-requires-clause-idle : goal.try_turn-requires-clause-idle

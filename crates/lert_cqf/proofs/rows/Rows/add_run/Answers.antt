@@ -1,8 +1,6 @@
-use Rattle.std.proofs.Common.{◌+◌, ◌-◌, ◌++◌, ℕ, arith, ◌∙◌, refl, length, ap, List, ◌∷◌, [], take, drop, length-append}
-use Rattle.std.proofs.lemmas.List.{with_items_is}
+use Rattle.std.proofs.{Common.{◌+◌, ◌-◌, ◌++◌, ℕ, arith, ◌∙◌, refl, length, ap, List, ◌∷◌, [], take, drop, length-append}, lemmas.List.with_items_is}
 use Rattle.lert_counter.proofs.GroupLemmas.{length_group-positive}
-use Rattle.lert_cqf.proofs.BegunLemmas.{text_within}
-use Rattle.lert_cqf.proofs.GrowingLemmas.{begin_room, begin_start, begin_low, begin_opening, begin_written}
+use Rattle.lert_cqf.proofs.{BegunLemmas.text_within, GrowingLemmas.{begin_room, begin_start, begin_low, begin_opening, begin_written}}
 use Rattle.lert_cqf.proofs.rows.Rows.add_run.Goals as goal
 
 pub start-start-requires-clause-fits : goal.start-start-requires-clause-fits

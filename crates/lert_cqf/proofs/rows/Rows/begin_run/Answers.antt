@@ -1,7 +1,6 @@
 use Rattle.std.proofs.Common.{arith, sym, ◌∙◌, get_or, length, ap, List, Bool, false, true, set}
 use Rattle.lert_slotbits.specs.Bits.{IsFirst}
-use Rattle.lert_cqf.proofs.OpeningLemmas.{length_filled}
-use Rattle.lert_cqf.proofs.GrowingLemmas.{begin_free, begin_room, begin_start, begin_low, begin_first, begin_spill, begun}
+use Rattle.lert_cqf.proofs.{OpeningLemmas.length_filled, GrowingLemmas.{begin_free, begin_room, begin_start, begin_low, begin_first, begin_spill, begun}}
 use Rattle.lert_cqf.proofs.rows.Rows.begin_run.Goals as goal
 
 pub start-place-requires-clause-fits : goal.start-place-requires-clause-fits

@@ -1,7 +1,5 @@
-use Rattle.std.proofs.Common.{◌+◌, ◌-◌, ◌++◌, ℕ, arith, ◌∙◌, length, ap, List, take, drop, length-append}
-use Rattle.std.proofs.lemmas.List.{with_items_is, length-take, length-drop}
-use Rattle.lert_cqf.proofs.BegunLemmas.{text_within}
-use Rattle.lert_cqf.proofs.GrowingLemmas.{grow_stands, grow_bounds, grow_of, grow_opening, grow_written, run}
+use Rattle.std.proofs.{Common.{◌+◌, ◌-◌, ◌++◌, ℕ, arith, ◌∙◌, length, ap, List, take, drop, length-append}, lemmas.List.{with_items_is, length-take, length-drop}}
+use Rattle.lert_cqf.proofs.{BegunLemmas.text_within, GrowingLemmas.{grow_stands, grow_bounds, grow_of, grow_opening, grow_written, run}}
 use Rattle.lert_cqf.proofs.rows.Rows.grow_run.Goals as goal
 
 pub run-requires-clause-within : goal.run-requires-clause-within

@@ -1,5 +1,4 @@
-use Rattle.std.proofs.Common.{◌≡◌, ◌-◌, ◌+◌, ap, sym, ◌∙◌, List, ℕ, false, get_or, min, subst, length, arith}
-use Rattle.std.proofs.lemmas.List.{with_items_is}
+use Rattle.std.proofs.{Common.{◌≡◌, ◌-◌, ◌+◌, ap, sym, ◌∙◌, List, ℕ, false, get_or, min, subst, length, arith}, lemmas.List.with_items_is}
 use Rattle.lert_cqf.specs.Rows.{filled_gap, IsRaised}
 use Rattle.lert_cqf.proofs.RotateLemmas.{first_unique}
 use Rattle.lert_cqf.proofs.rows.Rows.open_slot.Goals as goal

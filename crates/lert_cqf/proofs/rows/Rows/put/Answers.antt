@@ -1,5 +1,4 @@
-use Rattle.std.proofs.Common.{true, false, arith}
-use Rattle.std.proofs.lemmas.Option.{get_or_from_slice_get}
+use Rattle.std.proofs.{Common.{true, false, arith}, lemmas.Option.get_or_from_slice_get}
 use Rattle.lert_cqf.proofs.TableLemmas.{occupied_long, held, not_held, put_within, growing, beginning, kept_grown, kept_begun}
 use Rattle.lert_cqf.proofs.rows.Rows.put.Goals as goal
 

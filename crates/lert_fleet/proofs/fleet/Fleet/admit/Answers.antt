@@ -1,8 +1,6 @@
-use Rattle.std.proofs.Common.{◌≡◌, ℕ, ◌+◌, ◌∙◌, sym}
-use Rattle.std.proofs.lemmas.Result.{IfOk-weaker, IfErr-weaker}
+use Rattle.std.proofs.{Common.{◌≡◌, ℕ, ◌+◌, ◌∙◌, sym}, lemmas.Result.{IfOk-weaker, IfErr-weaker}}
 use Rattle.lert_base.specs.Entries.{packet_of}
-use Rattle.lert_conelock.specs.Sight.{Keeps, Acted, Declined}
-use Rattle.lert_conelock.specs.Moves.{Moves, waits_and_takes}
+use Rattle.lert_conelock.specs.{Sight.{Keeps, Acted, Declined}, Moves.{Moves, waits_and_takes}}
 use Rattle.lert_fleet.proofs.Turning.{here, own, changes_only, at_cone, still}
 use Rattle.lert_fleet.proofs.fleet.Fleet.admit.Goals as goal
 

@@ -1,11 +1,8 @@
 use Rattle.std.proofs.Common.{List, map, ap, subst, sym, vec_capacity}
 use Rattle.lert_conelock.specs.Sight.{LockSight}
-use Rattle.lert_fleet.specs.Cones.{FleetPassSight}
-use Rattle.lert_fleet.specs.Each.{EachTwo}
-use Rattle.lert_fleet.specs.Rows.{IsWholePass}
-use Rattle.lert_fleet.proofs.Locking.{whole_each}
+use Rattle.lert_fleet.specs.{Cones.FleetPassSight, Each.EachTwo, Rows.IsWholePass}
+use Rattle.lert_fleet.proofs.{Locking.whole_each, Closing.{closes_each, room_all}}
 use Rattle.crossbeam_utils.specs.Padded.{padded_value}
-use Rattle.lert_fleet.proofs.Closing.{closes_each, room_all}
 use Rattle.lert_fleet.proofs.fleet.Fleet.close.Goals as goal
 
 pub close_each-requires-clause-whole : goal.close_each-requires-clause-whole

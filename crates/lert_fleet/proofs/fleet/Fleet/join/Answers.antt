@@ -1,9 +1,7 @@
-use Rattle.std.proofs.Common.{◌≡◌, ℕ, List, rules, [], length, ap, subst, sym, ◌∙◌, vec_len, arith}
-use Rattle.std.proofs.lemmas.List.{nil_from_length, length-set}
+use Rattle.std.proofs.{Common.{◌≡◌, ℕ, List, rules, [], length, ap, subst, sym, ◌∙◌, vec_len, arith}, lemmas.List.{nil_from_length, length-set}}
 use Rattle.lert_conelock.specs.Sight.{Sight}
 use Rattle.lert_fleet.specs.Cones.{FleetPassSight, IsPassOf, JoinsEach}
-use Rattle.lert_fleet.proofs.Joining.{IsJoining, joining_begun, joining_next, next_meets, next_more, next_within, joins_each, joined_still}
-use Rattle.lert_fleet.proofs.Places.{at_length, is_fewer}
+use Rattle.lert_fleet.proofs.{Joining.{IsJoining, joining_begun, joining_next, next_meets, next_more, next_within, joins_each, joined_still}, Places.{at_length, is_fewer}}
 use Rattle.lert_fleet.proofs.fleet.Fleet.join.Goals as goal
 
 pub loop-own-init : goal.loop-own-init

@@ -1,6 +1,4 @@
-use Rattle.std.proofs.Common.{◌≡◌, ◌≤◌, List, length, map, reverse, vec_capacity, refl, ap, subst, sym, ◌∙◌}
-use Rattle.std.proofs.lemmas.List.{reverse-reverse}
-use Rattle.std.proofs.lemmas.List.Elements.{All-same}
+use Rattle.std.proofs.{Common.{◌≡◌, ◌≤◌, List, length, map, reverse, vec_capacity, refl, ap, subst, sym, ◌∙◌}, lemmas.List.reverse-reverse, lemmas.List.Elements.All-same}
 use Rattle.std.proofs.lemmas.Result.{err_from_is_err_and}
 use Rattle.crossbeam_utils.specs.Padded.{padded_value}
 use Rattle.lert_base.specs.Packet.{Packet}

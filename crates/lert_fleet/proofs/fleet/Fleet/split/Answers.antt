@@ -1,6 +1,5 @@
-use Rattle.std.proofs.Common.{◌<◌, ◌≤◌, length, rules, refl, ap, sym, ◌∙◌, subst, vec_capacity, vec_len, arith}
+use Rattle.std.proofs.{Common.{◌<◌, ◌≤◌, length, rules, refl, ap, sym, ◌∙◌, subst, vec_capacity, vec_len, arith}, lemmas.Result.err_from_is_err_and}
 use Rattle.lert_fleet.proofs.Splitting.{as_long, below_at_last, now_long, room_more, splitting_begun, next_own, none_below, own_within, splitting_cut, from_at_last, below_of, from_of}
-use Rattle.std.proofs.lemmas.Result.{err_from_is_err_and}
 use Rattle.lert_fleet.specs.Cones.{FleetPassSight}
 use Rattle.lert_fleet.proofs.fleet.Fleet.split.Goals as goal
 

@@ -1,8 +1,6 @@
 use Rattle.std.proofs.Common.{◌≡◌, ◌+◌, ◌∙◌, sym}
 use Rattle.lert_base.specs.Entries.{packet_of}
-use Rattle.lert_conelock.specs.Sight.{Keeps, Loses, Acted, Declined}
-use Rattle.lert_conelock.specs.Lost.{lost, moves_of}
-use Rattle.lert_conelock.specs.Moves.{Moves}
+use Rattle.lert_conelock.specs.{Sight.{Keeps, Loses, Acted, Declined}, Lost.{lost, moves_of}, Moves.Moves}
 use Rattle.lert_fleet.proofs.Turning.{here, own, changes_only, at_cone, still}
 use Rattle.lert_fleet.proofs.fleet.Fleet.try_admit.Goals as goal
 

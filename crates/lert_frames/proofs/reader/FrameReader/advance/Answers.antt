@@ -35,7 +35,7 @@ invariant_of-self-in-Err g c =
     let self = c.args.self.now in
     let e = c.in-Err.ensures in
     record {
-      reading = reading_stopped self.settings self.level self.place self.wide self.sum self.decoder _ self.pieces.items _ _ _ self.given self.gave self.reading
+      reading = reading_stopped self.settings self.version self.level self.place self.wide self.sum self.decoder _ self.pieces.items _ _ _ self.given self.gave self.reading
           e.none e.steps.floor e.steps.limit e.steps.bounded e.capacity e.steps.between;
     }
 
@@ -44,15 +44,15 @@ returns-in-Err g c =
     let self = c.args.self.now in
     let e = c.in-Err.ensures in
     record {
-      frame = record { settings = refl; level = refl; place = refl; wide = refl; gave = refl };
+      frame = record { settings = refl; version = refl; level = refl; place = refl; wide = refl; gave = refl };
       to_come = λ seen told.
           let file = seen FRAMES in
           record {
-            left = left_stopped self.sum self.place (decoder_found self.decoder file) (decoder_found c.step.new.self file) self.fault c.place_in-self.result c.in-Err.fault
+            left = left_stopped self.version self.sum self.place (decoder_found self.decoder file) (decoder_found c.step.new.self file) self.fault c.place_in-self.result c.in-Err.fault
                 c.requires.fault (e.steps.refused seen told) (λ at is. (e.steps.malformed seen told at (ap Err is), c.place_in-self.ensures.malformed at is)) c.place_in-self.ensures.failed;
             pieces = λ _. ap₂ (λ items (found : Found). drop self.given items ++ found.pieces) e.none (e.steps.refused seen told);
           };
-      malformed = λ seen told at is. left_broken self.sum self.place at (decoder_found self.decoder (seen FRAMES)) self.fault c.requires.fault (e.steps.malformed seen told at is);
+      malformed = λ seen told at is. left_broken self.version self.sum self.place at (decoder_found self.decoder (seen FRAMES)) self.fault c.requires.fault (e.steps.malformed seen told at is);
       given = refl;
       fault = tt;
       work = tt;
@@ -68,10 +68,10 @@ invariant_of-self g c =
     let e = c.in-Ok.ensures in
     let put : List Piece = drop (length self.pieces.items) c.step.new.pieces.items in
     let from_is : c.len-before.result ≡ length self.pieces.items = omega arith in
-    let less_is = less_behind self.sum c.settle-self.result c.len-before.result (length self.pieces.items) c.step.new.pieces.items from_is c.settle-self.ensures.sum in
+    let less_is = less_behind self.version self.sum c.settle-self.result c.len-before.result (length self.pieces.items) c.step.new.pieces.items from_is c.settle-self.ensures.sum in
     let items_are = kept_behind c.settle-self.result c.len-before.result self.pieces.items c.step.new.pieces.items c.settle-self.new.pieces.items from_is e.kept c.settle-self.ensures.kept in
     record {
-      reading = reading_on self.settings self.level self.place self.wide self.sum c.settle-self.result self.decoder c.step.new.self self.pieces.items put c.settle-self.new.pieces.items
+      reading = reading_on self.settings self.version self.level self.place self.wide self.sum c.settle-self.result self.decoder c.step.new.self self.pieces.items put c.settle-self.new.pieces.items
           _ _ self.given self.gave self.reading less_is items_are
           e.steps.ascend e.steps.counts e.steps.floor e.steps.limit e.steps.bounded (c.settle-self.ensures.capacity ∙ e.capacity) e.steps.between;
     }
@@ -82,20 +82,20 @@ returns-in-Ok g c =
     let e = c.in-Ok.ensures in
     let put : List Piece = drop (length self.pieces.items) c.step.new.pieces.items in
     let from_is : c.len-before.result ≡ length self.pieces.items = omega arith in
-    let less_is = less_behind self.sum c.settle-self.result c.len-before.result (length self.pieces.items) c.step.new.pieces.items from_is c.settle-self.ensures.sum in
+    let less_is = less_behind self.version self.sum c.settle-self.result c.len-before.result (length self.pieces.items) c.step.new.pieces.items from_is c.settle-self.ensures.sum in
     let items_are = kept_behind c.settle-self.result c.len-before.result self.pieces.items c.step.new.pieces.items c.settle-self.new.pieces.items from_is e.kept c.settle-self.ensures.kept in
     record {
-      frame = record { settings = refl; level = refl; place = refl; wide = refl; gave = refl };
+      frame = record { settings = refl; version = refl; level = refl; place = refl; wide = refl; gave = refl };
       to_come = λ seen told.
           let file = seen FRAMES in
           let gives = e.steps.gives seen told in
-          let left : verdict c.settle-self.result self.place (decoder_found c.step.new.self file) ≡ verdict self.sum self.place (decoder_found self.decoder file) =
-          left_on self.sum c.settle-self.result self.place put (decoder_found self.decoder file) (decoder_found c.step.new.self file) less_is gives in
+          let left : verdict self.version c.settle-self.result self.place (decoder_found c.step.new.self file) ≡ verdict self.version self.sum self.place (decoder_found self.decoder file) =
+          left_on self.version self.sum c.settle-self.result self.place put (decoder_found self.decoder file) (decoder_found c.step.new.self file) less_is gives in
           record {
             left = ap (known_or self.fault) left;
-            pieces = λ whole. pieces_on c.settle-self.result self.place self.given c.settle-self.new.pieces.items self.pieces.items put
+            pieces = λ whole. pieces_on self.version c.settle-self.result self.place self.given c.settle-self.new.pieces.items self.pieces.items put
                 (decoder_found self.decoder file) (decoder_found c.step.new.self file) items_are self.reading.within
-                (left ∙ (sym (ap (λ k. known_or k (verdict self.sum self.place (decoder_found self.decoder file))) c.requires.fault) ∙ whole)) gives;
+                (left ∙ (sym (ap (λ k. known_or k (verdict self.version self.sum self.place (decoder_found self.decoder file))) c.requires.fault) ∙ whole)) gives;
           };
       malformed = λ seen told at is. absurd (not_err _ _ is);
       given = refl;

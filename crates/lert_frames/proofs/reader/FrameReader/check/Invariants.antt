@@ -1,7 +1,7 @@
 use Rattle.lert_bay.specs.Kept.{seen_by}
 use Rattle.std.proofs.Common.{◌≡◌, ◌-◌, ◌↔◌, ℕ, Some}
 use Rattle.lert_bay.{specs.Files.Files, specs.Kept.OnlyReads, specs.declared.bay.TheConstants.FRAMES}
-use Rattle.lert_spec.specs.Table.{total}
+use Rattle.lert_spec.specs.Table.{costs}
 use Rattle.lert_frames.{specs.ToCome.{Breaks, IsWithin}}
 use Rattle.lert_frames.proofs.reader.FrameReader.check.Given as goal
 
@@ -9,6 +9,7 @@ use Rattle.lert_frames.proofs.reader.FrameReader.check.Given as goal
 abbrev pub invariant-loop-piece : goal.invariant-loop-piece
 invariant-loop-piece g l = record {
   settings : l.self.settings ≡ l.initial.self.settings;
+  version : l.self.version ≡ l.initial.self.version;
   level : l.self.level ≡ l.initial.self.level;
   place : l.self.place ≡ l.initial.self.place;
   wide : l.self.wide ≡ l.initial.self.wide;
@@ -17,6 +18,6 @@ invariant-loop-piece g l = record {
   only_reads : OnlyReads (seen_by g.B.Faulty g.B.Bay) l.fn.bay l.bay ⊥;
 }
 
--- each piece raises the sum of those that were given
+-- each piece raises what those that were given cost
 abbrev pub decreases-loop-piece : goal.decreases-loop-piece
-decreases-loop-piece g l = l.self.wide - total l.self.gave
+decreases-loop-piece g l = l.self.wide - costs l.self.version l.self.gave

@@ -46,10 +46,10 @@ pub returns-in-Some : goal.returns-in-Some
 returns-in-Some g c =
     let self = c.args.self.now in
     record {
-      frame = record { settings = refl; level = refl; place = refl; wide = refl; gave = refl };
+      frame = record { settings = refl; version = refl; level = refl; place = refl; wide = refl; gave = refl };
       to_come = λ seen told. record { left = refl; pieces = λ _. refl };
       malformed = λ seen told at is.
-          ap (λ fault. known_or fault (verdict self.sum self.place (decoder_found self.decoder (seen FRAMES)))) c.in-Some.is ∙ ap Some (place_is c.in-Some.at at is);
+          ap (λ fault. known_or fault (verdict self.version self.sum self.place (decoder_found self.decoder (seen FRAMES)))) c.in-Some.is ∙ ap Some (place_is c.in-Some.at at is);
       over = tt;
       within = λ seen told within. tt;
       only_reads = reads_same (seen_by g.B.Faulty g.B.Bay) g.met.B.Bay.only_now (λ is. not_failed _ _ refl is);

@@ -1,5 +1,5 @@
 use Rattle.std.{proofs.Common.{◌≡◌, ◌+◌, ◌<◌, ◌++◌, List, length, drop, refl, subst, arith}, proofs.lemmas.List.drop_all}
-use Rattle.lert_spec.{specs.declared.piece.Piece.Piece, specs.Table.{AreGiven, total}}
+use Rattle.lert_spec.{specs.declared.piece.Piece.Piece, specs.Table.AreGiven}
 use Rattle.lert_frames.{specs.Decoded.decoder_floor, specs.Reading.SumsUp, proofs.GiveLaws.{ready_is, same_pieces}}
 use Rattle.lert_frames.proofs.reader.FrameReader.give.Goals as goal
 
@@ -9,7 +9,7 @@ pub returns-then-self-len : goal.returns-then-self-len
 returns-then-self-len c =
     let r = c.args.self.now in
     let none = drop_all r.given r.pieces.items (omega (arith, c.if-self-len.true, c.len.ensures, r.pieces.ok.0)) in
-    record { settings = refl; level = refl; place = refl; wide = refl; sum = refl; decoder = refl; fault = refl; given = (none, none, refl) }
+    record { settings = refl; version = refl; level = refl; place = refl; wide = refl; sum = refl; decoder = refl; fault = refl; given = (none, none, refl) }
 
 -- ---- one is
 
@@ -25,12 +25,13 @@ invariant_of-self c =
     record {
       reading = record {
         valid = is.valid;
+        known = is.known;
         first = is.first;
         last = is.last;
         decoded = subst (AreGiven (decoder_floor r.decoder)) same is.decoded;
         limit = is.limit;
         below = is.below;
-        sums = subst (λ (pieces : List Piece). SumsUp r.wide (total pieces) r.sum) same is.sums;
+        sums = subst (λ (pieces : List Piece). SumsUp r.version r.wide pieces r.sum) same is.sums;
         within = omega (arith, one_ready c);
         room = is.room;
         stands = is.stands;
@@ -43,6 +44,7 @@ returns c =
     let within : r.given < length r.pieces.items = omega (arith, c.if-self-len.false, c.len.ensures, r.pieces.ok.0) in
     record {
       settings = refl;
+      version = refl;
       level = refl;
       place = refl;
       wide = refl;

@@ -1,38 +1,31 @@
-use Rattle.std.proofs.Common.{◌≡◌, ◌≢◌, ℕ, ◌<◌, ◌⊎◌, inl, inr, Bool, false, List, [], length, drop, ◌∙◌, ap, sym, refl, Some, arith, length-drop}
-use Rattle.std.{proofs.lemmas.Bool.{eqb-true, false≢true, true≢false}, specs.Bool.IsTrue}
+use Rattle.std.proofs.Common.{◌≡◌, ℕ, ◌<◌, ◌⊎◌, inl, inr, Bool, false, List, [], length, drop, ◌∙◌, ap, sym, refl, Some, arith, length-drop}
+use Rattle.std.{proofs.lemmas.Bool.true≢false, specs.Bool.IsTrue}
 use Rattle.lert_spec.specs.declared.piece.Piece.{Piece}
-use Rattle.lert_frames.{specs.Decoded.work_of, specs.declared.reader.Sum.Sum, specs.declared.reader.Sum.TheVariants.{Left, Over}, proofs.AdvanceLaws.left_unsummed}
+use Rattle.lert_frames.{specs.Decoded.work_of, proofs.AdvanceLaws.left_unsummed}
 use Rattle.lert_frames.proofs.FaultLaws.{not_err, not_failed}
 use Rattle.lert_frames.proofs.reader.FrameReader.judge.Goals as goal
 
--- the test told so of the sum
-whole : (c : goal.Then-eq) (sum : Sum) → c.args.self.now.sum ≡ sum → sum ≡ Left 0
-whole c (Left n) is = ap Left (eqb-true n 0 (sym (rw (c.if-eq.true, is) at c.eq.ensures)))
-whole c Over is = absurd (true≢false (rw (c.if-eq.true, is) at c.eq.ensures))
-
-pub returns-then-eq-clause-over : goal.returns-then-eq-clause-over
-returns-then-eq-clause-over c none = record {
+pub returns-then-is_reached-clause-over : goal.returns-then-is_reached-clause-over
+returns-then-is_reached-clause-over c none = record {
   fault = c.requires.fault;
-  sum = whole c c.args.self.now.sum refl;
+  sum = c.is_reached.ensures.yes c.if-is_reached.true;
   found = c.is_done.ensures.done c.if-not-is_done.false;
   end = c.is_done.ensures.end c.if-not-is_done.false;
 }
 
--- ---- where the counts are others
-
-missing : (c : goal.After-self-1) → c.args.self.now.sum ≢ Left 0
-missing c is = false≢true (rw (c.if-eq.false, is) at c.eq.ensures)
+-- ---- where the counts don't reach the width
 
 pub returns-clause-to_come : goal.returns-clause-to_come
 returns-clause-to_come c file =
     let self = c.args.self.now in
-    let left = left_unsummed self.sum self.place _ self.fault c.requires.fault (missing c) (c.is_done.ensures.done c.if-not-is_done.false file) in
+    let left = left_unsummed self.version self.sum self.place _ self.fault c.requires.fault (c.is_reached.ensures.no c.if-is_reached.false) (c.is_done.ensures.done c.if-not-is_done.false file) in
     record { left = sym left; pieces = λ whole. absurd (let wrong = sym left ∙ whole in cc) }
 
 pub returns-clause-malformed : goal.returns-clause-malformed
 returns-clause-malformed c file at is =
     let self = c.args.self.now in
-    left_unsummed self.sum self.place _ self.fault c.requires.fault (missing c) (c.is_done.ensures.done c.if-not-is_done.false file) ∙ ap Some (let same : self.place ≡ at = cc in same)
+    left_unsummed self.version self.sum self.place _ self.fault c.requires.fault (c.is_reached.ensures.no c.if-is_reached.false) (c.is_done.ensures.done c.if-not-is_done.false file)
+    ∙ ap Some (let same : self.place ≡ at = cc in same)
 
 -- ---- where the decoder isn't done, enough are ready
 
@@ -45,7 +38,7 @@ pub returns-then-not-is_done : goal.returns-then-not-is_done
 returns-then-not-is_done c =
     let r = c.args.self.now in
     record {
-      frame = record { settings = refl; level = refl; place = refl; wide = refl; gave = refl };
+      frame = record { settings = refl; version = refl; level = refl; place = refl; wide = refl; gave = refl };
       to_come = λ file. record { left = refl; pieces = λ _. refl };
       malformed = λ file at is. absurd (not_err _ _ is);
       failed = λ is. not_err _ _ is;

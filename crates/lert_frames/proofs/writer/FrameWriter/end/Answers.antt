@@ -21,6 +21,7 @@ returns-in_err-reach g c =
     rw p.1 (record {
       stands = tt;
       settings = one.same.settings;
+      version = one.same.version;
       level = one.same.level;
       frame = one.same.frame;
       within = writes.within;
@@ -37,6 +38,7 @@ returns g c =
           let mid = told_then one.proceeds.writes.within told in
           holds_same c.args.self.now c.reach.new.self (later FRAMES) one.proceeds.same (ends mid.0 mid.1 later told_later (one.stays seen told mid.0 mid.1 writing.at)));
       settings = both.same.settings;
+      version = both.same.version;
       level = both.same.level;
       frame = both.same.frame;
       within = (frame_writes both).within;

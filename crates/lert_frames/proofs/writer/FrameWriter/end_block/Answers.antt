@@ -18,7 +18,7 @@ pub returns-in-Err-clause-proceeds : goal.returns-in-Err-clause-proceeds
 returns-in-Err-clause-proceeds g c =
     let w = c.args.self.now in
     record {
-      same = record { settings = refl; level = refl; frame = refl; width = refl; place = refl; put = refl; left = refl };
+      same = record { settings = refl; version = refl; level = refl; frame = refl; width = refl; place = refl; put = refl; left = refl };
       writes = writes_as (λ _. refl) (c.in-Err.ensures.writes w.place (end_of w) (first_within w.growing w.holding) (last_within w.growing w.holding));
     }
 
@@ -32,7 +32,7 @@ pub returns-clause-proceeds : goal.returns-clause-proceeds
 returns-clause-proceeds g c =
     let w = c.args.self.now in
     record {
-      same = record { settings = refl; level = refl; frame = refl; width = refl; place = refl; put = refl; left = refl };
+      same = record { settings = refl; version = refl; level = refl; frame = refl; width = refl; place = refl; put = refl; left = refl };
       writes = writes_as (λ never. never) (c.in_default.ensures.writes w.place (end_of w) (first_within w.growing w.holding) (last_within w.growing w.holding));
     }
 

@@ -18,7 +18,7 @@ pub returns-in-Err-clause-proceeds : goal.returns-in-Err-clause-proceeds
 returns-in-Err-clause-proceeds g c =
     let w = c.args.self.now in
     record {
-      same = record { settings = refl; level = refl; frame = refl; width = refl; place = refl; put = refl; left = refl };
+      same = record { settings = refl; version = refl; level = refl; frame = refl; width = refl; place = refl; put = refl; left = refl };
       writes = writes_as (λ _. refl)
           (c.in-Err.ensures.writes w.place (end_of w) (first_within w.growing w.holding) (last_within w.growing w.holding) (closed_within w.growing w.holding));
     }
@@ -35,12 +35,12 @@ returns g c =
     record {
       proceeds =
           record {
-            same = record { settings = refl; level = refl; frame = refl; width = refl; place = refl; put = refl; left = refl };
+            same = record { settings = refl; version = refl; level = refl; frame = refl; width = refl; place = refl; put = refl; left = refl };
             writes = writes_as (λ never. never)
                 (c.in_default.ensures.writes w.place (end_of w) (first_within w.growing w.holding) (last_within w.growing w.holding) (closed_within w.growing w.holding));
           };
       stands = λ seen told later told_later at.
-          holds_frame w.settings w.level w.frame w.width w.place w.number w.put (later FRAMES) w.growing.width_is w.growing.place_is c.requires
+          holds_frame w.settings w.version w.level w.frame w.width w.place w.number w.put (later FRAMES) w.growing.width_is w.growing.place_is c.requires
           (c.in_default.ensures.there seen told later told_later w.place w.width w.number _ (blocks_text w.width 0 w.number w.put) (pieces_in w.width w.number w.put)
           (in_block-ascend w.width w.number 0 _ w.put at.passed) at.stands);
     }

@@ -3,7 +3,7 @@ use Rattle.std.{proofs.Common.{◌≡◌, ℕ, ◌+◌, ◌*◌, ◌^◌, ◌<�
 use Rattle.std.proofs.lemmas.Result.{err_from_is_err_and}
 use Rattle.lert_bay.specs.declared.bay.TheConstants.{FRAMES}
 use Rattle.lert_blocks.specs.Text.{blocks_text, pieces_in}
-use Rattle.lert_frames.{specs.declared.writer.FrameWriter.FrameWriter, specs.Outlet.next_place, specs.Spilt.{Reaches, block_bytes}, specs.Writing.end_of}
+use Rattle.lert_frames.{specs.declared.writer.FrameWriter.FrameWriter, specs.Outlet.next_place, specs.Place.slots_each, specs.Spilt.{Reaches, block_bytes}, specs.Writing.end_of}
 use Rattle.lert_frames.{proofs.GrowingLaws.{growing_flushed, growing_long, long_fits}, proofs.ProceedLaws.{proceeds_none, stays_none}, proofs.WritingLaws.behind_long}
 use Rattle.lert_frames.proofs.writer.FrameWriter.long_block.Goals as goal
 
@@ -11,7 +11,8 @@ pub returns-in-Some : goal.returns-in-Some
 returns-in-Some g c =
     let w = c.args.self.now in
     record {
-      proceeds = proceeds_none (seen_by g.B.Faulty g.B.Bay) g.met.B.Bay.only_now (record { settings = refl; level = refl; frame = refl; width = refl; place = refl; put = refl; left = refl })
+      proceeds = proceeds_none (seen_by g.B.Faulty g.B.Bay) g.met.B.Bay.only_now
+          (record { settings = refl; version = refl; level = refl; frame = refl; width = refl; place = refl; put = refl; left = refl })
           (λ e. absurd (false≢true e));
       stays = stays_none (seen_by g.B.Faulty g.B.Bay) w c.args.bay.now;
       number = refl;
@@ -36,9 +37,10 @@ begin_long-long-requires g c =
     let w = c.args.self.now in
     let b = w.block in
     let counted : length c.slots.result.now ≡ b.len = ap length c.slots.ensures ∙ length-take-le b.len b.slots.items (omega (arith, b.sized.0, b.sized.2)) in
-    let fits : next_place c.flush.new.self + block_bytes (length c.slots.result.now + 2 * w.left) ≤ end_of w =
-    omega (arith, long_fits w.growing w.holding c.in_default.is, c.in_ok-flush.ensures.place, counted) in
-    long_reach (next_place c.flush.new.self) (block_bytes (length c.slots.result.now + 2 * w.left)) w fits
+    let reserve = ap (λ each. each * w.left) c.slots_each-each.ensures.value in
+    let fits : next_place c.flush.new.self + block_bytes (length c.slots.result.now + c.slots_each-each.result * w.left) ≤ end_of w =
+    omega (arith, long_fits w.growing w.holding c.in_default.is, c.in_ok-flush.ensures.place, counted, reserve) in
+    long_reach (next_place c.flush.new.self) (block_bytes (length c.slots.result.now + c.slots_each-each.result * w.left)) w fits
 
 pub returns-in_err-flush : goal.returns-in_err-flush
 returns-in_err-flush g c =
@@ -47,7 +49,7 @@ returns-in_err-flush g c =
     let flushed = c.in_err-flush.ensures in
     rw p.1 (record {
       proceeds = record {
-        same = record { settings = refl; level = refl; frame = refl; width = refl; place = refl; put = refl; left = refl };
+        same = record { settings = refl; version = refl; level = refl; frame = refl; width = refl; place = refl; put = refl; left = refl };
         writes = record { within = flushed.within w.place (end_of w) (w.holding.short c.in_default.is).at (flush_end w c.in_default.is); kept = flushed.kept };
       };
       stays = tt;
@@ -63,9 +65,10 @@ invariant_of-self-2-clause-holding g c =
     let flushed = c.in_ok-flush.ensures in
     let begun = c.begin_long-long.ensures in
     let counted : length c.slots.result.now ≡ b.len = ap length c.slots.ensures ∙ length-take-le b.len b.slots.items (omega (arith, b.sized.0, b.sized.2)) in
-    let most : length c.slots.result.now + 2 * w.left ≡ b.len + 2 * w.left = omega (arith, counted) in
-    let fits : next_place c.flush.new.self + block_bytes (length c.slots.result.now + 2 * w.left) ≤ end_of w =
-    omega (arith, long_fits w.growing w.holding c.in_default.is, flushed.place, counted) in
+    let reserve = ap (λ each. each * w.left) c.slots_each-each.ensures.value in
+    let most : length c.slots.result.now + c.slots_each-each.result * w.left ≡ b.len + slots_each w.version * w.left = omega (arith, counted, reserve) in
+    let fits : next_place c.flush.new.self + block_bytes (length c.slots.result.now + c.slots_each-each.result * w.left) ≤ end_of w =
+    omega (arith, long_fits w.growing w.holding c.in_default.is, flushed.place, counted, reserve) in
     growing_long w.growing w.holding c.begin_long-long.new.outlet c.begin_long-long.new.ends c.begin_long-long.result c.in_default.is c.requires
     (begun.size ∙ (flushed.size ∙ w.holding.size)) (begun.ends_size ∙ w.holding.ends_size) (begun.begin ∙ flushed.place) begun.words
     (subst (λ n. Reaches c.begin_long-long.result n (end_of w) c.begin_long-long.new.ends c.begin_long-long.new.outlet) most (begun.reach (end_of w) fits))
@@ -84,7 +87,7 @@ returns g c =
       long = refl;
       proceeds =
           record {
-            same = record { settings = refl; level = refl; frame = refl; width = refl; place = refl; put = refl; left = refl };
+            same = record { settings = refl; version = refl; level = refl; frame = refl; width = refl; place = refl; put = refl; left = refl };
             writes = record {
               within = c.in_ok-flush.ensures.within w.place (end_of w) short.at (omega (arith, long_fits w.growing w.holding c.in_default.is));
               kept = c.in_ok-flush.ensures.kept;

@@ -7,7 +7,7 @@ pub returns-then-has_room-clause-proceeds : goal.returns-then-has_room-clause-pr
 returns-then-has_room-clause-proceeds g c =
     let w = c.args.self.now in
     proceeds_none (seen_by g.B.Faulty g.B.Bay) g.met.B.Bay.only_now
-    (record { settings = refl; level = refl; frame = refl; width = refl; place = refl; put = refl; left = refl }) (λ e. absurd (false≢true e))
+    (record { settings = refl; version = refl; level = refl; frame = refl; width = refl; place = refl; put = refl; left = refl }) (λ e. absurd (false≢true e))
 
 pub returns-then-has_room-clause-stays : goal.returns-then-has_room-clause-stays
 returns-then-has_room-clause-stays g c = stays_none (seen_by g.B.Faulty g.B.Bay) c.args.self.now c.args.bay.now

@@ -4,17 +4,17 @@ use Rattle.lert_frames.proofs.writer.FrameWriter.new.Goals as goal
 pub returns-in_err-outlet : goal.returns-in_err-outlet
 returns-in_err-outlet c =
     let p = err_from_is_err_and c.from_residual.result c.from_residual.ensures.1 in
-    rw p.1 (record { writing = tt; put = tt; frame = tt; settings = tt; level = tt })
+    rw p.1 (record { writing = tt; put = tt; frame = tt; settings = tt; version = tt; level = tt })
 
 pub returns-in_err-ends : goal.returns-in_err-ends
 returns-in_err-ends c =
     let p = err_from_is_err_and c.from_residual-in_err-ends.result c.from_residual-in_err-ends.ensures.1 in
-    rw p.1 (record { writing = tt; put = tt; frame = tt; settings = tt; level = tt })
+    rw p.1 (record { writing = tt; put = tt; frame = tt; settings = tt; version = tt; level = tt })
 
 pub returns-in_err-block : goal.returns-in_err-block
 returns-in_err-block c =
     let p = err_from_is_err_and c.from_residual-in_err-block.result c.from_residual-in_err-block.ensures.1 in
-    rw p.1 (record { writing = tt; put = tt; frame = tt; settings = tt; level = tt })
+    rw p.1 (record { writing = tt; put = tt; frame = tt; settings = tt; version = tt; level = tt })
 
 pub of-writer-requires-clause-size : goal.of-writer-requires-clause-size
 of-writer-requires-clause-size c = c.in_ok-outlet.ensures.0

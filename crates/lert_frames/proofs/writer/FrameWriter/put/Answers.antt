@@ -2,7 +2,7 @@ use Rattle.std.{proofs.Common.{◌≡◌, ◌/◌, ◌∷◌, ◌++◌, ◌∙�
 use Rattle.lert_bay.specs.declared.bay.TheConstants.{FRAMES}
 use Rattle.lert_blocks.specs.Text.{quotient_of}
 use Rattle.lert_frames.{specs.Place.tail_limit, proofs.ProceedLaws.{frame_writes, frame_outside, proceeds_as}, proofs.WritingLaws.last_piece}
-use Rattle.lert_spec.{specs.declared.numbers.Numbers.Numbers, specs.declared.piece.Piece.Piece, specs.Edges.span, specs.Table.{AreGiven, total}}
+use Rattle.lert_spec.{specs.declared.numbers.Numbers.Numbers, specs.declared.piece.Piece.Piece, specs.Edges.span, specs.Table.{AreGiven, costs}}
 use Rattle.lert_frames.proofs.writer.FrameWriter.put.Goals as goal
 
 pub ready-requires : goal.ready-requires
@@ -13,7 +13,8 @@ take-requires g c =
     let w = c.args.self.now in
     let m = c.ready.new.self in
     let same = c.in_ok-ready.ensures.proceeds.same in
-    let sum = ap (λ (ps : List Piece). total (ps ++ c.args.piece ∷ [])) same.put in
+    let sum : costs m.version (m.put ++ c.args.piece ∷ []) ≡ costs w.version (w.put ++ c.args.piece ∷ []) =
+    λ i. costs (same.version i) (same.put i ++ c.args.piece ∷ []) in
     let wide : span m.settings m.level ≡ span w.settings w.level = λ i. span (same.settings i) (same.level i) in
     record {
       given = subst (λ (ps : List Piece). AreGiven (tail_limit m.settings) (ps ++ c.args.piece ∷ [])) (sym same.put)
@@ -32,6 +33,7 @@ returns-in_err-ready g c =
       writing = tt;
       failed = one.same.put;
       settings = one.same.settings;
+      version = one.same.version;
       level = one.same.level;
       frame = one.same.frame;
       within = writes.within;
@@ -50,6 +52,7 @@ returns g c =
           (ap (λ k. quotient_of k piece / 64) same.width ∙ sym (one.number (writing.ahead piece c.requires.given.table))) (one.stays seen told later told_later writing.at);
       failed = tt;
       settings = c.take.ensures.settings ∙ same.settings;
+      version = c.take.ensures.version ∙ same.version;
       level = c.take.ensures.level ∙ same.level;
       frame = c.take.ensures.frame ∙ same.frame;
       within = (frame_writes one.proceeds).within;

@@ -20,7 +20,7 @@ loop-self-init g c =
     let w = c.args.self.now in
     record {
       proceeds = proceeds_none (seen_by g.B.Faulty g.B.Bay) g.met.B.Bay.only_now
-          (record { settings = refl; level = refl; frame = refl; width = refl; place = refl; put = refl; left = refl }) (λ never. never);
+          (record { settings = refl; version = refl; level = refl; frame = refl; width = refl; place = refl; put = refl; left = refl }) (λ never. never);
       stays = stays_none (seen_by g.B.Faulty g.B.Bay) w c.args.bay.now;
       from = omega arith;
       upto = omega arith;

@@ -1,7 +1,7 @@
 use Rattle.std.proofs.Common.{◌+◌, ◌*◌, ◌∙◌, ap, refl, arith}
 use Rattle.lert_bay.{specs.declared.bay.TheConstants.FRAMES, specs.Settled.part}
 use Rattle.lert_blocks.specs.Text.{blocks_text, pieces_in}
-use Rattle.lert_frames.{specs.Writing.end_of, proofs.CallLaws.writes_as, proofs.ClosingLaws.before_stays, proofs.GrowingLaws.{growing_room, growing_gone, growing_kept}}
+use Rattle.lert_frames.{specs.Place.slots_each, specs.Writing.end_of, proofs.CallLaws.writes_as, proofs.ClosingLaws.before_stays, proofs.GrowingLaws.{growing_room, growing_gone, growing_kept}}
 use Rattle.lert_frames.{proofs.ProceedLaws.{proceeds_on, stays_on}, proofs.WritingLaws.{behind_some, in_block-ascend}}
 use Rattle.lert_frames.proofs.writer.FrameWriter.spill.Goals as goal
 
@@ -17,7 +17,7 @@ invariant_of-self g c =
     record {
       growing = m.growing;
       holding = growing_kept m.growing m.holding c.let_go.new.outlet c.let_go.new.ends c.let_go.new.block.len long is gone.size gone.ends_size gone.stays
-          (gone.failed (m.block.len + 2 * m.left) (end_of m) (m.holding.spilt long is).reach);
+          (gone.failed (m.block.len + slots_each m.version * m.left) (end_of m) (m.holding.spilt long is).reach);
       given = m.given;
     }
 
@@ -26,7 +26,7 @@ returns-in_err-gone-clause-proceeds g c =
     let m = c.long_block.new.self in
     let spilt = m.holding.spilt c.in_ok-long.long c.in_ok-long.ensures.long in
     proceeds_on g.met.B.Bay.since_earlier c.in_ok-long.ensures.proceeds (record {
-      same = record { settings = refl; level = refl; frame = refl; width = refl; place = refl; put = refl; left = refl };
+      same = record { settings = refl; version = refl; level = refl; frame = refl; width = refl; place = refl; put = refl; left = refl };
       writes = writes_as (λ _. refl)
           (c.in_err-gone.ensures.writes m.place (end_of m) spilt.at (omega (arith, spilt.reach.slots_fit)));
     })
@@ -40,7 +40,7 @@ invariant_of-self-2 g c =
     record {
       growing = m.growing;
       holding = growing_gone m.growing m.holding c.let_go.new.outlet c.let_go.new.ends c.let_go.new.block.len long c.in_ok-gone.gone is gone.size gone.ends_size gone.begin gone.words
-          gone.room.0 gone.less (gone.reach (m.block.len + 2 * m.left) (end_of m) (omega arith) (m.holding.spilt long is).reach);
+          gone.room.0 gone.less (gone.reach (m.block.len + slots_each m.version * m.left) (end_of m) (omega arith) (m.holding.spilt long is).reach);
       given = m.given;
     }
 
@@ -49,7 +49,7 @@ returns-clause-proceeds g c =
     let m = c.long_block.new.self in
     let spilt = m.holding.spilt c.in_ok-long.long c.in_ok-long.ensures.long in
     proceeds_on g.met.B.Bay.since_earlier c.in_ok-long.ensures.proceeds (record {
-      same = record { settings = refl; level = refl; frame = refl; width = refl; place = refl; put = refl; left = refl };
+      same = record { settings = refl; version = refl; level = refl; frame = refl; width = refl; place = refl; put = refl; left = refl };
       writes = c.in_ok-gone.ensures.writes m.place (end_of m) spilt.at (omega (arith, spilt.reach.slots_fit));
     })
 

@@ -1,7 +1,7 @@
-use Rattle.std.proofs.Common.{◌+◌, ◌*◌, ◌%◌, ◌-◌, ◌^◌, ◌∷◌, ◌++◌, List, [], sym, subst, arith}
-use Rattle.lert_blocks.{specs.Text.{blocks_text, pieces_in}, proofs.LengthLaws.group_short}
-use Rattle.lert_frames.{specs.Growing.IsHolding, specs.Place.tail_limit, specs.Spilt.IsBehind, proofs.GrowingLaws.growing_take}
-use Rattle.lert_frames.proofs.WritingLaws.{last_count, total_push, width_from, passed_take, ahead_take, stands_take}
+use Rattle.std.proofs.Common.{◌+◌, ◌*◌, ◌%◌, ◌-◌, ◌^◌, ◌∷◌, ◌++◌, List, [], sym, ap, subst, arith}
+use Rattle.lert_blocks.specs.Text.{blocks_text, pieces_in}
+use Rattle.lert_frames.{specs.Growing.IsHolding, specs.Place.{slots_each, tail_limit}, specs.Spilt.IsBehind, proofs.GrowingLaws.growing_take, proofs.RoomLaws.group_fits}
+use Rattle.lert_frames.proofs.WritingLaws.{last_count, costs_push, width_from, passed_take, ahead_take, stands_take}
 use Rattle.lert_spec.{specs.declared.piece.Piece.Piece, specs.Table.AscendsFrom}
 use Rattle.lert_frames.proofs.writer.FrameWriter.take.Goals as goal
 
@@ -14,8 +14,11 @@ put-requires-clause-wide c = let w = c.args.self.now in (width_from w.settings w
 pub put-requires-clause-count : goal.put-requires-clause-count
 put-requires-clause-count c = last_count (tail_limit c.args.self.now.settings) c.args.self.now.put c.args.piece c.requires.given
 
+pub cost-spent-requires : goal.cost-spent-requires
+cost-spent-requires c = (last_count (tail_limit c.args.self.now.settings) c.args.self.now.put c.args.piece c.requires.given).1
+
 pub overflow_sub-self : goal.overflow_sub-self
-overflow_sub-self c = let w = c.args.self.now in omega (arith, w.holding.left_is, c.requires.fits, total_push w.put c.args.piece)
+overflow_sub-self c = let w = c.args.self.now in omega (arith, w.holding.left_is, c.requires.fits, costs_push w.version w.put c.args.piece, c.cost-spent.ensures)
 
 pub invariant_of-self-clause-holding : goal.invariant_of-self-clause-holding
 invariant_of-self-clause-holding c =
@@ -23,10 +26,13 @@ invariant_of-self-clause-holding c =
     let p = c.args.piece in
     let wide = width_from w.settings w.level w.width w.growing.valid w.growing.last w.growing.width_is in
     let count = last_count (tail_limit w.settings) w.put p c.requires.given in
-    let short = group_short w.width (p.tail % 2 ^ w.width) p.count wide.0 count.0 in
-    subst (λ (ps : List Piece). IsHolding w.settings w.level w.place w.number (w.left - p.count) w.outlet w.ends c.put.new.self.len w.long ps) (sym c.push.ensures)
-    (growing_take w.growing w.holding c.put.new.self.len p.count (w.left - p.count) (w.put ++ p ∷ []) c.put.ensures.more (omega (arith, c.put.ensures.grows, short))
-    (omega (arith, w.holding.left_is, c.requires.fits, total_push w.put p)) (total_push w.put p))
+    let spent = c.cost-spent.ensures in
+    let sum = costs_push w.version w.put p in
+    let few = group_fits w.version w.width (p.tail % 2 ^ w.width) p.count wide.0 count.0 in
+    let reserve = ap (λ n. slots_each w.version * n) spent in
+    subst (λ (ps : List Piece). IsHolding w.settings w.version w.level w.place w.number (w.left - c.cost-spent.result) w.outlet w.ends c.put.new.self.len w.long ps) (sym c.push.ensures)
+    (growing_take w.growing w.holding c.put.new.self.len c.cost-spent.result (w.left - c.cost-spent.result) (w.put ++ p ∷ []) c.put.ensures.more
+    (omega (arith, c.put.ensures.grows, few, reserve)) (omega (arith, w.holding.left_is, c.requires.fits, sum, spent)) (omega (arith, sum, spent)))
 
 pub returns-clause-writing : goal.returns-clause-writing
 returns-clause-writing c file here at =

@@ -1,6 +1,4 @@
-use Rattle.lert_gatelog.proofs.Announcing.{looked_none, looked_shut, looked_cut, looked_wrong_none, looked_wrong_many, looked_open, some_bytes}
-use Rattle.lert_gatelog.proofs.Announcing.{malformed_no_fail, ok_no_fault}
-use Rattle.lert_gatelog.proofs.Looking.{announced}
+use Rattle.lert_gatelog.proofs.{Announcing.{looked_none, looked_shut, looked_cut, looked_wrong_none, looked_wrong_many, looked_open, some_bytes, malformed_no_fail, ok_no_fault}, Looking.announced}
 use Rattle.lert_gatelog.proofs.gate_log.GateLog.announced.Goals as goal
 
 pub returns-then-read-eq0-clause-looked : goal.returns-then-read-eq0-clause-looked

@@ -1,10 +1,8 @@
-use Rattle.std.proofs.Common.{◌+◌, ◌<◌, length, refl, subst, sym}
-use Rattle.std.proofs.lemmas.Result.{err_from_is_err_and}
+use Rattle.std.proofs.{Common.{◌+◌, ◌<◌, length, refl, subst, sym}, lemmas.Result.err_from_is_err_and}
 use Rattle.lert_bay.specs.Kept.{Bays, seen_by}
 use Rattle.lert_bay.proofs.KeptLaws.{IsLawful, keeps_on}
 use Rattle.lert_gatelog.specs.Gated.{Log}
-use Rattle.lert_gatelog.proofs.Appending.{appends_once, appends_on, each_moment, settled_before, others, settled, appended, closed_next}
-use Rattle.lert_gatelog.proofs.Moments.{turns_appended}
+use Rattle.lert_gatelog.proofs.{Appending.{appends_once, appends_on, each_moment, settled_before, others, settled, appended, closed_next}, Moments.turns_appended}
 use Rattle.lert_gatelog.proofs.Seen.{others_seen, others_on, gate_in_reach}
 use Rattle.lert_gatelog.proofs.gate_log.GateLog.append.Given as given
 use Rattle.lert_gatelog.proofs.gate_log.GateLog.append.Goals as goal

@@ -1,10 +1,7 @@
-use Rattle.std.proofs.Common.{ℕ, ◌++◌, [], ◌+◌, length, take, drop, replicate, ap, ◌∙◌, arith}
-use Rattle.std.proofs.lemmas.Result.{err_from_is_err_and}
+use Rattle.std.proofs.{Common.{ℕ, ◌++◌, [], ◌+◌, length, take, drop, replicate, ap, ◌∙◌, arith}, lemmas.Result.err_from_is_err_and}
 use Rattle.lert_bay.proofs.Laid.{zeros_past}
-use Rattle.lert_gatelog.proofs.Looking.{text_alone, header_text, closed_text}
+use Rattle.lert_gatelog.proofs.{Looking.{text_alone, header_text, closed_text}, Appending.{keeps_others, settled}, Seen.{others_seen, short_text}}
 use Rattle.lert_bay.specs.Kept.{Bays, seen_by}
-use Rattle.lert_gatelog.proofs.Appending.{keeps_others, settled}
-use Rattle.lert_gatelog.proofs.Seen.{others_seen, short_text}
 use Rattle.lert_gatelog.proofs.gate_log.GateLog.create.Given as given
 use Rattle.lert_gatelog.proofs.gate_log.GateLog.create.Goals as goal
 

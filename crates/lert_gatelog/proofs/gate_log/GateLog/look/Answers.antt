@@ -1,10 +1,7 @@
-use Rattle.std.proofs.Common.{arith, refl, true}
-use Rattle.std.proofs.lemmas.Result.{err_from_is_err_and}
+use Rattle.std.proofs.{Common.{arith, refl, true}, lemmas.Result.err_from_is_err_and}
 use Rattle.lert_bay.specs.Kept.{Bays, seen_by}
-use Rattle.lert_bay.proofs.HandedLaws.{up_to_same, up_to_room}
-use Rattle.lert_bay.proofs.KeptLaws.{IsLawful}
-use Rattle.lert_gatelog.proofs.Announcing.{failed_no_place}
-use Rattle.lert_gatelog.proofs.Seen.{reads_once}
+use Rattle.lert_bay.proofs.{HandedLaws.{up_to_same, up_to_room}, KeptLaws.IsLawful}
+use Rattle.lert_gatelog.proofs.{Announcing.failed_no_place, Seen.reads_once}
 use Rattle.lert_gatelog.proofs.gate_log.GateLog.look.Given as given
 use Rattle.lert_gatelog.proofs.gate_log.GateLog.look.Goals as goal
 

@@ -1,14 +1,9 @@
-use Rattle.std.proofs.Common.{◌≤◌, subst, ◌≡◌, length, true, Err, refl, sym, ap, ◌∙◌, arith}
-use Rattle.std.proofs.lemmas.List.{take_at, length-take-le}
-use Rattle.std.proofs.lemmas.Result.{err_from_is_err_and}
+use Rattle.std.proofs.{Common.{◌≤◌, subst, ◌≡◌, length, true, Err, refl, sym, ap, ◌∙◌, arith}, lemmas.List.{take_at, length-take-le}, lemmas.Result.err_from_is_err_and}
 use Rattle.std.specs.Prelude.{IsErr}
 use Rattle.lert_bay.specs.Kept.{Bays, seen_by}
-use Rattle.lert_bay.proofs.KeptLaws.{IsLawful, reading_on, reading_as}
-use Rattle.lert_bay.proofs.HandedLaws.{up_to_same, up_to_room}
-use Rattle.lert_gatelog.proofs.Costs.{least_cost, up_to_look}
-use Rattle.lert_gatelog.proofs.Announcing.{failed_no_place, malformed_no_fail, ok_no_fault}
-use Rattle.lert_gatelog.proofs.Seen.{reads_once, behind_payload, at_most, behind_gate, record_small, record_in_reach}
-use Rattle.lert_gatelog.proofs.Looking.{opened, cut_payload}
+use Rattle.lert_bay.proofs.{KeptLaws.{IsLawful, reading_on, reading_as}, HandedLaws.{up_to_same, up_to_room}}
+use Rattle.lert_gatelog.proofs.{Costs.{least_cost, up_to_look}, Announcing.{failed_no_place, malformed_no_fail, ok_no_fault}}
+use Rattle.lert_gatelog.proofs.{Seen.{reads_once, behind_payload, at_most, behind_gate, record_small, record_in_reach}, Looking.{opened, cut_payload}}
 use Rattle.lert_gatelog.proofs.gate_log.GateLog.next.Given as given
 use Rattle.lert_gatelog.proofs.gate_log.GateLog.next.Goals as goal
 

@@ -25,7 +25,7 @@ add_total-requires g c =
       up_so_far was.gathering step,
       omega (
         arith,
-        all_fit g.S.Streams g.S.Bins.width g.met.S.Bins.summed g.met.S.Bins.width_same was.gathering step g.met.S.Streams.same_on c.requires.wide.0 c.requires.wide.1,
+        all_fit g.S.Streams g.S.Bins.version g.S.Bins.width g.met.S.Bins.summed g.met.S.Bins.version_same g.met.S.Bins.width_same was.gathering step g.met.S.Streams.same_on c.requires.wide.0 c.requires.wide.1,
         c.requires.wide.1.all,
       ),
     )
@@ -33,7 +33,7 @@ add_total-requires g c =
 pub loop-next-smaller : goal.loop-next-smaller
 loop-next-smaller g c =
     let step = given_at g.S.Streams g.B.Faulty.faults g.B.Faulty.mark c.loop-next.bay c.loop-next.order c.step.new.ctx c.step.new.self _ _ c.in-Some.is c.in_ok-next.ensures in
-    left_less g.S.Streams g.S.Bins.width g.met.S.Bins.summed g.met.S.Bins.width_same c.loop-next.invariant.gathering step g.met.S.Streams.same_on
+    left_less g.S.Streams g.S.Bins.version g.S.Bins.width g.met.S.Bins.summed g.met.S.Bins.version_same g.met.S.Bins.width_same c.loop-next.invariant.gathering step g.met.S.Streams.same_on
 
 pub loop-next-preserved : goal.loop-next-preserved
 loop-next-preserved g c =
@@ -77,8 +77,8 @@ returns g c =
     record {
       merged = (
         was.lists,
-        taken_all was.gathering g.S.Bins.width c.step.new.ctx c.step.new.self c.end_totals.new.totals
-            (λ k below. came_fits g.S.Streams g.S.Bins.width g.met.S.Bins.summed g.met.S.Bins.width_same c.args.order.now c.loop-next.order k (get_or was.lists k []) was.gathering.kept
+        taken_all was.gathering g.S.Bins.version g.S.Bins.width c.step.new.ctx c.step.new.self c.end_totals.new.totals
+            (λ k below. came_fits g.S.Streams g.S.Bins.version g.S.Bins.width g.met.S.Bins.summed g.met.S.Bins.version_same g.met.S.Bins.width_same c.args.order.now c.loop-next.order k (get_or was.lists k []) was.gathering.kept
             (omega (arith, below, was.gathering.same.streams)) (was.gathering.taken k below))
             (λ left tells. none_at c.in_ok-next.field-0 _ _ c.in_default.is (c.in_ok-next.ensures.told left tells))
             c.end_totals.ensures.took on (c.in_ok-next.ensures.over (ap Ok c.in_default.is)) c.in_ok-next.ensures.whole c.step.ensures.same c.step.ensures.untold,

@@ -14,4 +14,4 @@ invariant-loop-next g l = record {
 
 -- each piece leaves less room
 abbrev pub decreases-loop-next : goal.decreases-loop-next
-decreases-loop-next g l = left_over g.S.Streams g.S.Bins.width l.order
+decreases-loop-next g l = left_over g.S.Streams g.S.Bins.version g.S.Bins.width l.order

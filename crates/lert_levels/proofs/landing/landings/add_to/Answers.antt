@@ -31,9 +31,9 @@ returns g c =
       failed = on_err_from _ _ c.add.result e.failed (λ none. map-set taken xs i new ∙ ap (set (map taken xs) i) none);
       others = others_set xs i l new c.requires.part l_is;
       homes = homes_set xs i l new c.requires.part l_is e.lands.same;
-      landing = λ s are seen told landing later told_later.
-          landing_set xs i l new c.requires.part l_is s are seen later
-          (turns_to (LeavesRest (IsApart l.writer.settings l.writer.level l.frame)) (g.B.Bay.files c.args.bay.now) (g.B.Bay.files c.add.new.bay) seen later e.lands.rest.seen told told_later)
+      landing = λ s version are seen told landing later told_later.
+          landing_set xs i l new c.requires.part l_is s version are seen later
+          (turns_to (LeavesRest (IsApart l.writer.settings l.writer.version l.writer.level l.frame)) (g.B.Bay.files c.args.bay.now) (g.B.Bay.files c.add.new.bay) seen later e.lands.rest.seen told told_later)
           (e.lands.landing seen told (landing i c.index-landings-part.result c.requires.part) later told_later) landing;
       rest = apart_one (bays g) xs i l c.args.bay.now c.add.new.bay c.requires.part l_is e.lands.rest;
       kept = e.lands.kept;

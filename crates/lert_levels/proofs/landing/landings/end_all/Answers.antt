@@ -23,8 +23,8 @@ pub returns : goal.returns
 returns g c =
     let was = c.loop-landing.invariant in
     record {
-      stand = λ s are seen told landing later told_later.
-          ended_all s c.args.landings.now c.loop-landing.landing-index (later FRAMES) (omega (arith, c.loop-landing-test.false, was.len)) (was.stand s are seen told landing later told_later);
+      stand = λ s version are seen told landing later told_later.
+          ended_all s version c.args.landings.now c.loop-landing.landing-index (later FRAMES) (omega (arith, c.loop-landing-test.false, was.len)) (was.stand s version are seen told landing later told_later);
       homes = was.homes;
       rest = was.rest;
       kept = keeps_as (bays g) (lawful g) c.args.bay.now c.loop-landing.bay ⊥ _ (λ failed. false≢true failed) was.kept;

@@ -4,7 +4,7 @@ use Rattle.lert_bay.specs.{declared.bay.TheConstants.FRAMES, Kept.{Bays, seen_by
 use Rattle.lert_bay.proofs.KeptLaws.{IsLawful, keeps_on, keeps_as}
 use Rattle.lert_frames.proofs.{FaultLaws.not_err, WriteLaws.same_err}
 use Rattle.lert_spec.specs.Edges.{capacity, depth}
-use Rattle.lert_levels.specs.{Flushed.InNamed, Merged.IsFrames, OnDisk.OnDisk, rows.Landing.{AreApart, Anywhere}, rows.Rows.{IsAt, moved, tallied_in}}
+use Rattle.lert_levels.specs.{Flushed.InNamed, Merged.IsFrames, OnDisk.{OnDisk, written}, rows.Landing.{AreApart, Anywhere}, rows.Rows.{IsAt, moved, tallied_in}}
 use Rattle.lert_levels.proofs.{rows.LandLaws.{rest_on, rest_fewer}, rows.RowLaws.IsAt-moved, FlushLaws.{made_took, made_taken}, HoldLaws.rows_stand}
 use Rattle.lert_levels.proofs.{ReachLaws.{failed_by, no_break, no_place, reached_first, has_moved, apart}, ArrivalLaws.deep}
 use Rattle.lert_levels.proofs.levels.Levels.flush.Given as given
@@ -22,6 +22,7 @@ pub returns-in_err-merge : goal.returns-in_err-merge
 returns-in_err-merge g c =
     let p = err_from_is_err_and c.from_residual.result c.from_residual.ensures.1 in
     let s = c.args.self.now.settings in
+    let version = written in
     let m = c.args.m in
     let rows = c.args.self.now.rows in
     let first = c.requires.first in
@@ -30,20 +31,20 @@ returns-in_err-merge g c =
     let e = c.in_err-merge.ensures in
     let reached = take (depth s m) rows in
     let deepest = deep s e.valid m first last rows at_m in
-    let are = reached_first s e.valid m first last rows at_m e.rows in
+    let are = reached_first s version e.valid m first last rows at_m e.rows in
     rw (p.1, p.2) (record {
       ok = tt;
       at = tt;
       refused = e.same;
       told = λ seen told events of.
-          (let stand = rows_stand s events (m - 1) rows (seen FRAMES) at_m e.rows (omega (arith, of.len)) of.held (depth s m) deepest in
-          failed_by _ (λ at is. no_break s e.valid reached (seen FRAMES) (tallied_in s events) at are stand (e.malformed seen told at (ap Err is))));
+          (let stand = rows_stand s version events (m - 1) rows (seen FRAMES) at_m e.rows (omega (arith, of.len)) of.held (depth s m) deepest in
+          failed_by _ (λ at is. no_break s version e.valid reached (seen FRAMES) (tallied_in s events) at are stand (e.malformed seen told at (ap Err is))));
       took = tt;
       durable = tt;
-      rest = rest_fewer (bays g) (AreApart s m reached) (InNamed s rows) c.args.bay.now c.merge.new.bay (apart s e.valid m first last rows at_m e.rows) e.rest;
+      rest = rest_fewer (bays g) (AreApart s version m reached) (InNamed s version rows) c.args.bay.now c.merge.new.bay (apart s version e.valid m first last rows at_m e.rows) e.rest;
       whole = λ seen told. tt;
       sound = λ seen told hold stand.
-          failed_by _ (λ at is. no_break s e.valid reached (seen FRAMES) hold at are stand (e.malformed seen told at (ap Err is)));
+          failed_by _ (λ at is. no_break s version e.valid reached (seen FRAMES) hold at are stand (e.malformed seen told at (ap Err is)));
       malformed = λ seen told at is. e.malformed seen told at (same_err _ _ is);
       malformed_after = λ seen told at is. e.malformed_after seen told at (same_err _ _ is);
       kept = keeps_as (bays g) (lawful g) c.args.bay.now c.merge.new.bay _ _ (λ is. same_err _ _ is) e.kept;
@@ -56,6 +57,7 @@ returns-in_err-sync_frames g c =
     let r = c.from_residual-in_err-sync_frames in
     let p = err_from_is_err_and r.result r.ensures.1 in
     let s = c.args.self.now.settings in
+    let version = written in
     let m = c.args.m in
     let rows = c.args.self.now.rows in
     let one = c.in_ok-merge.ensures in
@@ -67,10 +69,10 @@ returns-in_err-sync_frames g c =
       told = λ seen told events of. rw p.1 p.2;
       took = rw p.1 tt;
       durable = rw p.1 tt;
-      rest = rest_on (bays g) (lawful g) (InNamed s rows) c.args.bay.now c.merge.new.bay c.sync_frames.new.bay _ _ one.kept two.kept
-          (rest_fewer (bays g) (AreApart s m (take (depth s m) rows)) (InNamed s rows) c.args.bay.now c.merge.new.bay
-          (apart s one.valid m c.requires.first c.requires.last rows c.requires.at one.rows) one.rest)
-          (rest_fewer (bays g) Anywhere (InNamed s rows) c.merge.new.bay c.sync_frames.new.bay (λ from to inside. tt) two.rest);
+      rest = rest_on (bays g) (lawful g) (InNamed s version rows) c.args.bay.now c.merge.new.bay c.sync_frames.new.bay _ _ one.kept two.kept
+          (rest_fewer (bays g) (AreApart s version m (take (depth s m) rows)) (InNamed s version rows) c.args.bay.now c.merge.new.bay
+          (apart s version one.valid m c.requires.first c.requires.last rows c.requires.at one.rows) one.rest)
+          (rest_fewer (bays g) Anywhere (InNamed s version rows) c.merge.new.bay c.sync_frames.new.bay (λ from to inside. tt) two.rest);
       whole = λ seen told. rw p.1 tt;
       sound = λ seen told hold stand. rw p.1 p.2;
       malformed = λ seen told at is. absurd (no_place r.result r.ensures.1 at is);
@@ -84,6 +86,7 @@ returns-in_err-sync_frames g c =
 pub returns : goal.returns
 returns g c =
     let s = c.args.self.now.settings in
+    let version = written in
     let m = c.args.m in
     let rows = c.args.self.now.rows in
     let first = c.requires.first in
@@ -108,10 +111,10 @@ returns g c =
       );
       took = made_took s one.valid m first last rows at_m young took (IsFrames before) has.made has.is;
       durable = two.durable;
-      rest = rest_on (bays g) (lawful g) (InNamed s rows) c.args.bay.now c.merge.new.bay c.sync_frames.new.bay _ _ one.kept two.kept
-          (rest_fewer (bays g) (AreApart s m (take (depth s m) rows)) (InNamed s rows) c.args.bay.now c.merge.new.bay
-          (apart s one.valid m first last rows at_m one.rows) one.rest)
-          (rest_fewer (bays g) Anywhere (InNamed s rows) c.merge.new.bay c.sync_frames.new.bay (λ from to inside. tt) two.rest);
+      rest = rest_on (bays g) (lawful g) (InNamed s version rows) c.args.bay.now c.merge.new.bay c.sync_frames.new.bay _ _ one.kept two.kept
+          (rest_fewer (bays g) (AreApart s version m (take (depth s m) rows)) (InNamed s version rows) c.args.bay.now c.merge.new.bay
+          (apart s version one.valid m first last rows at_m one.rows) one.rest)
+          (rest_fewer (bays g) Anywhere (InNamed s version rows) c.merge.new.bay c.sync_frames.new.bay (λ from to inside. tt) two.rest);
       whole = λ seen told. has.is.whole (seen FRAMES) (record { seen = seen; told = told; is = refl });
       sound = λ seen told hold stand. tt;
       malformed = λ seen told at is. absurd (not_err _ _ is);

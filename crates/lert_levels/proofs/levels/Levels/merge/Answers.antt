@@ -1,8 +1,8 @@
-use Rattle.std.proofs.{Common.{◌≡◌, ◌+◌, ◌*◌, ◌-◌, ◌≤◌, ◌∙◌, ◌++◌, List, take, drop, length, ap, sym, subst, arith}, lemmas.List.{length-take, length-take-le}}
+use Rattle.std.proofs.{Common.{ℕ, ◌≡◌, ◌+◌, ◌*◌, ◌-◌, ◌≤◌, ◌∙◌, ◌++◌, List, take, drop, length, ap, sym, subst, arith}, lemmas.List.{length-take, length-take-le}}
 use Rattle.std.specs.{Prelude.{OnOk, vec_capacity}, List.All}
 use Rattle.lert_bay.specs.{declared.bay.TheConstants.FRAMES, Kept.{Bays, seen_by}}
-use Rattle.lert_levels.specs.{landing.Landings.AreLandings, declared.landing.landing.Landing.Landing, declared.rows.bin_at.BinAt.BinAt, rows.Landing.{AreApart, KeepsRest}, rows.Loading.OneBreaks}
-use Rattle.lert_levels.specs.{rows.Rows.AreRows, OnDisk.OnDisk, Ready.{AreReached, HasMade}}
+use Rattle.lert_levels.specs.{landing.Landings.AreOfLevels, declared.landing.landing.Landing.Landing, declared.rows.bin_at.BinAt.BinAt, rows.Landing.{AreApart, KeepsRest}, rows.Loading.OneBreaks}
+use Rattle.lert_levels.specs.{rows.Rows.AreRows, OnDisk.{OnDisk, written}, Ready.{AreReached, HasMade}}
 use Rattle.lert_levels.proofs.{rows.MoveLaws.written_back, ReachLaws.{held, turned, reached_are, young_some}}
 use Rattle.lert_spec.specs.{Edges.{capacity, depth, span}, Bins.Bin, Limits.IsValid, declared.numbers.Numbers.Numbers}
 use Rattle.lert_levels.proofs.levels.Levels.merge.Given as given
@@ -43,6 +43,7 @@ pub merge_rows-reading-requires : goal.merge_rows-reading-requires
 merge_rows-reading-requires g c =
     let at = (goal.at.merge_rows-reading-requires g c).After-depth-depth in
     let s = c.args.self.now.settings in
+    let version = written in
     let t = c.args.zero.now.settings in
     let m = c.args.m in
     let rows = c.args.self.now.rows in
@@ -55,9 +56,11 @@ merge_rows-reading-requires g c =
     let narrow = subst (λ (n : Numbers). All (λ (bin : Bin). bin.to - bin.from ≤ span n 0) young) c.requires.same c.tables-tables.ensures.narrow in
     record {
       same = reading.0 ∙ same;
+      version = (omega arith, omega arith);
+      light = c.tables-tables.ensures.light written;
       ahead = subst (λ (n : Numbers). (n.levels + 1) * n.bins ≤ c.in-Some.reading.ahead.room) same reading.1;
-      landings = subst (AreLandings t) (sym c.deref_mut.ensures.value)
-          (subst (λ (n : Numbers). AreLandings n c.self.inside.writing.landings.items) same c.self.invariant.2.of_levels);
+      landings = subst (AreOfLevels t) (sym c.deref_mut.ensures.value)
+          (subst (λ (n : Numbers). AreOfLevels n c.self.inside.writing.landings.items) same c.self.invariant.2.of_levels);
       enough = omega (
         arith,
         length-take c.depth-depth.result c.deref.result.now,
@@ -68,9 +71,9 @@ merge_rows-reading-requires g c =
       parts = subst (λ (n : Numbers). (n.levels + 1) * n.bins ≤ vec_capacity c.self.inside.writing.parts) same c.self.invariant.2.room;
       first = c.requires.first;
       last = subst (λ (n : Numbers). m ≤ capacity n) (sym c.requires.same) c.requires.last;
-      reached = subst (AreReached t m young) (sym (lent_is g at c.deref.result.now c.deref.ensures.value))
-          (subst (λ (n : Numbers). AreReached n m young (take (depth s m) rows)) (sym c.requires.same)
-          (reached_are s valid m c.requires.first c.requires.last rows c.requires.at are young some narrow));
+      reached = subst (AreReached t written m young) (sym (lent_is g at c.deref.result.now c.deref.ensures.value))
+          (subst (λ (n : Numbers). AreReached n version m young (take (depth s m) rows)) (sym c.requires.same)
+          (reached_are s version valid m c.requires.first c.requires.last rows c.requires.at are young some narrow));
       none_taken = c.requires.none_taken;
     }
 
@@ -88,7 +91,7 @@ invariant_of-self g c =
       c.self.invariant.0,
       (e.room ∙ settings_is, omega (arith, e.ahead, before.1)),
       record {
-        of_levels = subst (AreLandings inside) (sym back) (subst (λ (t : Numbers). AreLandings t new) settings_is e.landings);
+        of_levels = subst (AreOfLevels inside) (sym back) (subst (λ (t : Numbers). AreOfLevels t new) settings_is e.landings);
         count = ap (length {A = Landing}) back ∙ count ∙ c.self.invariant.2.count;
         room = omega (arith, c.self.invariant.2.room, e.parts);
       },
@@ -104,17 +107,18 @@ returns g c =
     let took = g.O.Totals.took c.merge_rows-reading.new.totals in
     let before = g.B.Bay.files c.args.bay.now in
     let after = g.B.Bay.files c.merge_rows-reading.new.bay in
-    let said : (P : Numbers → List (List BinAt) → Type 0) → P c.args.zero.now.settings (take c.depth-depth.result c.deref.result.now) →
-    P c.args.self.now.settings (take (depth c.args.self.now.settings m) c.args.self.now.rows) =
-    λ P is. turned P c.args.self.now.settings c.args.zero.now.settings _ _ c.requires.same (lent_is g at c.deref.result.now c.deref.ensures.value) is in
+    let said : (P : Numbers → ℕ → List (List BinAt) → Type 0) → P c.args.zero.now.settings written (take c.depth-depth.result c.deref.result.now) →
+    P c.args.self.now.settings written (take (depth c.args.self.now.settings m) c.args.self.now.rows) =
+    λ P is. turned (λ n rs. P n written rs) c.args.self.now.settings c.args.zero.now.settings _ _ c.requires.same (lent_is g at c.deref.result.now c.deref.ensures.value)
+    is in
     let e = c.merge_rows-reading.ensures in
     record {
       same = c.self.view_is;
       valid = subst IsValid (c.numbers-valid.ensures.value ∙ ap (λ (v : OnDisk). v.settings) c.self.view_is) c.numbers-valid.ensures.valid;
       rows = subst (λ (v : OnDisk). AreRows v.settings v.rows) c.self.view_is c.self.invariant.0.are;
-      made = said (λ n rs. OnOk c.merge_rows-reading.result.1 (HasMade n m young rs took before after)) e.made;
-      malformed = λ seen told at is. said (λ n rs. OneBreaks n rs (seen FRAMES) at) (e.malformed seen told at is);
-      malformed_after = λ seen told at is. said (λ n rs. OneBreaks n rs (seen FRAMES) at) (e.malformed_after seen told at is);
-      rest = said (λ n rs. KeepsRest (bays g) (AreApart n m rs) c.args.bay.now c.merge_rows-reading.new.bay) e.rest;
+      made = said (λ n v rs. OnOk c.merge_rows-reading.result.1 (HasMade n v m young rs took before after)) e.made;
+      malformed = λ seen told at is. said (λ n v rs. OneBreaks n v rs (seen FRAMES) at) (e.malformed seen told at is);
+      malformed_after = λ seen told at is. said (λ n v rs. OneBreaks n v rs (seen FRAMES) at) (e.malformed_after seen told at is);
+      rest = said (λ n v rs. KeepsRest (bays g) (AreApart n v m rs) c.args.bay.now c.merge_rows-reading.new.bay) e.rest;
       kept = e.kept;
     }

@@ -16,15 +16,15 @@ returns g c =
     let e = c.check.ensures in
     record {
       stand = λ seen told.
-          checked_stands c.check.result s level bin frame (seen FRAMES) c.from-frame.ensures
-          (level_from (λ t l. OnOk c.check.result (IsBin (tail_limit t) (width_of bin) (frame_pieces t l frame (seen FRAMES)))) s _ level _ begun.settings begun.level (e.bin seen told))
-          (level_from (λ t l. OnOk c.check.result (HoldsFrame t l frame (seen FRAMES) (frame_pieces t l frame (seen FRAMES)))) s _ level _ begun.settings begun.level (e.stands seen told));
+          checked_stands c.check.result s c.args.version level bin frame (seen FRAMES) c.from-frame.ensures
+          (level_from (λ t l. OnOk c.check.result (IsBin c.args.version (tail_limit t) (width_of bin) (frame_pieces t c.args.version l frame (seen FRAMES)))) s _ level _ begun.settings begun.level (e.bin seen told))
+          (level_from (λ t l. OnOk c.check.result (HoldsFrame t c.args.version l frame (seen FRAMES) (frame_pieces t c.args.version l frame (seen FRAMES)))) s _ level _ begun.settings begun.level (e.stands seen told));
       whole = λ seen told.
-          subst (λ (frame : ℕ). OnOk c.check.result (frame_left s level frame (width_of bin) (seen FRAMES) ≡ None)) c.from-frame.ensures
-          (level_from (λ t l. OnOk c.check.result (frame_left t l frame (width_of bin) (seen FRAMES) ≡ None)) s _ level _ begun.settings begun.level (e.whole seen told));
+          subst (λ (frame : ℕ). OnOk c.check.result (frame_left s c.args.version level frame (width_of bin) (seen FRAMES) ≡ None)) c.from-frame.ensures
+          (level_from (λ t l. OnOk c.check.result (frame_left t c.args.version l frame (width_of bin) (seen FRAMES) ≡ None)) s _ level _ begun.settings begun.level (e.whole seen told));
       malformed = λ seen told at is.
-          subst (λ (frame : ℕ). frame_left s level frame (width_of bin) (seen FRAMES) ≡ Some at) c.from-frame.ensures
-          (level_from (λ t l. frame_left t l frame (width_of bin) (seen FRAMES) ≡ Some at) s _ level _ begun.settings begun.level (e.malformed seen told at is));
+          subst (λ (frame : ℕ). frame_left s c.args.version level frame (width_of bin) (seen FRAMES) ≡ Some at) c.from-frame.ensures
+          (level_from (λ t l. frame_left t c.args.version l frame (width_of bin) (seen FRAMES) ≡ Some at) s _ level _ begun.settings begun.level (e.malformed seen told at is));
       settings = e.settings ∙ begun.settings;
       only_reads = e.only_reads;
     }
@@ -36,6 +36,7 @@ overflow_sub-width g c = omega (arith, c.requires.some)
 
 pub check-requires : goal.check-requires
 check-requires g c = rw (c.start_at.ensures.settings, c.start_at.ensures.level) (record {
+  version = c.requires.version;
   frame = omega (arith, c.from-frame.ensures, c.requires.frame);
   some = omega (arith, c.requires.some);
   width = c.requires.width;

@@ -20,6 +20,7 @@ check_bin-requires g c =
     let i = c.loop-bin.bin-index in
     let row = c.requires.row in
     rw c.loop-bin.invariant.settings (record {
+      version = c.requires.version;
       first = c.requires.first;
       last = c.requires.last;
       frame = row.frames i no_bin c.loop-bin-test.true;
@@ -46,11 +47,11 @@ loop-bin-preserved g c =
     let bin = get_or c.args.row.now i no_bin in
     record {
       stand = λ seen told.
-          All-more (Stands s level (seen FRAMES) (pieces_in s (seen FRAMES) level)) c.args.row.now i no_bin c.loop-bin-test.true (is.stand seen told)
-          (subst (λ (t : Numbers). Stands t level (seen FRAMES) (pieces_in t (seen FRAMES) level) bin) is.settings (e.stand seen (is.only_reads.seen ∙ told)));
+          All-more (Stands s c.args.version level (seen FRAMES) (pieces_in s c.args.version (seen FRAMES) level)) c.args.row.now i no_bin c.loop-bin-test.true (is.stand seen told)
+          (subst (λ (t : Numbers). Stands t c.args.version level (seen FRAMES) (pieces_in t c.args.version (seen FRAMES) level) bin) is.settings (e.stand seen (is.only_reads.seen ∙ told)));
       whole = λ seen told.
-          row_more (bin_left s (seen FRAMES) level) c.args.row.now i no_bin c.loop-bin-test.true (is.whole seen told)
-          (subst (λ (t : Numbers). bin_left t (seen FRAMES) level bin ≡ None) is.settings (e.whole seen (is.only_reads.seen ∙ told)));
+          row_more (bin_left s c.args.version (seen FRAMES) level) c.args.row.now i no_bin c.loop-bin-test.true (is.whole seen told)
+          (subst (λ (t : Numbers). bin_left t c.args.version (seen FRAMES) level bin ≡ None) is.settings (e.whole seen (is.only_reads.seen ∙ told)));
       settings = e.settings ∙ is.settings;
       only_reads = reads_on (bays g) (lawful g) c.args.bay.now c.loop-bin.bay c.check_bin.new.bay ⊥ ⊥ is.only_reads
           (reads_as (bays g) (lawful g) c.loop-bin.bay c.check_bin.new.bay _ ⊥ (λ none. absurd none) c.check_bin.ensures.only_reads);
@@ -62,8 +63,8 @@ returns g c =
     let all = take_all c.loop-bin.bin-index c.args.row.now c.loop-bin-test.false in
     let s = c.args.reader.now.settings in
     record {
-      stand = λ seen told. subst (RowStands s (seen FRAMES) c.args.level) all (is.stand seen told);
-      whole = λ seen told. ap (λ bins. first_of (map (bin_left s (seen FRAMES) c.args.level) bins)) (sym all) ∙ is.whole seen told;
+      stand = λ seen told. subst (RowStands s c.args.version (seen FRAMES) c.args.level) all (is.stand seen told);
+      whole = λ seen told. ap (λ bins. first_of (map (bin_left s c.args.version (seen FRAMES) c.args.level) bins)) (sym all) ∙ is.whole seen told;
       malformed = λ seen told at broken. absurd (not_err _ _ broken);
       settings = is.settings;
       only_reads = reads_as (bays g) (lawful g) c.args.bay.now c.loop-bin.bay ⊥ _ (λ failed. not_err _ _ failed) is.only_reads;
@@ -80,8 +81,8 @@ returns-in_err-check_bin g c =
       stand = λ seen told. tt;
       whole = λ seen told. tt;
       malformed = λ seen told at broken.
-          row_breaks (bin_left s (seen FRAMES) c.args.level) c.args.row.now i no_bin c.loop-bin-test.true (is.whole seen told) at
-          (subst (λ (t : Numbers). bin_left t (seen FRAMES) c.args.level (get_or c.args.row.now i no_bin) ≡ Some at) is.settings
+          row_breaks (bin_left s c.args.version (seen FRAMES) c.args.level) c.args.row.now i no_bin c.loop-bin-test.true (is.whole seen told) at
+          (subst (λ (t : Numbers). bin_left t c.args.version (seen FRAMES) c.args.level (get_or c.args.row.now i no_bin) ≡ Some at) is.settings
           (e.malformed seen (is.only_reads.seen ∙ told) at (same_err _ _ broken)));
       settings = e.settings ∙ is.settings;
       only_reads = reads_as (bays g) (lawful g) c.args.bay.now c.check_bin.new.bay _ _ (λ failed. same_err _ _ failed)

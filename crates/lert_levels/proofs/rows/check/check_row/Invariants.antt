@@ -9,9 +9,9 @@ bays g = seen_by g.B.Faulty g.B.Bay
 -- the bins so far stand, and nothing was changed
 abbrev pub invariant-loop-bin : goal.invariant-loop-bin
 invariant-loop-bin g l = record {
-  stand : (seen : Files) → g.B.Bay.files l.fn.bay ≡ Some seen → RowStands l.fn.reader.settings (seen FRAMES) l.level (take l.bin-index l.row);
+  stand : (seen : Files) → g.B.Bay.files l.fn.bay ≡ Some seen → RowStands l.fn.reader.settings l.version (seen FRAMES) l.level (take l.bin-index l.row);
   whole : (seen : Files) → g.B.Bay.files l.fn.bay ≡ Some seen →
-      first_of (map (bin_left l.fn.reader.settings (seen FRAMES) l.level) (take l.bin-index l.row)) ≡ None;
+      first_of (map (bin_left l.fn.reader.settings l.version (seen FRAMES) l.level) (take l.bin-index l.row)) ≡ None;
   settings : l.reader.settings ≡ l.fn.reader.settings;
   only_reads : OnlyReads (bays g) l.fn.bay l.bay ⊥;
 }

@@ -23,6 +23,7 @@ pub check_row-requires : goal.check_row-requires
 check_row-requires g c =
     let i = c.loop-lower.lower in
     rw c.loop-lower.invariant.reader (record {
+      version = c.requires.version;
       first = omega arith;
       last = omega (arith, c.requires.rows.few, c.loop-lower-test.true);
       row = subst (IsRow c.args.settings.now (i + 1)) (here g (goal.at.check_row-requires g c).After-bins) (c.requires.rows.each i c.loop-lower-test.true);
@@ -49,12 +50,12 @@ loop-lower-preserved g c =
         | inl before ↦ is.stand seen told k before
         | inr last ↦ (
             let same : i ≡ k = omega arith in
-            subst (λ (n : ℕ). RowStands s (seen FRAMES) (n + 1) (get_or rows n [])) same
-            (hand_from (λ t row. RowStands t (seen FRAMES) (i + 1) row) s _ rows i now (here g (goal.at.loop-lower-preserved g c).After-bins) is.reader (e.stand seen (is.only_reads.seen ∙ told))))
+            subst (λ (n : ℕ). RowStands s c.args.version (seen FRAMES) (n + 1) (get_or rows n [])) same
+            (hand_from (λ t row. RowStands t c.args.version (seen FRAMES) (i + 1) row) s _ rows i now (here g (goal.at.loop-lower-preserved g c).After-bins) is.reader (e.stand seen (is.only_reads.seen ∙ told))))
       ];
       whole = λ seen told.
-          rows_more s (seen FRAMES) rows i now (here g (goal.at.loop-lower-preserved g c).After-bins) c.loop-lower-test.true (is.whole seen told)
-          (subst (λ (t : Numbers). row_left t (seen FRAMES) (i + 1) now ≡ None) is.reader (e.whole seen (is.only_reads.seen ∙ told)));
+          rows_more s c.args.version (seen FRAMES) rows i now (here g (goal.at.loop-lower-preserved g c).After-bins) c.loop-lower-test.true (is.whole seen told)
+          (subst (λ (t : Numbers). row_left t c.args.version (seen FRAMES) (i + 1) now ≡ None) is.reader (e.whole seen (is.only_reads.seen ∙ told)));
       reader = e.settings ∙ is.reader;
       only_reads = reads_on (bays g) (lawful g) c.args.bay.now c.loop-lower.bay c.check_row.new.bay ⊥ ⊥ is.only_reads
           (reads_as (bays g) (lawful g) c.loop-lower.bay c.check_row.new.bay _ ⊥ (λ none. absurd none) c.check_row.ensures.only_reads);
@@ -66,7 +67,7 @@ returns g c =
     record {
       stand = λ seen told k below. is.stand seen told k (omega (arith, below, c.loop-lower-test.false));
       whole = λ seen told.
-          ap (rows_left c.args.settings.now (seen FRAMES)) (sym (take_all c.loop-lower.lower c.args.rows.now c.loop-lower-test.false)) ∙ is.whole seen told;
+          ap (rows_left c.args.settings.now c.args.version (seen FRAMES)) (sym (take_all c.loop-lower.lower c.args.rows.now c.loop-lower-test.false)) ∙ is.whole seen told;
       malformed = λ seen told at broken. absurd (not_err _ _ broken);
       reader = is.reader;
       only_reads = reads_as (bays g) (lawful g) c.args.bay.now c.loop-lower.bay ⊥ _ (λ failed. not_err _ _ failed) is.only_reads;
@@ -83,8 +84,8 @@ returns-in_err-check_row g c =
       stand = λ seen told. tt;
       whole = λ seen told. tt;
       malformed = λ seen told at broken.
-          rows_break s (seen FRAMES) c.args.rows.now i c.bins.result.now (here g (goal.at.returns-in_err-check_row g c).After-bins) c.loop-lower-test.true (is.whole seen told) at
-          (subst (λ (t : Numbers). row_left t (seen FRAMES) (i + 1) c.bins.result.now ≡ Some at) is.reader
+          rows_break s c.args.version (seen FRAMES) c.args.rows.now i c.bins.result.now (here g (goal.at.returns-in_err-check_row g c).After-bins) c.loop-lower-test.true (is.whole seen told) at
+          (subst (λ (t : Numbers). row_left t c.args.version (seen FRAMES) (i + 1) c.bins.result.now ≡ Some at) is.reader
           (e.malformed seen (is.only_reads.seen ∙ told) at (same_err _ _ broken)));
       reader = e.settings ∙ is.reader;
       only_reads = reads_as (bays g) (lawful g) c.args.bay.now c.check_row.new.bay _ _ (λ failed. same_err _ _ failed)

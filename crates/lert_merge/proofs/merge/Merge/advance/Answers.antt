@@ -1,10 +1,6 @@
-use Rattle.std.proofs.Common.{Ok, Err, arith, ap, subst}
-use Rattle.std.proofs.lemmas.Result.{err_from_is_err_and}
-use Rattle.lert_merge.proofs.order.AskLemmas.{AreLawful}
-use Rattle.lert_merge.specs.declared.merge.Turn.{Turn}
-use Rattle.lert_merge.specs.declared.merge.Turn.TheVariants.{Taken, Given}
-use Rattle.lert_merge.specs.Merging.{HasTurned}
-use Rattle.lert_merge.proofs.NextLemmas.{turned_none, turned_on}
+use Rattle.std.proofs.{Common.{Ok, Err, arith, ap, subst}, lemmas.Result.err_from_is_err_and}
+use Rattle.lert_merge.proofs.{order.AskLemmas.AreLawful, NextLemmas.{turned_none, turned_on}}
+use Rattle.lert_merge.specs.{declared.merge.Turn.Turn, declared.merge.Turn.TheVariants.{Taken, Given}, Merging.HasTurned}
 use Rattle.lert_merge.proofs.merge.Merge.advance.Given as given
 use Rattle.lert_merge.proofs.merge.Merge.advance.Goals as goal
 

@@ -1,5 +1,4 @@
-use Rattle.lert_merge.proofs.order.AskLemmas.{AreLawful}
-use Rattle.lert_merge.proofs.NextLemmas.{turned_ended}
+use Rattle.lert_merge.proofs.{order.AskLemmas.AreLawful, NextLemmas.turned_ended}
 use Rattle.lert_merge.proofs.NextClauses.{told_of, above_of, below_of, last_of, sum_of, small_of, taken_of_it, refused_of, over_of, nothing_of, failed_of, malformed_of}
 use Rattle.lert_merge.proofs.merge.Merge.next.Given as given
 use Rattle.lert_merge.proofs.merge.Merge.next.Goals as goal

@@ -1,7 +1,6 @@
 use Rattle.std.proofs.Common.{◌≡◌, ◌<◌, false, Some, None, length, sym, subst}
 use Rattle.lert_merge.specs.Merging.{Merging}
-use Rattle.lert_merge.proofs.StepLemmas.{HasStepped, stepped}
-use Rattle.lert_merge.proofs.TakeLemmas.{has_room}
+use Rattle.lert_merge.proofs.{StepLemmas.{HasStepped, stepped}, TakeLemmas.has_room}
 use Rattle.lert_merge.proofs.TurnLemmas.{turned_taken, taken_stands, taken_goes, turned_given, given_stands, turned_over, ended_stands, none_is}
 use Rattle.lert_merge.proofs.merge.Merge.turn.Given as given
 use Rattle.lert_merge.proofs.merge.Merge.turn.Goals as goal

@@ -1,5 +1,4 @@
-use Rattle.std.proofs.Common.{◌++◌, ◌∷◌, [], ◌&&◌, length, refl, ap, ◌∙◌}
-use Rattle.std.proofs.lemmas.List.{length_push}
+use Rattle.std.proofs.{Common.{◌++◌, ◌∷◌, [], ◌&&◌, length, refl, ap, ◌∙◌}, lemmas.List.length_push}
 use Rattle.lert_place.specs.Openings.{is_trace, is_bay}
 use Rattle.lert_place.proofs.Handing.{one_more, no_more}
 use Rattle.lert_place.proofs.handed.Handed.hand_out_bay.Goals as goal

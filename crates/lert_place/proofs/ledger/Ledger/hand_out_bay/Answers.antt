@@ -1,8 +1,5 @@
-use Rattle.std.proofs.Common.{◌++◌, ◌∷◌, [], ◌&&◌, length, refl, ap, ◌∙◌}
-use Rattle.std.proofs.lemmas.List.{length_push}
-use Rattle.std.proofs.lemmas.Result.{err_from_is_err_and}
-use Rattle.lert_place.specs.Openings.{is_trace, is_bay}
-use Rattle.lert_place.specs.Shelf.{Loans}
+use Rattle.std.proofs.{Common.{◌++◌, ◌∷◌, [], ◌&&◌, length, refl, ap, ◌∙◌}, lemmas.List.length_push, lemmas.Result.err_from_is_err_and}
+use Rattle.lert_place.specs.{Openings.{is_trace, is_bay}, Shelf.Loans}
 use Rattle.lert_place.proofs.Handing.{one_more, no_more}
 use Rattle.lert_place.proofs.ledger.Ledger.hand_out_bay.Goals as goal
 

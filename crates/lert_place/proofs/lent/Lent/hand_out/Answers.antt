@@ -1,6 +1,4 @@
-use Rattle.std.proofs.Common.{◌+◌, ◌++◌, ◌∷◌, [], None, length, refl, sym, ap, ap₂, ◌∙◌}
-use Rattle.std.proofs.lemmas.List.{length_push}
-use Rattle.std.proofs.lemmas.Result.{err_from_is_err_and}
+use Rattle.std.proofs.{Common.{◌+◌, ◌++◌, ◌∷◌, [], None, length, refl, sym, ap, ap₂, ◌∙◌}, lemmas.List.length_push, lemmas.Result.err_from_is_err_and}
 use Rattle.lert_place.specs.Shelf.{Loans}
 use Rattle.lert_place.proofs.lent.Lent.hand_out.Goals as goal
 

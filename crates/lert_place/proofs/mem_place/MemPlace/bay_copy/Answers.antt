@@ -1,6 +1,5 @@
 use Rattle.std.proofs.Common.{◌+◌, cond, List, drop, length, Some, sym, ap, ap₂, ◌∙◌}
-use Rattle.lert_place.specs.Kept.{Shelf}
-use Rattle.lert_place.specs.Shelf.{NamedBay, bay_of}
+use Rattle.lert_place.specs.{Kept.Shelf, Shelf.{NamedBay, bay_of}}
 use Rattle.lert_bay.specs.Memory.{Disk}
 use Rattle.lert_place.proofs.Shelves.{at_place, copied_is}
 use Rattle.lert_place.proofs.mem_place.MemPlace.bay_copy.Goals as goal

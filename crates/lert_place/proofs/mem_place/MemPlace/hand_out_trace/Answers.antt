@@ -1,7 +1,6 @@
 use Rattle.std.proofs.Common.{◌+◌, ◌≤◌, ◌++◌, ◌∷◌, [], None, true, min, refl, sym, ap, subst, ◌∙◌}
 use Rattle.lert_place.proofs.Handing.{at_ok, at_err, faultless, others}
-use Rattle.lert_place.specs.Kept.{Shelf}
-use Rattle.lert_place.specs.declared.opening.Wanted.TheVariants.{Trace}
+use Rattle.lert_place.specs.{Kept.Shelf, declared.opening.Wanted.TheVariants.Trace}
 use Rattle.lert_io.specs.Fault.{HasRisen, last_count}
 use Rattle.lert_place.proofs.mem_place.MemPlace.hand_out_trace.Goals as goal
 

@@ -1,7 +1,6 @@
 use Rattle.std.proofs.Common.{◌+◌, cond, List, drop, length, Some, sym, ap, ap₂, ◌∙◌}
 use Rattle.std.specs.Str.{bytes_eq}
-use Rattle.lert_place.specs.Kept.{Shelf}
-use Rattle.lert_place.specs.Shelf.{NamedTrace, trace_named}
+use Rattle.lert_place.specs.{Kept.Shelf, Shelf.{NamedTrace, trace_named}}
 use Rattle.lert_io.specs.Memory.{Feeding}
 use Rattle.lert_place.proofs.Shelves.{at_place, copied_is}
 use Rattle.lert_place.proofs.mem_place.MemPlace.trace_copy.Goals as goal

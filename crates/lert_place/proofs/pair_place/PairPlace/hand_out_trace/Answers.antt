@@ -1,5 +1,4 @@
-use Rattle.std.proofs.lemmas.List.{length_push}
-use Rattle.std.proofs.Common.{◌+◌, inl, inr, arith, refl, sym, ap, ◌∙◌, ◌++◌, ◌∷◌, [], length}
+use Rattle.std.proofs.{lemmas.List.length_push, Common.{◌+◌, inl, inr, arith, refl, sym, ap, ◌∙◌, ◌++◌, ◌∷◌, [], length}}
 use Rattle.lert_place.proofs.Handing.{counted, faultless}
 use Rattle.lert_place.proofs.pair_place.PairPlace.hand_out_trace.Goals as goal
 

@@ -1,22 +1,19 @@
-use Rattle.std.proofs.Common.{◌^◌, ◌<◌, ◌≤◌, ◌≡◌, ◌+◌, ◌∙◌, sym, ap, ap₂, arith, set, subst, IsOk, vec_capacity}
-use Rattle.std.proofs.lemmas.Bool.{both_ways}
-use Rattle.lert_spec.specs.Table.{total, plus}
+use Rattle.std.proofs.{Common.{◌^◌, ◌<◌, ◌≡◌, ◌+◌, ◌∙◌, sym, ap, ap₂, arith, set, subst, IsOk, vec_capacity}, lemmas.Bool.both_ways}
+use Rattle.lert_spec.specs.Table.{plus}
 use Rattle.lert_spec.proofs.Tables.{count_le-total}
 use Rattle.lert_plain.specs.Contents.{Contents, IsKept}
-use Rattle.lert_plain.proofs.Places.{plus-present, plus-absent}
-use Rattle.lert_plain.proofs.Kept.{IsKept-plus, has_place}
+use Rattle.lert_plain.proofs.{Places.{plus-present, plus-absent}, Kept.{IsKept-plus, no_more, has_place}, table.PlainTableCountTable.add.Goals.{After-index_mut, After-insert}}
 use Rattle.lert_plain.proofs.table.PlainTableCountTable.add.Goals as goal
-use Rattle.lert_plain.proofs.table.PlainTableCountTable.add.Goals.{After-index_mut, After-insert}
 
 -- what the call requires, of the fields
-room_in_Ok : (c : After-index_mut) → total c.self.inside.pieces.items + c.args.n ≤ c.self.inside.room
-room_in_Ok c = subst (λ (t : Contents). total t.pieces + c.args.n ≤ t.room) (sym c.self.view_is) c.requires.has_room
+room_in_Ok : (c : After-index_mut) → c.self.inside.adds < c.self.inside.room
+room_in_Ok c = subst (λ (t : Contents). t.adds < t.room) (sym c.self.view_is) c.requires.has_room
 
 below_in_Ok : (c : After-index_mut) → c.args.tail < 2 ^ (c.self.inside.quotient_bits + c.self.inside.width)
 below_in_Ok c = subst (λ (t : Contents). c.args.tail < 2 ^ (t.quotient_bits + t.width)) (sym c.self.view_is) c.requires.below
 
-room_in_Err : (c : After-insert) → total c.self.inside.pieces.items + c.args.n ≤ c.self.inside.room
-room_in_Err c = subst (λ (t : Contents). total t.pieces + c.args.n ≤ t.room) (sym c.self.view_is) c.requires.has_room
+room_in_Err : (c : After-insert) → c.self.inside.adds < c.self.inside.room
+room_in_Err c = subst (λ (t : Contents). t.adds < t.room) (sym c.self.view_is) c.requires.has_room
 
 below_in_Err : (c : After-insert) → c.args.tail < 2 ^ (c.self.inside.quotient_bits + c.self.inside.width)
 below_in_Err c = subst (λ (t : Contents). c.args.tail < 2 ^ (t.quotient_bits + t.width)) (sym c.self.view_is) c.requires.below
@@ -36,16 +33,24 @@ pub overflow_add-index_mut : goal.overflow_add-index_mut
 overflow_add-index_mut c =
     let here = rw c.deref.ensures.value at c.in-Ok.ensures in
     let count = ap (λ p. p.count) c.index_mut.ensures.value in
-    omega (arith, count, count_le-total c.self.inside.pieces.items c.in-Ok.at c.index_mut.result.now here.within, room_in_Ok c, c.self.invariant.small)
+    omega (
+      arith,
+      count,
+      count_le-total c.self.inside.pieces.items c.in-Ok.at c.index_mut.result.now here.within,
+      no_more _ _ _ _ _ c.self.invariant,
+      c.requires.few,
+      room_in_Ok c,
+      c.self.invariant.small,
+    )
 
 pub invariant_of-self : goal.invariant_of-self
 invariant_of-self c =
     let here = (goal.at-invariant_of-self c).After-index_mut in
-    subst (λ pieces. IsKept pieces (c.self.inside.events + c.args.n) c.self.inside.room
+    subst (λ pieces. IsKept pieces (c.self.inside.adds + 1) c.self.inside.room
     (c.self.inside.quotient_bits + c.self.inside.width) c.self.inside.pieces.cap) (raised here)
-    (IsKept-plus c.self.inside.pieces.items c.args.tail c.args.n c.self.inside.events c.self.inside.room
+    (IsKept-plus c.self.inside.pieces.items c.args.tail c.args.n c.self.inside.adds c.self.inside.room
     (c.self.inside.quotient_bits + c.self.inside.width) c.self.inside.pieces.cap c.self.inside.pieces.cap
-    c.self.invariant (below_in_Ok here) c.requires.positive (room_in_Ok here) (omega arith))
+    c.self.invariant (below_in_Ok here) c.requires.some c.requires.few (room_in_Ok here) (omega arith))
 
 pub returns-in-Ok-clause-pieces : goal.returns-in-Ok-clause-pieces
 returns-in-Ok-clause-pieces c =
@@ -55,8 +60,8 @@ returns-in-Ok-clause-pieces c =
 -- there was a place, so the new piece was put in
 put_in : (c : After-insert) → IsOk c.insert.result
 put_in c =
-    let place = has_place c.self.inside.pieces.items c.self.inside.events c.self.inside.room
-    (c.self.inside.quotient_bits + c.self.inside.width) c.self.inside.pieces.cap c.args.n c.self.invariant c.requires.positive (room_in_Err c) in
+    let place = has_place c.self.inside.pieces.items c.self.inside.adds c.self.inside.room
+    (c.self.inside.quotient_bits + c.self.inside.width) c.self.inside.pieces.cap c.self.invariant (room_in_Err c) in
     c.insert.ensures.succeeds (omega (arith, c.self.inside.pieces.ok.0))
 
 grown : (c : After-insert) → plus c.self.inside.pieces.items c.args.tail c.args.n ≡ c.insert.new.self.items
@@ -74,11 +79,11 @@ prove-unreachable-requires c =
 pub invariant_of-self-in-Err : goal.invariant_of-self-in-Err
 invariant_of-self-in-Err c =
     let there = (goal.at-invariant_of-self-in-Err c).After-insert in
-    subst (λ pieces. IsKept pieces (c.self.inside.events + c.args.n) c.self.inside.room
+    subst (λ pieces. IsKept pieces (c.self.inside.adds + 1) c.self.inside.room
     (c.self.inside.quotient_bits + c.self.inside.width) (vec_capacity c.insert.new.self)) (grown there)
-    (IsKept-plus c.self.inside.pieces.items c.args.tail c.args.n c.self.inside.events c.self.inside.room
+    (IsKept-plus c.self.inside.pieces.items c.args.tail c.args.n c.self.inside.adds c.self.inside.room
     (c.self.inside.quotient_bits + c.self.inside.width) c.self.inside.pieces.cap (vec_capacity c.insert.new.self)
-    c.self.invariant (below_in_Err there) c.requires.positive (room_in_Err there) c.insert.ensures.capacity)
+    c.self.invariant (below_in_Err there) c.requires.some c.requires.few (room_in_Err there) c.insert.ensures.capacity)
 
 pub returns-in-Err-clause-pieces : goal.returns-in-Err-clause-pieces
 returns-in-Err-clause-pieces c =

@@ -1,8 +1,6 @@
 use Rattle.std.proofs.Common.{◌≡◌, ℕ, ◌+◌, ◌-◌, ◌<◌, ◌≤◌, ◌&&◌, ◌||◌, not, nat_le, Bool, true, false, List, length, get_or, take, drop, refl, le_of_eq, ap, ap₂, subst, sym, ◌∙◌, arith, le-ltb}
-use Rattle.std.specs.Prelude.{◌==◌}
-use Rattle.std.specs.List.{list_any}
-use Rattle.std.proofs.lemmas.Bool.{le-leb}
-use Rattle.std.proofs.lemmas.List.{take_all, length-drop, get_or-drop}
+use Rattle.std.proofs.{lemmas.Bool.le-leb, lemmas.List.{take_all, length-drop, get_or-drop}}
+use Rattle.std.specs.{Prelude.◌==◌, List.list_any}
 use Rattle.lert_spec.specs.declared.numbers.Numbers.{Numbers}
 use Rattle.lert_reports.specs.LogText.{is_broken, frame_field}
 use Rattle.lert_reports.proofs.log.read.is_bad_frame.Goals as goal

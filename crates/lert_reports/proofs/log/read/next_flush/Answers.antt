@@ -1,6 +1,4 @@
-use Rattle.std.proofs.Common.{ℕ, ◌≡◌, ◌+◌, ◌*◌, ◌≤◌, ◌∙◌, ap, arith, inl, inr, min}
-use Rattle.std.proofs.Math.Nat.{min-eq_left, min-eq_right, mul-le-mul}
-use Rattle.std.proofs.lemmas.Bool.{cases_lt}
+use Rattle.std.proofs.{Common.{ℕ, ◌≡◌, ◌+◌, ◌*◌, ◌≤◌, ◌∙◌, ap, arith, inl, inr, min}, Math.Nat.{min-eq_left, min-eq_right, mul-le-mul}, lemmas.Bool.cases_lt}
 use Rattle.lert_spec.specs.declared.numbers.Numbers.{Numbers}
 use Rattle.lert_reports.proofs.log.read.next_flush.Goals as goal
 

@@ -1,8 +1,6 @@
-use Rattle.std.proofs.Common.{◌+◌, ◌-◌, refl, ap, ◌∙◌, arith}
-use Rattle.std.proofs.lemmas.Result.{err_from_is_err_and}
+use Rattle.std.proofs.{Common.{◌+◌, ◌-◌, refl, ap, ◌∙◌, arith}, lemmas.Result.err_from_is_err_and}
 use Rattle.lert_reports.specs.LogText.{level_fields, bin_count}
-use Rattle.lert_reports.proofs.DirectoryLaws.{level_place-next}
-use Rattle.lert_reports.proofs.FieldLaws.{none_left, next_of, found_of}
+use Rattle.lert_reports.proofs.{DirectoryLaws.level_place-next, FieldLaws.{none_left, next_of, found_of}}
 use Rattle.lert_reports.proofs.log.read.read_directory.Goals as goal
 
 pub loop-level-init : goal.loop-level-init

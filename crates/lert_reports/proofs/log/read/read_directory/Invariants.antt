@@ -1,6 +1,5 @@
 use Rattle.std.proofs.Common.{◌≡◌, ◌-◌, ◌≤◌, None, length}
-use Rattle.std.specs.Prelude.{flat_map}
-use Rattle.std.specs.List.{range_with_len}
+use Rattle.std.specs.{Prelude.flat_map, List.range_with_len}
 use Rattle.lert_reports.specs.LogText.{left_at, level_fields, level_place}
 use Rattle.lert_reports.proofs.log.read.read_directory.Given as goal
 

@@ -1,5 +1,4 @@
-use Rattle.std.proofs.Common.{Some, ap, sym, ◌∙◌}
-use Rattle.std.proofs.lemmas.Result.{err_from_is_err_and}
+use Rattle.std.proofs.{Common.{Some, ap, sym, ◌∙◌}, lemmas.Result.err_from_is_err_and}
 use Rattle.lert_reports.specs.LogText.{first_field}
 use Rattle.lert_reports.proofs.FieldLaws.{broken, kept, none_left, whole}
 use Rattle.lert_reports.proofs.log.read.read_head.Goals as goal

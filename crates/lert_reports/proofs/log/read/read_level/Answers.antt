@@ -1,8 +1,6 @@
-use Rattle.std.proofs.Common.{◌≡◌, ◌+◌, Some, ap, sym, subst, ◌∙◌, false}
-use Rattle.std.proofs.lemmas.Result.{err_from_is_err_and}
+use Rattle.std.proofs.{Common.{◌≡◌, ◌+◌, Some, ap, sym, subst, ◌∙◌, false}, lemmas.Result.err_from_is_err_and}
 use Rattle.lert_reports.specs.LogText.{bins_field, frame_fields, is_broken, left_at}
-use Rattle.lert_reports.proofs.DirectoryLaws.{level_fields_are}
-use Rattle.lert_reports.proofs.FieldLaws.{broken, kept}
+use Rattle.lert_reports.proofs.{DirectoryLaws.level_fields_are, FieldLaws.{broken, kept}}
 use Rattle.lert_reports.proofs.log.read.read_level.Goals as goal
 
 pub returns-in_err-frames : goal.returns-in_err-frames

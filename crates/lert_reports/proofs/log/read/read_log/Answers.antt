@@ -1,7 +1,6 @@
 use Rattle.std.proofs.Common.{subst}
 use Rattle.lert_spec.specs.Limits.{IsValid}
-use Rattle.lert_reports.proofs.RecordFound.{found}
-use Rattle.lert_reports.proofs.RecordLaws.{reads_back}
+use Rattle.lert_reports.proofs.{RecordFound.found, RecordLaws.reads_back}
 use Rattle.lert_reports.proofs.log.read.read_log.Goals as goal
 
 pub returns-clause-found : goal.returns-clause-found

@@ -1,5 +1,4 @@
-use Rattle.std.proofs.Common.{◌+◌, [], ◌∷◌, None, Some, refl, ap, sym, ◌∙◌}
-use Rattle.std.proofs.lemmas.Result.{err_from_is_err_and}
+use Rattle.std.proofs.{Common.{◌+◌, [], ◌∷◌, None, Some, refl, ap, sym, ◌∙◌}, lemmas.Result.err_from_is_err_and}
 use Rattle.lert_reports.specs.LogText.{head_fields, directory_fields, count_field, all_report_fields, end_field, reports_place}
 use Rattle.lert_reports.proofs.FieldLaws.{broken, kept, none_left, in_first, in_second, in_third, in_fourth, in_last}
 use Rattle.lert_reports.proofs.log.read.read_parts.Goals as goal

@@ -1,8 +1,6 @@
-use Rattle.std.proofs.Common.{◌≡◌, ◌+◌, ◌*◌, refl, ap, ◌∙◌, arith}
-use Rattle.std.proofs.lemmas.Result.{err_from_is_err_and}
+use Rattle.std.proofs.{Common.{◌≡◌, ◌+◌, ◌*◌, refl, ap, ◌∙◌, arith}, lemmas.Result.err_from_is_err_and}
 use Rattle.lert_reports.specs.LogText.{left_at, number_in, report_fields, report_place, reports_in, reports_place}
-use Rattle.lert_reports.proofs.DirectoryLaws.{report_fields_are, at_before-next}
-use Rattle.lert_reports.proofs.FieldLaws.{none_left, next_of, found_of}
+use Rattle.lert_reports.proofs.{DirectoryLaws.{report_fields_are, at_before-next}, FieldLaws.{none_left, next_of, found_of}}
 use Rattle.lert_reports.proofs.log.read.read_reports.Goals as goal
 
 pub loop-k-init : goal.loop-k-init

@@ -1,7 +1,6 @@
 use Rattle.std.proofs.Common.{◌≡◌, ℕ, ◌<◌, ◌≤◌, ◌*◌, arith, ap, true, false, length, get_or, List, Bool, subst}
 use Rattle.lert_slotbits.specs.Bits.{row_of, IsFirst}
-use Rattle.lert_slotbits.proofs.RowLemmas.{length_row}
-use Rattle.lert_slotbits.proofs.ViewLemmas.{long_enough, length_view, first_shown, none_shown}
+use Rattle.lert_slotbits.proofs.{RowLemmas.length_row, ViewLemmas.{long_enough, length_view, first_shown, none_shown}}
 use Rattle.lert_slotbits.proofs.bits.Bits.next_false.Goals as goal
 
 -- no bit that is shown is false

@@ -1,7 +1,6 @@
 use Rattle.std.proofs.Common.{◌≡◌, ◌<◌, ◌≤◌, ◌*◌, arith, get_or, true, false, take, length, slice_get, Some, List, Bool, subst, refl}
 use Rattle.lert_slotbits.specs.Bits.{row_of, trues}
-use Rattle.lert_slotbits.proofs.CountLemmas.{trues_take_grows}
-use Rattle.lert_slotbits.proofs.ViewLemmas.{long_enough, selected}
+use Rattle.lert_slotbits.proofs.{CountLemmas.trues_take_grows, ViewLemmas.{long_enough, selected}}
 use Rattle.lert_slotbits.proofs.bits.Bits.select.Goals as goal
 
 pub returns-then-place-self-clause-found : goal.returns-then-place-self-clause-found

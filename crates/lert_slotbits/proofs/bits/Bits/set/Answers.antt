@@ -1,5 +1,4 @@
-use Rattle.std.proofs.Common.{◌≡◌, ap, ◌∙◌, take, set, List, ℕ, Bool, length, arith}
-use Rattle.std.proofs.lemmas.List.{with_items_is}
+use Rattle.std.proofs.{Common.{◌≡◌, ap, ◌∙◌, take, set, List, ℕ, Bool, length, arith}, lemmas.List.with_items_is}
 use Rattle.lert_slotbits.specs.Bits.{row_of}
 use Rattle.lert_slotbits.proofs.ViewLemmas.{length_view, long_enough, take-set_below}
 use Rattle.lert_slotbits.proofs.bits.Bits.set.Goals as goal

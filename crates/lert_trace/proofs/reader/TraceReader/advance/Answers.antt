@@ -1,9 +1,7 @@
-use Rattle.std.proofs.Common.{◌≡◌, ◌+◌, ◌≤◌, Some, [], IfOk, slice_get, ap, ◌∙◌, subst}
+use Rattle.std.proofs.{Common.{◌≡◌, ◌+◌, ◌≤◌, Some, [], IfOk, slice_get, ap, ◌∙◌, subst}, lemmas.Result.err_from_is_err_and}
 use Rattle.std.specs.Prelude.{IfSome, IfNone, IfErr}
-use Rattle.std.proofs.lemmas.Result.{err_from_is_err_and}
 use Rattle.lert_io.proofs.Rising.{risen_since}
-use Rattle.lert_spec.specs.Trace.{whole}
-use Rattle.lert_trace.specs.Reader.{IsTraceOf}
+use Rattle.lert_trace.specs.{Trace.whole, Reader.IsTraceOf}
 use Rattle.lert_trace.proofs.Steps.{same_again, err_again, never_falls_on}
 use Rattle.lert_trace.proofs.reader.TraceReader.advance.Goals as goal
 

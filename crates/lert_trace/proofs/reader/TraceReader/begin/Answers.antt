@@ -1,7 +1,5 @@
-use Rattle.std.proofs.Common.{ap, ◌∙◌}
-use Rattle.std.proofs.lemmas.Result.{err_from_is_err_and}
-use Rattle.lert_trace.proofs.Standing.{IsReader-read}
-use Rattle.lert_trace.proofs.Beginning.{Means-header, IsReader-header}
+use Rattle.std.proofs.{Common.{ap, ◌∙◌}, lemmas.Result.err_from_is_err_and}
+use Rattle.lert_trace.proofs.{Standing.IsReader-read, Beginning.{Means-header, IsReader-header}}
 use Rattle.lert_trace.proofs.reader.TraceReader.begin.Goals as goal
 
 pub invariant_of-self : goal.invariant_of-self

@@ -1,5 +1,4 @@
-use Rattle.std.proofs.Common.{◌≤◌, refl, sym, ap, ◌∙◌, subst}
-use Rattle.std.proofs.lemmas.Bool.{false≢true}
+use Rattle.std.proofs.{Common.{◌≤◌, refl, sym, ap, ◌∙◌, subst}, lemmas.Bool.false≢true}
 use Rattle.lert_io.specs.Fault.{HasRisen}
 use Rattle.lert_trace.specs.Reader.{Means}
 use Rattle.lert_trace.proofs.Steps.{no_err, none_is, if_none, if_some, some_no_none, none_less}

@@ -1,11 +1,8 @@
-use Rattle.std.proofs.Common.{◌≡◌, ℕ, ◌+◌, List, [], slice_get, ◌<◌, ◌≤◌, true, Some, length, refl, sym, ap, ◌∙◌, subst, arith}
-use Rattle.std.proofs.lemmas.Result.{err_from_is_err_and}
+use Rattle.std.proofs.{Common.{◌≡◌, ℕ, ◌+◌, List, [], slice_get, ◌<◌, ◌≤◌, true, Some, length, refl, sym, ap, ◌∙◌, subst, arith}, lemmas.Result.err_from_is_err_and}
 use Rattle.lert_io.specs.Fault.{HasRisen}
 use Rattle.lert_io.proofs.Rising.{risen_since}
-use Rattle.lert_spec.specs.Trace.{whole}
-use Rattle.lert_trace.proofs.Standing.{IsReader-read, IsReader-key, next_none, next_cut, next_more, next_key}
-use Rattle.lert_trace.proofs.Steps.{below_limit, behind_header, ok_no_err, cut_no_failure, long_no_failure}
-use Rattle.lert_trace.specs.Reader.{IsTraceOf}
+use Rattle.lert_trace.specs.{Trace.whole, Reader.IsTraceOf}
+use Rattle.lert_trace.proofs.{Standing.{IsReader-read, IsReader-key, next_none, next_cut, next_more, next_key}, Steps.{below_limit, behind_header, ok_no_err, cut_no_failure, long_no_failure}}
 use Rattle.lert_trace.proofs.reader.TraceReader.take_key.Goals as goal
 
 pub invariant_of-self : goal.invariant_of-self

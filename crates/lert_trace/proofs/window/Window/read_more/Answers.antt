@@ -1,5 +1,4 @@
-use Rattle.std.proofs.Common.{◌-◌, ◌≤◌, length, sym, subst, arith}
-use Rattle.std.proofs.lemmas.Result.{err_from_is_err_and}
+use Rattle.std.proofs.{Common.{◌-◌, ◌≤◌, length, sym, subst, arith}, lemmas.Result.err_from_is_err_and}
 use Rattle.lert_trace.proofs.Pending.{take-read, StillAhead-read, StillAhead-unread, IsBlock-read, IsBlock-unread, length-read, handed-none}
 use Rattle.lert_trace.proofs.window.Window.read_more.Goals as goal
 

@@ -1,6 +1,4 @@
-use Rattle.std.proofs.Common.{◌≤◌, length, sym, ap, ◌∙◌, subst, take}
-use Rattle.std.proofs.lemmas.List.{drop-drop}
-use Rattle.std.proofs.lemmas.Slice.{between_is}
+use Rattle.std.proofs.{Common.{◌≤◌, length, sym, ap, ◌∙◌, subst, take}, lemmas.List.drop-drop, lemmas.Slice.between_is}
 use Rattle.byteorder.specs.Endian.{little_from}
 use Rattle.lert_trace.proofs.Pending.{IsBlock-taken}
 use Rattle.lert_trace.proofs.window.Window.take_number.Goals as goal

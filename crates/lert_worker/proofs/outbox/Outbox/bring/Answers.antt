@@ -1,6 +1,5 @@
 use Rattle.std.proofs.Common.{Ok, refl, rules}
-use Rattle.lert_buffers.specs.Rings.{ring_of}
-use Rattle.lert_buffers.specs.declared.buffers.Fill.TheVariants.{Low, MustGo, Ready}
+use Rattle.lert_buffers.specs.{Rings.ring_of, declared.buffers.Fill.TheVariants.{Low, MustGo, Ready}}
 use Rattle.lert_worker.specs.Sending.{packet_with}
 use Rattle.lert_worker.proofs.OutboxLaws.{brought_by}
 use Rattle.lert_worker.proofs.outbox.Outbox.bring.Goals as goal

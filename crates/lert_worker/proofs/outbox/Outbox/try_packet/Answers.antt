@@ -1,11 +1,9 @@
 use Rattle.std.proofs.Common.{◌*◌, ◌<◌, [], length, ap, sym, ◌∙◌, subst, arith, inl, inr}
-use Rattle.lert_base.specs.declared.entry.Entry.{Entry}
-use Rattle.lert_base.specs.Entries.{packet_of}
+use Rattle.lert_base.specs.{declared.entry.Entry.Entry, Entries.packet_of}
 use Rattle.lert_buffers.specs.Rings.{ring_of}
 use Rattle.lert_worker.specs.Sending.{packet_with}
 use Rattle.lert_worker.proofs.MayLaws.{alike_same, alike_with, emptied_back, emptied_by, fits_cone, may_on, room_back, same_after, still_empty, still_within}
-use Rattle.lert_worker.proofs.OutboxLaws.{busy_at, given_back, taken_at, turned_at}
-use Rattle.lert_worker.proofs.outbox.Outbox.try_packet.Goals.{in-Done, in-Refused, in-Busy}
+use Rattle.lert_worker.proofs.{OutboxLaws.{busy_at, given_back, taken_at, turned_at}, outbox.Outbox.try_packet.Goals.{in-Done, in-Refused, in-Busy}}
 use Rattle.lert_worker.proofs.outbox.Outbox.try_packet.Goals as goal
 
 pub take-requires-clause-cone : goal.take-requires-clause-cone

@@ -1,11 +1,8 @@
 use Rattle.std.proofs.Common.{◌*◌, ◌<◌, [], length, ap, sym, ◌∙◌, subst, arith}
-use Rattle.lert_base.specs.Entries.{packet_of}
-use Rattle.lert_base.specs.declared.entry.Entry.{Entry}
+use Rattle.lert_base.specs.{Entries.packet_of, declared.entry.Entry.Entry}
 use Rattle.lert_buffers.specs.Rings.{ring_of}
 use Rattle.lert_worker.specs.Sending.{packet_with}
-use Rattle.lert_worker.proofs.MayLaws.{alike_with, emptied_by, fits_cone, may_on, same_after}
-use Rattle.lert_worker.proofs.OutboxLaws.{taken_at, turned_at}
-use Rattle.lert_worker.proofs.outbox.Outbox.wait_packet.Goals.{in-Ok, in-Err}
+use Rattle.lert_worker.proofs.{MayLaws.{alike_with, emptied_by, fits_cone, may_on, same_after}, OutboxLaws.{taken_at, turned_at}, outbox.Outbox.wait_packet.Goals.{in-Ok, in-Err}}
 use Rattle.lert_worker.proofs.outbox.Outbox.wait_packet.Goals as goal
 
 pub take-requires-clause-cone : goal.take-requires-clause-cone

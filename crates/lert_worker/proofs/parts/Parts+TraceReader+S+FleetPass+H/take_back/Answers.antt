@@ -1,5 +1,4 @@
-use Rattle.std.proofs.Common.{◌≡◌, ℕ, [], ◌∷◌, ◌∙◌, List, length, refl, sym, ap, subst, arith}
-use Rattle.std.proofs.lemmas.List.{nil_from_length}
+use Rattle.std.proofs.{Common.{◌≡◌, ℕ, [], ◌∷◌, ◌∙◌, List, length, refl, sym, ap, subst, arith}, lemmas.List.nil_from_length}
 use Rattle.lert_worker.specs.Ran.{AreGiven, IsGivenBack, Worked}
 use Rattle.lert_worker.proofs.Given.{given_tail}
 use Rattle.lert_worker.proofs.parts.Parts+TraceReader+S+FleetPass+H.take_back.Goals as goal

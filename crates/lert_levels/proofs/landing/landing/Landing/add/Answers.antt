@@ -25,7 +25,7 @@ pub invariant_of-self : goal.invariant_of-self
 invariant_of-self g c =
     let l = c.args.self.now in
     let all_is = ap (λ (front : List Piece). whole front c.add.new.self) (sym (append-nil l.writer.put)) ∙ c.in_default.ensures.whole l.writer.put (put_below l c.args.piece c.requires) in
-    taking_after l c.args.piece c.requires l.writer c.add.new.self refl refl all_is refl c.in_default.ensures.last
+    taking_after l c.args.piece c.requires l.writer c.add.new.self refl refl refl all_is refl c.in_default.ensures.last
 
 pub returns-in_default : goal.returns-in_default
 returns-in_default g c =
@@ -43,7 +43,7 @@ invariant_of-self-in_default-put g c =
     let l = c.args.self.now in
     let put = c.in_default-put.ensures in
     let all_is = ap (λ (front : List Piece). whole front c.add.new.self) put.put ∙ c.in-Some.ensures.whole l.writer.put (put_below l c.args.piece c.requires) in
-    taking_after l c.args.piece c.requires c.put.new.self c.add.new.self put.settings put.level all_is put.frame c.in-Some.ensures.last
+    taking_after l c.args.piece c.requires c.put.new.self c.add.new.self put.settings put.version put.level all_is put.frame c.in-Some.ensures.last
 
 pub returns : goal.returns
 returns g c =
@@ -52,16 +52,16 @@ returns g c =
     record {
       taken = ap (λ (front : List Piece). whole front c.add.new.self) put.put ∙ c.in-Some.ensures.whole l.writer.put (put_below l c.args.piece c.requires);
       failed = tt;
-      lands = lands_wrote (bays g) l _ c.args.bay.now c.put.new.bay _ (record { settings = put.settings; level = put.level; frame = refl }) put.within put.kept put.writing;
+      lands = lands_wrote (bays g) l _ c.args.bay.now c.put.new.bay _ (record { settings = put.settings; version = put.version; level = put.level; frame = refl }) put.within put.kept put.writing;
     }
 
 -- ---- one whose put failed
 
 pub start-requires : goal.start-requires
-start-requires g c = frame_stands c.args.self.now c.put.new.self c.in-Err.ensures.settings
+start-requires g c = record { version = c.args.self.now.taking.known; frame = frame_stands c.args.self.now c.put.new.self c.in-Err.ensures.settings }
 
 pub invariant_of-self-in-Err : goal.invariant_of-self-in-Err
-invariant_of-self-in-Err g c = taking_anew c.start.new.self c.new-self.result c.start.ensures.put c.new-self.ensures c.args.self.now.frame c.start.ensures.frame
+invariant_of-self-in-Err g c = taking_anew c.start.new.self c.new-self.result c.start.ensures.put c.new-self.ensures c.args.self.now.version c.args.self.now.frame c.args.self.now.taking.known c.start.ensures.version c.start.ensures.frame
 
 pub returns-in-Err : goal.returns-in-Err
 returns-in-Err g c =
@@ -71,6 +71,6 @@ returns-in-Err g c =
       taken = tt;
       failed = taken_none c.start.new.self c.new-self.result started.put c.new-self.ensures;
       lands = lands_wrote (bays g) c.args.self.now _ c.args.bay.now c.put.new.bay _
-          (record { settings = started.settings ∙ put.settings; level = started.level ∙ put.level; frame = refl }) put.within put.kept
+          (record { settings = started.settings ∙ put.settings; version = started.version ∙ sym c.args.self.now.taking.version_is; level = started.level ∙ put.level; frame = refl }) put.within put.kept
           (λ seen told landing later told_later. started.writing (later FRAMES));
     }

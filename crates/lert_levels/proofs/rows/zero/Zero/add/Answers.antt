@@ -40,7 +40,8 @@ pub add-requires : goal.add-requires
 add-requires g c =
     let known = known g (goal.at.add-requires g c).After-grow in
     record {
-      positive = omega arith;
+      some = omega arith;
+      few = omega arith;
       has_room = add_fits known c.index_mut.result.now c.index_mut.ensures.value;
       below = add_below known c.index_mut.result.now c.index_mut.ensures.value c.args.tail c.requires.below;
     }
@@ -50,8 +51,9 @@ invariant_of-self g c =
     let at = (goal.at.invariant_of-self g c).After-grow in
     let known = known g at in
     rw c.grow.ensures.to (
-      add_filled known c.index_mut.result.now c.add.new.self c.args.tail c.index_mut.ensures.value c.add.ensures.pieces c.add.ensures.room c.add.ensures.quotient_bits c.add.ensures.width,
-      added_bounded known c.index_mut.result.now c.add.new.self c.args.tail c.index_mut.ensures.value c.add.ensures.pieces
+      add_filled known c.index_mut.result.now c.add.new.self c.args.tail c.index_mut.ensures.value c.add.ensures.pieces c.add.ensures.adds c.add.ensures.room
+          c.add.ensures.quotient_bits c.add.ensures.width,
+      added_bounded known c.index_mut.result.now c.add.new.self c.args.tail 1 c.index_mut.ensures.value c.add.ensures.pieces
           c.self.inside.bound c.add-2.new.self c.self.inside.earlier c.self.invariant.1 c.add-2.ensures.counts,
       (newest g at).numbers,
     )
@@ -59,4 +61,4 @@ invariant_of-self g c =
 pub returns : goal.returns
 returns g c =
     rw c.grow.ensures.to
-    (add_bins (known g (goal.at.returns g c).After-grow) c.index_mut.result.now c.add.new.self c.args.tail c.index_mut.ensures.value c.add.ensures.pieces)
+    (add_bins (known g (goal.at.returns g c).After-grow) c.index_mut.result.now c.add.new.self c.args.tail 1 c.index_mut.ensures.value c.add.ensures.pieces)

@@ -12,7 +12,7 @@ loop-preserved g c =
     (sym c.in_ok-push.ensures.items)
     (empty_more g.T.CountTable c.args.settings.now c.loop.tables.items c.loop.counter c.loop.invariant
     c.in_ok-empty_table.field-0
-    c.in_ok-empty_table.ensures.empty c.in_ok-empty_table.ensures.room c.in_ok-empty_table.ensures.quotient_bits c.in_ok-empty_table.ensures.width)
+    c.in_ok-empty_table.ensures.empty c.in_ok-empty_table.ensures.adds c.in_ok-empty_table.ensures.room c.in_ok-empty_table.ensures.quotient_bits c.in_ok-empty_table.ensures.width)
 
 pub invariant_of-result : goal.invariant_of-result
 invariant_of-result g c = (

@@ -15,6 +15,7 @@ start_at-requires g c =
     let same = sym (reader_here c.self.inside.settings c.self.inside.readers.items 0 c.index_mut-reader.result.now readers.of_settings readers.some
     c.index_mut-reader.ensures.value ∙ c.self.view_is) in
     record {
+      version = c.requires.version;
       first = c.requires.first;
       last = subst (λ (s : Numbers). c.args.level ≤ s.levels) same c.requires.last;
       frame = subst (λ (s : Numbers). c.args.frame ≤ s.bins) same c.requires.frame;
@@ -28,6 +29,7 @@ check-requires g c =
     let same = sym (c.start_at.ensures.settings ∙ reader_here c.self.inside.settings c.self.inside.readers.items 0 c.index_mut-reader.result.now readers.of_settings readers.some
     c.index_mut-reader.ensures.value ∙ c.self.view_is) in
     record {
+      version = c.requires.version;
       frame = subst (λ (s : Numbers). c.args.frame ≤ s.bins) same c.requires.frame;
       some = c.requires.some;
       width = subst (λ (level : ℕ). c.args.width ≤ span c.start_at.new.self.settings level) (sym c.start_at.ensures.level)
@@ -51,9 +53,9 @@ returns g c =
     let readers = c.self.invariant.readers_are in
     let same = c.start_at.ensures.settings ∙ reader_here c.self.inside.settings c.self.inside.readers.items 0 c.index_mut-reader.result.now readers.of_settings readers.some
     c.index_mut-reader.ensures.value ∙ c.self.view_is in
-    let left : (file : List ℕ) → frame_left c.start_at.new.self.settings c.start_at.new.self.level c.args.frame c.args.width file
-    ≡ frame_left c.args.self.now c.args.level c.args.frame c.args.width file =
-    λ file i. frame_left (same i) (c.start_at.ensures.level i) c.args.frame c.args.width file in
+    let left : (file : List ℕ) → frame_left c.start_at.new.self.settings c.args.version c.start_at.new.self.level c.args.frame c.args.width file
+    ≡ frame_left c.args.self.now c.args.version c.args.level c.args.frame c.args.width file =
+    λ file i. frame_left (same i) c.args.version (c.start_at.ensures.level i) c.args.frame c.args.width file in
     record {
       secured = λ seen told long. when_ok c.check.result _ _ (λ whole. inr (sym (left (seen FRAMES)) ∙ whole)) (c.check.ensures.whole seen told);
       malformed = λ seen told at is. sym (left (seen FRAMES)) ∙ c.check.ensures.malformed seen told at is;

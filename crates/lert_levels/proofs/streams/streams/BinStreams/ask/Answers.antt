@@ -41,5 +41,5 @@ returns-clause-asked g c =
       limit = next.limit;
       malformed = next.malformed;
       leaves = next.breaks;
-      same = record { settings = next.settings; level = next.level; place = next.place; wide = next.wide };
+      same = record { settings = next.settings; version = next.version; level = next.level; place = next.place; wide = next.wide };
     })

@@ -1,11 +1,7 @@
-use Rattle.std.proofs.Common.{◌≡◌, ◌<◌, None, Ok, length, sym, subst, refl, ap, arith}
-use Rattle.std.proofs.lemmas.Result.{err_from_is_err_and}
-use Rattle.lert_merge.specs.order.Ordering.{Ordering, AreRead, Tells}
-use Rattle.lert_merge.proofs.order.AskLemmas.{AreLawful, IsAsked, IsCalled, all_refused, breaks_at}
-use Rattle.lert_merge.proofs.order.OrderLemmas.{refused_stands}
-use Rattle.lert_merge.proofs.order.GiveLemmas.{front_above, given_stands, given_gives, given_seen, given_told, given_whole}
-use Rattle.lert_merge.specs.order.Fronts.{AreAllLast}
-use Rattle.lert_merge.proofs.order.StepLemmas.{reading_none, ok_apart, some_apart, rose_none}
+use Rattle.std.proofs.{Common.{◌≡◌, ◌<◌, None, Ok, length, sym, subst, refl, ap, arith}, lemmas.Result.err_from_is_err_and}
+use Rattle.lert_merge.specs.{order.Ordering.{Ordering, AreRead, Tells}, order.Fronts.AreAllLast}
+use Rattle.lert_merge.proofs.{order.AskLemmas.{AreLawful, IsAsked, IsCalled, all_refused, breaks_at}, order.OrderLemmas.refused_stands}
+use Rattle.lert_merge.proofs.{order.GiveLemmas.{front_above, given_stands, given_gives, given_seen, given_told, given_whole}, order.StepLemmas.{reading_none, ok_apart, some_apart, rose_none}}
 use Rattle.lert_merge.proofs.order.ToldLemmas.{are_over, known_seen}
 use Rattle.lert_merge.proofs.order.order.Order.give.Given as given
 use Rattle.lert_merge.proofs.order.order.Order.give.Goals as goal

@@ -1,9 +1,7 @@
-use Rattle.std.proofs.Common.{refl, ◌∙◌, arith}
-use Rattle.std.proofs.lemmas.Result.{err_from_is_err_and}
+use Rattle.std.proofs.{Common.{refl, ◌∙◌, arith}, lemmas.Result.err_from_is_err_and}
 use Rattle.lert_io.proofs.Rising.{risen_since}
 use Rattle.lert_merge.specs.order.Ordering.{none_of}
-use Rattle.lert_merge.proofs.order.AskLemmas.{AreLawful}
-use Rattle.lert_merge.proofs.order.StepLemmas.{reading_none, reading_more, breaks_on, gives_on, gives_started, told_started, whole_started, ok_apart}
+use Rattle.lert_merge.proofs.{order.AskLemmas.AreLawful, order.StepLemmas.{reading_none, reading_more, breaks_on, gives_on, gives_started, told_started, whole_started, ok_apart}}
 use Rattle.lert_merge.proofs.order.order.Order.read_first.Given as given
 use Rattle.lert_merge.proofs.order.order.Order.read_first.Goals as goal
 

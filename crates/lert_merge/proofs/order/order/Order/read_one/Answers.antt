@@ -1,8 +1,6 @@
-use Rattle.std.proofs.Common.{◌<◌, Ok, length, sym, ap, subst, refl}
-use Rattle.std.proofs.lemmas.Result.{err_from_is_err_and}
+use Rattle.std.proofs.{Common.{◌<◌, Ok, length, sym, ap, subst, refl}, lemmas.Result.err_from_is_err_and}
 use Rattle.lert_merge.specs.order.Ordering.{Ordering}
-use Rattle.lert_merge.proofs.order.AskLemmas.{AreLawful, IsAsked, IsCalled, all_refused, breaks_at}
-use Rattle.lert_merge.proofs.order.OrderLemmas.{refused_stands}
+use Rattle.lert_merge.proofs.{order.AskLemmas.{AreLawful, IsAsked, IsCalled, all_refused, breaks_at}, order.OrderLemmas.refused_stands}
 use Rattle.lert_merge.proofs.order.ReadLemmas.{read_stands, read_gives, read_told, read_whole}
 use Rattle.lert_merge.proofs.order.order.Order.read_one.Given as given
 use Rattle.lert_merge.proofs.order.order.Order.read_one.Goals as goal

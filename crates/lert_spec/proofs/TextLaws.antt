@@ -1,9 +1,7 @@
 -- How far a text agrees, and numbers read behind a part of a list.
-use Rattle.std.proofs.Common.{◌≡◌, ℕ, zero, suc, ◌+◌, ◌≤◌, List, [], ◌∷◌, length, drop, refl, ap, sym, ◌∙◌, add-suc}
-use Rattle.std.proofs.Math.ListN.{drop_of_length-le}
-use Rattle.std.proofs.lemmas.List.{get_or-drop}
+use Rattle.std.proofs.{Common.{◌≡◌, ℕ, zero, suc, ◌+◌, ◌≤◌, List, [], ◌∷◌, length, drop, refl, ap, sym, ◌∙◌, add-suc}, Math.ListN.drop_of_length-le, lemmas.List.get_or-drop}
 use Rattle.byteorder.specs.Endian.{little_from}
-use Rattle.lert_spec.specs.Trace.{agreed}
+use Rattle.lert_spec.specs.Agreed.{agreed}
 
 agreed-nil : (xs : List ℕ) → agreed xs [] ≡ 0
 agreed-nil [] = refl

@@ -1,17 +1,11 @@
 -- The trace format: eight header bytes, then keys of eight bytes each, the lowest byte first, to the end.
-use Rattle.std.specs.Prelude.{ℕ, suc, ◌+◌, ◌-◌, ◌*◌, ◌/◌, ◌%◌, ◌==◌, nat_lt, is_none, List, [], ◌∷◌, length, map, Option, Some, None, if◌then◌else◌}
-use Rattle.std.specs.List.{range_with_len}
+use Rattle.std.specs.{Prelude.{ℕ, ◌+◌, ◌-◌, ◌*◌, ◌/◌, ◌%◌, ◌==◌, nat_lt, is_none, List, [], ◌∷◌, length, map, Option, Some, None, if◌then◌else◌}, List.range_with_len}
 use Rattle.byteorder.specs.Endian.{little_from}
+use Rattle.lert_spec.specs.Agreed.{agreed}
 
 -- the bytes that begin a trace: the letters LERT, and version 1
 abbrev pub trace_header : List ℕ
 trace_header = 76 ∷ 69 ∷ 82 ∷ 84 ∷ 1 ∷ 0 ∷ 0 ∷ 0 ∷ []
-
--- how many bytes two texts have in common, from the front on
-abbrev pub agreed : List ℕ → List ℕ → ℕ
-agreed [] ys = 0
-agreed (x ∷ xs) [] = 0
-agreed (x ∷ xs) (y ∷ ys) = if x == y then suc (agreed xs ys) else 0
 
 -- the place at which bytes first leave the trace format: at the first header byte that differs, at their length where
 -- they end inside the header, or at the first byte of a last key that is cut; none where they are a trace
