@@ -2,7 +2,9 @@
 use Rattle.std.proofs.Common.{ℕ, ◌≡◌, ◌+◌, ◌-◌, ◌<◌, ◌≤◌, List, [], ◌∷◌, ◌++◌, length, map, take, drop, get_or, set, ap, sym, ◌∙◌, arith, inl, inr, subst, length-append, length-set, length-take}
 use Rattle.std.proofs.{Common.{length-drop, Option, Some}, lemmas.Bool.{cases_lt, cases_eq}}
 use Rattle.std.proofs.lemmas.List.{get_or-drop, get_or-take, get_or-append-add, length-map, get_or-map, get_or_append_left, get_or_push, get_or-set_same, get_or-set_other}
-use Rattle.lert_levels.specs.{landing.Landed.{taken, IsLanding, IsOfLevel}, flush.Merged.picked, landing.Landings.{Home, home, AreLandings, AreOfLevels, AreLanding, IsOutside, HaveEnded}, landing.Summed.sums_of}
+use Rattle.lert_levels.specs.{landing.Landed.{taken, IsLanding, IsOfLevel}, flush.Merged.picked}
+use Rattle.lert_levels.specs.{landing.Landings.{Home, home, AreLandings, AreOfLevels, AreLanding, IsOutside, HaveEnded}}
+use Rattle.lert_levels.specs.{landing.Summed.sums_of}
 use Rattle.lert_levels.specs.{declared.landing.landing.Landing.Landing, declared.rows.bin_at.BinAt.BinAt, rows.Landing.{IsApart, LeavesRest, KeepsRest}, Ready.AreStarted}
 use Rattle.lert_bay.specs.{declared.bay.TheConstants.FRAMES, Files.{Files, IfTold}, Kept.Bays}
 use Rattle.lert_frames.specs.Frame.{HoldsFrame}
@@ -79,8 +81,10 @@ module _ (old new : List Landing) (homes : map home new ≡ map home old) where
 pub stand_all : {B : Type 0} (bays : Bays B) (old new : List Landing) (before middle after : B) (s : Numbers) (version : ℕ) (parts : List (Option ℕ)) (lists : List (List Piece)) (seen : Files) →
     map home new ≡ map home old → AreLandings s version old → KeepsRest bays (IsOutside old) before middle → KeepsRest bays (IsOutside new) middle after →
     IfTold (bays.files before) (λ seen. AreLanding old (seen FRAMES)) →
-    ((s : Numbers) (version : ℕ) → AreLandings s version old → IfTold (bays.files before) (λ seen. AreLanding old (seen FRAMES) → IfTold (bays.files middle) (λ after. AreLanding new (after FRAMES)))) →
-    ((s : Numbers) (version : ℕ) → AreLandings s version new → IfTold (bays.files middle) (λ seen. AreLanding new (seen FRAMES) → IfTold (bays.files after) (λ after. HaveEnded s version new (after FRAMES)))) →
+    ((s : Numbers) (version : ℕ) → AreLandings s version old → IfTold (bays.files before) (λ seen. AreLanding old (seen FRAMES) →
+      IfTold (bays.files middle) (λ after. AreLanding new (after FRAMES)))) →
+    ((s : Numbers) (version : ℕ) → AreLandings s version new → IfTold (bays.files middle) (λ seen. AreLanding new (seen FRAMES) →
+      IfTold (bays.files after) (λ after. HaveEnded s version new (after FRAMES)))) →
     ((k : ℕ) (d : Landing) → k < length new → taken (get_or new k d) ≡ sums_of (picked parts k lists)) → bays.files after ≡ Some seen →
     (k : ℕ) (d : Landing) → k < length old → HoldsFrame s version (k + 1) (get_or old k d).frame (seen FRAMES) (sums_of (picked parts k lists))
 stand_all bays old new before middle after s version parts lists seen homes are rest_one rest_two landing merged ended took told k d below =
@@ -100,7 +104,8 @@ first_landings s n landings are k d below =
     let reached : k < n = omega (arith, below, length-take n landings) in
     subst (IsOfLevel s (k + 1)) (sym (get_or-take n landings k d reached)) (are k d (omega (arith, below, length-take n landings)))
 
-pub first_started : (s : Numbers) (version : ℕ) (m : ℕ) (rows : List (List BinAt)) (n : ℕ) (landings : List Landing) → length rows ≤ n → AreStarted s version m rows landings → AreStarted s version m rows (take n landings)
+pub first_started : (s : Numbers) (version : ℕ) (m : ℕ) (rows : List (List BinAt)) (n : ℕ) (landings : List Landing) → length rows ≤ n →
+  AreStarted s version m rows landings → AreStarted s version m rows (take n landings)
 first_started s version m rows n landings few started = record {
   frame = λ k d below. ap (λ (l : Landing). l.frame) (get_or-take n landings k d (omega (arith, below, few))) ∙ started.frame k d below;
   of_version = λ k d below. ap (λ (l : Landing). l.writer.version) (get_or-take n landings k d (omega (arith, below, few))) ∙ started.of_version k d below;

@@ -2,7 +2,9 @@
 use Rattle.std.specs.Prelude.{ℕ, ◌≡◌, ◌+◌, ◌-◌, ◌*◌, ◌<◌, ◌≤◌, List, [], length, sum, Option, All, slice_index_or}
 use Rattle.lert_bay.specs.{declared.bay.TheConstants.FRAMES, Files.{Files, IfTold}}
 use Rattle.lert_frames.specs.Frame.{HoldsFrame}
-use Rattle.lert_levels.specs.{flush.Merged.{AreTaken, picked}, landing.Landings.{AreLandings, AreOfLevels}, landing.Landed.{taken, IsLanding}, landing.Summed.sums_of, declared.landing.landing.Landing.Landing}
+use Rattle.lert_levels.specs.{flush.Merged.{AreTaken, picked}, landing.Landings.{AreLandings, AreOfLevels}}
+use Rattle.lert_levels.specs.{landing.Landed.{taken, IsLanding}, landing.Summed.sums_of}
+use Rattle.lert_levels.specs.{declared.landing.landing.Landing.Landing}
 use Rattle.lert_levels.specs.{declared.rows.bin_at.BinAt.BinAt, rows.Landing.{AreApart, AreLanded, landing_frame}, rows.Rows.AreFirst, Flushed.InNamed, Merged.{IsMade, IsFrames, widths_of}}
 use Rattle.lert_levels.specs.Parts.{part_at, parts_at, in_part, HaveParts}
 use Rattle.lert_merge.specs.declared.order.streams.Streams.{Ghosts as StreamsOf}

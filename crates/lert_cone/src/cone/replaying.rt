@@ -106,7 +106,8 @@ impl<B: Bay, T: CountTable> ReplayingCone<B, T> {
         // that the log's last record names are settled.
         requires log_shut { IsShutIfTold (B.files bay) (B.leaves bay) LOG last.log_end }
         requires journal { IfTold (B.files bay) (λ seen. IsWhollySettled (B.leaves bay) seen JOURNAL) }
-        requires frames { IfTold (B.files bay) (λ seen. (from to : ℕ) → InNamed room.settings written room.levels.rows from to → to ≤ length (seen FRAMES) → IsSettled (B.leaves bay) seen FRAMES from to) }
+        requires frames { IfTold (B.files bay) (λ seen. (from to : ℕ) → InNamed room.settings written room.levels.rows from to → to ≤ length (seen FRAMES) →
+            IsSettled (B.leaves bay) seen FRAMES from to) }
         ensures made { result ≡ record {
           bay = bay;
           made = bay;

@@ -1,5 +1,6 @@
 -- What the widths of the streams bound: the sums so far, and how many pieces still come.
-use Rattle.std.proofs.{Common.{ℕ, zero, suc, ◌≡◌, ◌≢◌, ◌+◌, ◌*◌, ◌-◌, ◌<◌, ◌≤◌, cond, sum_by, true, Option, None, List, [], ◌∷◌, ◌++◌, length, get_or, sum, ap, sym, ◌∙◌, subst, arith, inl, inr}, lemmas.Bool.cases_eq}
+use Rattle.std.proofs.{Common.{ℕ, zero, suc, ◌≡◌, ◌≢◌, ◌+◌, ◌*◌, ◌-◌, ◌<◌, ◌≤◌, cond, sum_by, true, Option, None, List, [], ◌∷◌, ◌++◌, length, get_or, sum, ap, sym, ◌∙◌, subst, arith, inl, inr}}
+use Rattle.std.proofs.{lemmas.Bool.cases_eq}
 use Rattle.lert_frames.specs.Place.{tail_limit}
 use Rattle.lert_levels.specs.landing.CostLaws.{costs-append, costs-sums_of}
 use Rattle.lert_levels.{specs.landing.Landed.{taken, CanTake, IsLandingOf}, specs.landing.Summed.sums_of, specs.landing.Whole.AreUpTo, specs.declared.landing.landing.Landing.Landing}
@@ -7,7 +8,9 @@ use Rattle.lert_levels.{specs.declared.landing.sum.Sum.Sum, specs.flush.Merged.{
 use Rattle.lert_levels.proofs.flush.SumsLaws.{total-sums_of, up_to-sums_of}
 use Rattle.lert_levels.proofs.flush.GatheringLaws.{IsGathering, HasGiven, more, within, len_more, here_more, elsewhere_more, taken_more, sums_are, next_some, next_below}
 use Rattle.lert_merge.{specs.order.Fronts.front_at, specs.order.Ordering.{Ordering, HasTaken}, specs.declared.order.streams.Streams.{Ghosts as StreamsOf}}
-use Rattle.lert_spec.{specs.declared.numbers.Numbers.Numbers, specs.declared.piece.Piece.Piece, specs.Edges.span, specs.Table.{cost, costs, total, plus}, proofs.CostLaws.{cost_some, costs_from}, proofs.Tables.total-plus}
+use Rattle.lert_spec.{specs.declared.numbers.Numbers.Numbers, specs.declared.piece.Piece.Piece, specs.Edges.span}
+use Rattle.lert_spec.{specs.Table.{cost, costs, total, plus}, proofs.CostLaws.{cost_some, costs_from}}
+use Rattle.lert_spec.{proofs.Tables.total-plus}
 
 -- ---- sums over the first streams
 
@@ -110,7 +113,8 @@ module _ {S C : Type 0} (members : StreamsOf S C) (version width : S → ℕ →
               ) in less)),
         )
 
-    pub part_fits : (number : ℕ) → ((k : ℕ) → k < n → version first.streams k ≡ number) → (parts : List (Option ℕ)) → length parts ≡ n → (part : ℕ) → is_of (get_or parts next.0 None) part ≡ true → (widths : List ℕ) → AreWide width first.streams widths n →
+    pub part_fits : (number : ℕ) → ((k : ℕ) → k < n → version first.streams k ≡ number) → (parts : List (Option ℕ)) → length parts ≡ n → (part : ℕ) →
+      is_of (get_or parts next.0 None) part ≡ true → (widths : List ℕ) → AreWide width first.streams widths n →
         costs number (sums_of (picked parts part lists)) + cost number next.1.count ≤ sum (picked parts part widths)
     part_fits number versions parts len part own widths wide =
         let f : List Piece → ℕ = costs number in
@@ -133,7 +137,8 @@ module _ {S C : Type 0} (members : StreamsOf S C) (version width : S → ℕ →
         )
 
     -- the landing of a part can take the piece
-    pub can_take : (s : Numbers) (number : ℕ) → ((k : ℕ) → k < n → version first.streams k ≡ number) → ((k : ℕ) → k < n → members.limit first.streams k ≤ tail_limit s) → (parts : List (Option ℕ)) → length parts ≡ n → (part : ℕ) →
+    pub can_take : (s : Numbers) (number : ℕ) → ((k : ℕ) → k < n → version first.streams k ≡ number) → ((k : ℕ) → k < n → members.limit first.streams k ≤ tail_limit s) →
+      (parts : List (Option ℕ)) → length parts ≡ n → (part : ℕ) →
         is_of (get_or parts next.0 None) part ≡ true → (widths : List ℕ) → AreWide width first.streams widths n → sum (picked parts part widths) ≤ span s (part + 1) →
         (l : Landing) → IsLandingOf s number (part + 1) l → taken l ≡ sums_of (picked parts part lists) → CanTake l next.1
     can_take s number versions limits parts len part own widths wide room l is taken_is =

@@ -48,7 +48,8 @@ bins_left-append s version file level [] others = ap (λ l. bins_left s version 
 bins_left-append s version file level (row ∷ rows) others =
     ap (λ left. map (bin_left s version file level) row ++ left) (bins_left-append s version file (suc level) rows others)
     ∙ sym (append_assoc (map (bin_left s version file level) row) (bins_left s version file (suc level) rows) (bins_left s version file (suc level + length rows) others))
-    ∙ ap (λ l. (map (bin_left s version file level) row ++ bins_left s version file (suc level) rows) ++ bins_left s version file l others) (let same : suc level + length rows ≡ level + suc (length rows) =
+    ∙ ap (λ l. (map (bin_left s version file level) row ++ bins_left s version file (suc level) rows) ++ bins_left s version file l others)
+      (let same : suc level + length rows ≡ level + suc (length rows) =
     omega arith in same)
 
 module _ (s : Numbers) (version : ℕ) (file : List ℕ) (rows : List (List BinAt)) (i : ℕ) (now : List BinAt) (here : get_or rows i [] ≡ now) (below : i < length rows)
@@ -94,7 +95,8 @@ rows_whole s version file level (row ∷ rows) whole =
     let here : All (λ bin. bin_left s version file level bin ≡ None) row = subst (λ l. All (λ bin. bin_left s version file l bin ≡ None) row) (let same : level + 0 ≡ level = omega arith in same)
     (whole 0 (omega arith)) in
     first_behind (map (bin_left s version file level) row) (bins_left s version file (suc level) rows) (row_whole (bin_left s version file level) row here)
-    ∙ rows_whole s version file (suc level) rows (λ k below. subst (λ l. All (λ bin. bin_left s version file l bin ≡ None) (get_or rows k [])) (let same : level + suc k ≡ suc level + k = omega arith in
+    ∙ rows_whole s version file (suc level) rows (λ k below. subst (λ l. All (λ bin. bin_left s version file l bin ≡ None) (get_or rows k []))
+      (let same : level + suc k ≡ suc level + k = omega arith in
     same) (whole (suc k) (omega arith)))
 
 -- bins of rows that all stand leave their format nowhere

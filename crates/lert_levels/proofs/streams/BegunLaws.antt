@@ -4,7 +4,8 @@ use Rattle.std.proofs.Common.{length-append}
 use Rattle.lert_bay.{specs.declared.bay.TheConstants.FRAMES, specs.Files.Files}
 use Rattle.lert_frames.{specs.Frame.frame_left, specs.Place.{frame_place, frame_len, tail_limit}, specs.ToCome.{if_whole, told_of}}
 use Rattle.lert_merge.{specs.order.Members.{given_at, limit_at}, specs.order.Untouched.IsUntouched}
-use Rattle.lert_levels.{specs.streams.Asked.{Begins, frame_to_come, FrameLeavesAt}, specs.streams.Bin.{Bin, of_frame, to_come_of, given_of, limit_of, version_of, wide_of, LeavesAt, ReadsIn, IsSureBin}}
+use Rattle.lert_levels.{specs.streams.Asked.{Begins, frame_to_come, FrameLeavesAt}}
+use Rattle.lert_levels.{specs.streams.Bin.{Bin, of_frame, to_come_of, given_of, limit_of, version_of, wide_of, LeavesAt, ReadsIn, IsSureBin}}
 use Rattle.lert_levels.{specs.streams.BinSet.{BinSet, AreSure, Reads}, specs.streams.SetLaws.{to_come_at, LeavesIn}}
 
 -- ---- one bin more
@@ -91,7 +92,8 @@ module _ {old new : BinSet} {level frame width : ℕ} (begins : Begins old new l
   begun_widths k within = ap (λ (v : ℕ). limit_at (wide_of v) new.bins k) begins.version ∙ before_is (wide_of old.version) 0 k within
 
   -- the end of its place
-  end_is : begins.reader.place + frame_len begins.reader.settings begins.reader.version begins.reader.level ≡ frame_place old.settings old.version level frame + frame_len old.settings old.version level
+  end_is : begins.reader.place + frame_len begins.reader.settings begins.reader.version begins.reader.level ≡ frame_place old.settings old.version
+    level frame + frame_len old.settings old.version level
   end_is = λ i. begins.place i + frame_len (begins.of_settings i) (begins.of_version i) (begins.of_level i)
 
   pub begun_sure : (file : List ℕ) → AreSure old.bins file → (frame_place old.settings old.version level frame + frame_len old.settings old.version level ≤ length file)

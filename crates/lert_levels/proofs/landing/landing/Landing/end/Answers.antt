@@ -18,7 +18,8 @@ pub start-requires : goal.start-requires
 start-requires g c = record { version = c.args.self.now.taking.known; frame = frame_stands c.args.self.now c.end_frame-ended.new.writer c.end_frame-ended.ensures.settings }
 
 pub invariant_of-self : goal.invariant_of-self
-invariant_of-self g c = taking_anew c.start.new.self c.take-last.new.self c.start.ensures.put c.take-last.ensures.none c.args.self.now.version c.args.self.now.frame c.args.self.now.taking.known c.start.ensures.version c.start.ensures.frame
+invariant_of-self g c = taking_anew c.start.new.self c.take-last.new.self c.start.ensures.put c.take-last.ensures.none c.args.self.now.version
+  c.args.self.now.frame c.args.self.now.taking.known c.start.ensures.version c.start.ensures.frame
 
 pub returns : goal.returns
 returns g c =
