@@ -1,3 +1,4 @@
 pub mod Filled
+pub mod ItemsOf
 pub mod Levels
 pub mod WeaveExamples

@@ -3,7 +3,8 @@ use Rattle.std.proofs.{Common.{◌≡◌, ℕ, zero, suc, ◌<◌, List, [], ◌
 use Rattle.std.proofs.lemmas.Option.{none-some, same_Some}
 use Rattle.std.specs.Prelude.{All}
 use Rattle.lert_base.specs.{Packet.{Packet, events_of, of_trace}, Weave.{AreCut, IsBrought, IsWhole, IsWoven}}
-use Rattle.lert_spec.specs.{declared.numbers.Numbers.Numbers, Mix.{mix, part_of}}
+use Rattle.lert_spec.specs.{declared.numbers.Numbers.Numbers, Mix.{mix, part_of}, Items.units}
+use Rattle.lert_spec.proofs.ItemLaws.{length-units}
 
 -- settings with two cones and packets of two keys
 abbrev small : Numbers
@@ -14,7 +15,7 @@ abbrev traces : List (List ℕ)
 traces = (1 ∷ 2 ∷ 5 ∷ 6 ∷ []) ∷ (9 ∷ 11 ∷ 3 ∷ 12 ∷ 13 ∷ 14 ∷ []) ∷ []
 
 abbrev of_worker : ℕ → List ℕ → Packet
-of_worker worker keys = record { by = worker; trace = worker; keys = keys }
+of_worker worker keys = record { by = worker; trace = worker; items = units keys }
 
 abbrev behind_third : List Packet
 behind_third = of_worker 1 (14 ∷ []) ∷ []
@@ -46,7 +47,7 @@ Brought = IsBrought small 2 2
 brought_by : (worker : ℕ) (keys : List ℕ) (rest : List Packet) → worker < 2 → 0 < length keys → length keys < 9 → All Brought rest → All Brought (of_worker worker keys ∷ rest)
 brought_by worker keys rest low some few others =
     All-cons Brought (of_worker worker keys) rest
-    (record { some = omega (arith, some); few = omega (arith, few); of_them = low; by_is = omega (arith, low) })
+    (record { some = omega (arith, some, length-units keys); few = omega (arith, few, length-units keys); of_them = low; by_is = omega (arith, low) })
     others
 
 each_brought : All Brought woven
@@ -62,9 +63,9 @@ joined_each (suc zero) keys is = sym part_of_second ∙ ap (part_of small 1) (sa
 joined_each (suc (suc trace)) keys is = absurd (none-some keys is)
 
 -- of two packets the first is whole
-cut_of_two : (times : ℕ) (first second : Packet) → 0 < times → times < 5 → length first.keys ≡ times * 2 → AreCut 2 (first ∷ second ∷ [])
+cut_of_two : (times : ℕ) (first second : Packet) → 0 < times → times < 5 → length first.items ≡ times * 2 → AreCut 2 (first ∷ second ∷ [])
 cut_of_two times first second some few long zero packet below is =
-    subst (IsWhole 2) (same_Some _ _ is) (record { times = times; least = omega (arith, some); most = omega (arith, few); keys_are = long })
+    subst (IsWhole 2) (same_Some _ _ is) (record { times = times; least = omega (arith, some); most = omega (arith, few); items_are = long })
 cut_of_two times first second some few long (suc place) packet below is = absurd (omega (arith, below))
 
 cut_each : (trace : ℕ) → trace < 2 → AreCut 2 (of_trace woven trace)

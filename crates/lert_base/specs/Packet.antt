@@ -1,11 +1,16 @@
 -- Packets and histories.
 use Rattle.std.specs.Prelude.{ℕ, ◌==◌, List, filter, flat_map}
+use Rattle.lert_spec.specs.{declared.item.Item.Item, Items.keys_in}
 
--- an entry as it is seen: the number of who brings it, the trace that its keys come from, and the keys
+-- an entry as it is seen: the number of who brings it, the trace that its items come from, and the items
 pub record Packet : Type 0 where
   pub by : ℕ
   pub trace : ℕ
-  pub keys : List ℕ
+  pub items : List Item
+
+-- the keys of a packet, in their order
+abbrev pub keys_of : Packet → List ℕ
+keys_of packet = keys_in packet.items
 
 -- those of a history that the number brought, in their order
 abbrev pub own : List Packet → ℕ → List Packet
@@ -17,4 +22,4 @@ of_trace history trace = filter (λ packet. packet.trace == trace) history
 
 -- the keys of all packets, one behind the other
 abbrev pub events_of : List Packet → List ℕ
-events_of history = flat_map (λ packet. packet.keys) history
+events_of history = flat_map (λ packet. keys_of packet) history

@@ -3,22 +3,22 @@ use Rattle.std.specs.Prelude.{◌≡◌, ℕ, ◌+◌, ◌*◌, ◌%◌, ◌<◌
 use Rattle.lert_base.specs.{Beginning.BeginsWith, Packet.{Packet, of_trace, events_of}}
 use Rattle.lert_spec.specs.{declared.numbers.Numbers.Numbers, Mix.part_of}
 
--- a packet has as many keys as the settings name, or two, three or four times as many
+-- a packet has as many items as the settings name, or two, three or four times as many
 pub record IsWhole (size : ℕ) (packet : Packet) : Type 0 where
   pub times : ℕ
   pub least : 1 ≤ times
   pub most : times ≤ 4
-  pub keys_are : length packet.keys ≡ times * size
+  pub items_are : length packet.items ≡ times * size
 
 -- each packet but the last is whole
 abbrev pub AreCut : ℕ → List Packet → Type 0
 AreCut size packets = (place : ℕ) (packet : Packet) → place + 1 < length packets → slice_get packets place ≡ Some packet → IsWhole size packet
 
--- a packet has some keys, and at most four times as many as the settings name, of one of so many traces, and the worker
+-- a packet has some items, and at most four times as many as the settings name, of one of so many traces, and the worker
 -- brings it that reads this trace
 pub record IsBrought (s : Numbers) (workers traces : ℕ) (packet : Packet) : Type 0 where
-  pub some : 1 ≤ length packet.keys
-  pub few : length packet.keys ≤ 4 * s.packet
+  pub some : 1 ≤ length packet.items
+  pub few : length packet.items ≤ 4 * s.packet
   pub of_them : packet.trace < traces
   pub by_is : packet.by ≡ packet.trace % workers
 

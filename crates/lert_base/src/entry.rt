@@ -4,7 +4,7 @@ ghost use Rattle.std.specs.Prelude.{◌≡◌};
 
 use crate::key_list::KeyList;
 
-/// Keys of one trace that go to a cone together. A contract compares entries by the packets that
+/// Keys of one trace, with their weights, that go to a cone together. A contract compares entries by the packets that
 /// they carry (`packet_of`), so without the room of the key list.
 #[derive(Drop)]
 pub struct Entry {

@@ -2,9 +2,10 @@
 
 use lert_spec::Numbers;
 
-/// The cone and the eight numbers of a header as they stand there, valid or not.
+/// The version of a journal, 1 or 2, and the cone and the eight numbers of its header as they stand there, valid or not.
 #[derive(Clone, Copy, Debug, PartialEq, Eq)]
 pub struct Kept {
     pub cone: u32,
+    pub version: u8,
     pub numbers: Numbers,
 }

@@ -24,7 +24,7 @@ pub use entry::Entry;
 pub use held::Held;
 pub use kept::Kept;
 pub use key_list::KeyList;
-pub use lert_spec::{Numbers, Piece, Report};
+pub use lert_spec::{Item, Numbers, Piece, Report};
 pub use pieces::{PieceFault, Pieces};
 pub use settings::{BadSetting, Settings};
 pub use totals::Totals;

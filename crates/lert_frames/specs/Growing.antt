@@ -3,7 +3,8 @@ use Rattle.std.specs.Prelude.{◌≡◌, ℕ, ◌+◌, ◌-◌, ◌*◌, ◌<◌
 use Rattle.lert_frames.specs.declared.long.Long.{Long}
 use Rattle.lert_frames.specs.declared.outlet.Outlet.{Outlet}
 use Rattle.lert_frames.specs.Outlet.{next_place, size_of}
-use Rattle.lert_frames.specs.Place.{block_count, blocks_bytes, frame_len, frame_place, most_slots, slots_each, IsVersion}
+use Rattle.lert_frames.specs.Place.{block_count, blocks_bytes, frame_len, frame_place, most_slots, slots_each}
+use Rattle.lert_spec.specs.Items.{IsVersion}
 use Rattle.lert_frames.specs.Spilt.{Reaches}
 use Rattle.lert_spec.specs.declared.numbers.Numbers.{Numbers}
 use Rattle.lert_spec.specs.declared.piece.Piece.{Piece}

@@ -8,10 +8,6 @@ use Rattle.lert_spec.specs.Edges.{span, quotient_bits, tail_bits}
 abbrev pub block_count : Numbers → ℕ → ℕ
 block_count s level = 2 ^ quotient_bits s level / 64
 
--- the versions that files have: with the first each item of a bin weighs 1, and with the second from 1 to 255
-abbrev pub IsVersion : ℕ → Type 0
-IsVersion version = (1 ≤ version) × (version ≤ 2)
-
 -- the most slots that a frame has for each item of a bin
 abbrev pub slots_each : ℕ → ℕ
 slots_each version = if version == 1 then 2 else 4

@@ -4,7 +4,8 @@ use Rattle.std.proofs.Props.{props}
 use Rattle.lert_blocks.specs.Walk.{Found}
 use Rattle.lert_frames.specs.Decoded.{decoder_floor, decoder_limit, IsBetween}
 use Rattle.lert_frames.specs.Frame.{judged}
-use Rattle.lert_frames.specs.Place.{frame_len, tail_limit, IsVersion}
+use Rattle.lert_frames.specs.Place.{frame_len, tail_limit}
+use Rattle.lert_spec.specs.Items.{IsVersion}
 use Rattle.lert_frames.specs.declared.decoder.Decoder.{Decoder}
 use Rattle.lert_frames.specs.declared.reader.Sum.{Sum}
 use Rattle.lert_frames.specs.declared.reader.Sum.TheVariants.{Left, Over}

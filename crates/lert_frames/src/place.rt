@@ -1,7 +1,8 @@
 //! Where frames stand in the file of frames, and what the counts in one cost.
 
 ghost use Rattle.std.specs.Prelude.{◌≡◌, ◌≢◌, ℕ, ◌+◌, ◌<◌, ◌≤◌, ◌⊎◌, ◌^◌};
-ghost use Rattle.lert_frames.specs.Place.{block_count, frame_len, frame_place, most_slots, slots_each, IsVersion};
+ghost use Rattle.lert_frames.specs.Place.{block_count, frame_len, frame_place, most_slots, slots_each};
+ghost use Rattle.lert_spec.specs.Items.{IsVersion};
 ghost use Rattle.lert_spec.specs.Table.{cost};
 
 use lert_base::Settings;

@@ -1,7 +1,8 @@
 //! Settings, pieces and frames of them, as the tests share them.
 
 ghost use Rattle.std.specs.Prelude.{◌≡◌, ◌≤◌, ◌^◌, [], IfOk};
-ghost use Rattle.lert_frames.specs.Place.{tail_limit, IsVersion};
+ghost use Rattle.lert_frames.specs.Place.{tail_limit};
+ghost use Rattle.lert_spec.specs.Items.{IsVersion};
 ghost use Rattle.lert_spec.specs.Edges.{span};
 ghost use Rattle.lert_spec.specs.Table.{total, AreGiven};
 

@@ -1,7 +1,7 @@
 //! The bytes of a small frame, each place at which a file leaves it, and which pieces come back.
 
 ghost use Rattle.std.specs.Prelude.{◌≡◌, ◌≤◌, ◌^◌};
-ghost use Rattle.lert_frames.specs.Place.{IsVersion};
+ghost use Rattle.lert_spec.specs.Items.{IsVersion};
 ghost use Rattle.lert_spec.specs.Table.{total, AreGiven};
 
 use crate::bins::{

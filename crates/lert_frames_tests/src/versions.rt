@@ -1,7 +1,7 @@
 //! Frames of both versions: which counts a bin of a width may have, and how many slots.
 
 ghost use Rattle.std.specs.Prelude.{◌≤◌, ◌^◌};
-ghost use Rattle.lert_frames.specs.Place.{IsVersion};
+ghost use Rattle.lert_spec.specs.Items.{IsVersion};
 ghost use Rattle.lert_spec.specs.Table.{total, AreGiven};
 
 use crate::bins::{

@@ -11,7 +11,7 @@ ghost use Rattle.lert_levels.specs.rows.Landing.{KeepsRest, AreApart};
 ghost use Rattle.lert_levels.specs.rows.Loading.{OneBreaks};
 ghost use Rattle.lert_levels.specs.rows.Rows.{AreFirst};
 ghost use Rattle.lert_levels.specs.rows.Young.{AreLight};
-ghost use Rattle.lert_frames.specs.Place.{IsVersion};
+ghost use Rattle.lert_spec.specs.Items.{IsVersion};
 ghost use Rattle.lert_spec.specs.Edges.{capacity};
 ghost use Rattle.lert_spec.specs.declared.piece.Piece.{Piece};
 ghost use Rattle.lert_levels.specs.Merged.{IsMade, IsFrames};

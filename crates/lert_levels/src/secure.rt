@@ -7,7 +7,7 @@ ghost use Rattle.lert_bay.specs.Kept.{OnlyReads};
 ghost use Rattle.lert_levels.specs.rows.Loading.{OneBreaks, RowBreaks};
 ghost use Rattle.lert_levels.specs.rows.Rows.{IsRow, AreFirst};
 ghost use Rattle.lert_levels.specs.Sources.{of_bin, placed_at, AllOf, IsSecure, AreSecure};
-ghost use Rattle.lert_frames.specs.Place.{IsVersion};
+ghost use Rattle.lert_spec.specs.Items.{IsVersion};
 
 use crate::rows::{BinAt, FlushFault, Row};
 use crate::streams::StreamRoom;

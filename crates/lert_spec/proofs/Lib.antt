@@ -3,6 +3,7 @@ pub mod LookLaws
 pub mod BinLaws
 pub mod ByteLaws
 pub mod EdgeLaws
+pub mod ItemLaws
 pub mod FirstPass
 pub mod GivenLaws
 pub mod LimitLaws

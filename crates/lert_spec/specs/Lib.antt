@@ -2,6 +2,7 @@ pub mod Agreed
 pub mod Bins
 pub mod Counts
 pub mod Edges
+pub mod Items
 pub mod Limits
 pub mod Lines
 pub mod Look

@@ -3,7 +3,8 @@ use Rattle.std.proofs.Common.{ℕ, ◌≡◌, ◌+◌, ◌^◌, ◌<◌, ◌≤�
 use Rattle.std.specs.Prelude.{IfSome, IsSomeAnd, option_to_list}
 use Rattle.lert_bay.specs.{declared.bay.TheConstants.FRAMES, Files.{Files, IfTold}, Kept.{Bays, KeepsBay}}
 use Rattle.lert_bay.proofs.KeptLaws.{IsLawful, keeps_none}
-use Rattle.lert_frames.specs.{Frame.HoldsFrame, Kept.WritesWithin, Place.{frame_place, frame_len, tail_limit, IsVersion}, Writing.IsWriting, declared.writer.FrameWriter.FrameWriter}
+use Rattle.lert_frames.specs.{Frame.HoldsFrame, Kept.WritesWithin, Place.{frame_place, frame_len, tail_limit}, Writing.IsWriting, declared.writer.FrameWriter.FrameWriter}
+use Rattle.lert_spec.specs.Items.{IsVersion}
 use Rattle.lert_frames.proofs.{PlaceLaws.span_fits, ReadingLaws.given_none}
 use Rattle.lert_levels.specs.{rows.Landing.{IsApart, KeepsRest, CanStand}, declared.landing.landing.Landing.Landing, declared.landing.sum.Sum.Sum}
 use Rattle.lert_levels.specs.{landing.Landed.{taken, IsLanding, CanTake, SameLanding, Lands}, landing.Whole.{whole, AreBelow, IsTaking}}

@@ -1,6 +1,7 @@
 -- Pieces that were handed on, and the sum behind them that is open.
 use Rattle.std.specs.Prelude.{ℕ, ◌≡◌, ◌<◌, ◌≤◌, ◌++◌, List, [], All, None, IfSome, option_to_list}
-use Rattle.lert_frames.specs.{Place.IsVersion, declared.writer.FrameWriter.FrameWriter}
+use Rattle.lert_frames.specs.{declared.writer.FrameWriter.FrameWriter}
+use Rattle.lert_spec.specs.Items.{IsVersion}
 use Rattle.lert_spec.specs.{declared.piece.Piece.Piece, Edges.span, Table.costs}
 use Rattle.lert_levels.specs.declared.landing.sum.Sum.{Sum}
 

@@ -1,6 +1,7 @@
 -- The tables of a flush and their cursors, as bins.
 use Rattle.std.specs.Prelude.{ℕ, ◌≡◌, ◌*◌, ◌≤◌, ◌^◌, List, [], ◌∷◌, ◌++◌, length, map, take}
-use Rattle.lert_frames.specs.{Place.IsVersion, declared.reader.FrameReader.FrameReader}
+use Rattle.lert_frames.specs.{declared.reader.FrameReader.FrameReader}
+use Rattle.lert_spec.specs.Items.{IsVersion}
 use Rattle.lert_spec.specs.{declared.numbers.Numbers.Numbers, declared.piece.Piece.Piece, Table.AreGiven}
 use Rattle.lert_levels.specs.streams.Bin.{TableBin, Bin, of_table, of_frame, all_of}
 

@@ -4,7 +4,7 @@ ghost use Rattle.std.specs.Prelude.{◌≡◌, ℕ, ◌<◌, ◌≤◌, ◌^◌,
 ghost use Rattle.lert_bay.specs.declared.bay.TheConstants.{FRAMES};
 ghost use Rattle.lert_bay.specs.Files.{IfTold};
 ghost use Rattle.lert_bay.specs.Kept.{OnlyReads};
-ghost use Rattle.lert_frames.specs.Place.{IsVersion};
+ghost use Rattle.lert_spec.specs.Items.{IsVersion};
 ghost use Rattle.lert_spec.specs.Edges.{span};
 ghost use Rattle.lert_levels.specs.rows.Checked.{pieces_in, RowStands, EachStands, bin_left, row_left, rows_left};
 ghost use Rattle.lert_levels.specs.rows.Loading.{width_of, Stands};
