@@ -1,7 +1,7 @@
 -- The items of keys and of their weights, which stand side by side.
 use Rattle.std.proofs.Common.{◌≡◌, ℕ, suc, List, [], ◌∷◌, ◌++◌, length, refl, ap, arith}
 use Rattle.lert_base.specs.Keys.{items_of, weights_in}
-use Rattle.lert_spec.specs.{Items.keys_in}
+use Rattle.lert_spec.specs.{declared.item.Item.Item, Items.keys_in}
 
 pub length-items_of : (keys weights : List ℕ) → length weights ≡ length keys → length (items_of keys weights) ≡ length keys
 length-items_of [] weights same = refl
@@ -26,3 +26,12 @@ items_of-push [] (other ∷ weights) key weight same = absurd (omega (arith, sam
 items_of-push (other ∷ keys) [] key weight same = absurd (omega (arith, same))
 items_of-push (other ∷ keys) (more ∷ weights) key weight same =
     ap (λ rest. record { key = other; weight = more } ∷ rest) (items_of-push keys weights key weight (omega (arith, same)))
+
+-- items are those of their keys and their weights
+pub items_of-parts : (items : List Item) → items_of (keys_in items) (weights_in items) ≡ items
+items_of-parts [] = refl
+items_of-parts (item ∷ items) = ap (λ rest. item ∷ rest) (items_of-parts items)
+
+pub length-weights_in : (items : List Item) → length (weights_in items) ≡ length (keys_in items)
+length-weights_in [] = refl
+length-weights_in (item ∷ items) = ap suc (length-weights_in items)

@@ -5,6 +5,6 @@ use Rattle.lert_gatelog.specs.{Cost.read_cost, declared.fault.LogFault.LogFault,
 use Rattle.lert_journal.specs.Cost.{entry_cost}
 
 -- a refused record costs the same
-pub fault_cost : (most : ℕ) (packet : Packet) (fault : LogFault) → read_cost most (Err fault) ≤ entry_cost most packet (Err fault)
-fault_cost most packet Failed = omega arith
-fault_cost most packet (Malformed at) = omega arith
+pub fault_cost : (version most : ℕ) (packet : Packet) (fault : LogFault) → read_cost most (Err fault) ≤ entry_cost version most packet (Err fault)
+fault_cost version most packet Failed = omega arith
+fault_cost version most packet (Malformed at) = omega arith

@@ -4,22 +4,23 @@ use Rattle.byteorder.specs.{Endian.{little_number, little_bytes}, Numbers.little
 use Rattle.lert_spec.specs.{declared.numbers.Numbers.Numbers, Limits.IsInLimits}
 use Rattle.lert_journal.specs.Header.{magic, header, number_at, kept_in}
 
-pub begins : (s : Numbers) (cone : ℕ) → take 8 (header s cone) ≡ magic
-begins s cone = refl
+pub begins : (version : ℕ) (s : Numbers) (cone : ℕ) → take 8 (header (magic version) s cone) ≡ magic version
+begins version s cone = refl
 
 -- a number of four bytes reads back
 number : (x : ℕ) (rest : List ℕ) → x < 2 ^ 32 → little_number 4 (little_bytes 4 x ++ rest) ≡ x
 number x rest below = little_number-reads_back 4 x rest below
 
-pub reads_back : (s : Numbers) (cone : ℕ) → IsInLimits s → cone < 2 ^ 32 → kept_in (header s cone) ≡ record { cone = cone; numbers = s }
-reads_back s cone limits below =
-    let threshold_is : number_at (header s cone) 8 ≡ s.threshold = number s.threshold (drop 12 (header s cone)) (omega (arith, limits.threshold_to)) in
-    let room_is : number_at (header s cone) 12 ≡ s.room = number s.room (drop 16 (header s cone)) (omega (arith, limits.room_to)) in
-    let base_is : number_at (header s cone) 16 ≡ s.base = number s.base (drop 20 (header s cone)) (omega (arith, limits.base_to)) in
-    let packet_is : number_at (header s cone) 20 ≡ s.packet = number s.packet (drop 24 (header s cone)) (omega (arith, limits.packet_to)) in
-    let cone_is : number_at (header s cone) 28 ≡ cone = number cone [] below in
+pub reads_back : (version : ℕ) (s : Numbers) (cone : ℕ) → IsInLimits s → cone < 2 ^ 32 → kept_in (header (magic version) s cone) ≡ record { cone = cone; version = version; numbers = s }
+reads_back version s cone limits below =
+    let threshold_is : number_at (header (magic version) s cone) 8 ≡ s.threshold = number s.threshold (drop 12 (header (magic version) s cone)) (omega (arith, limits.threshold_to)) in
+    let room_is : number_at (header (magic version) s cone) 12 ≡ s.room = number s.room (drop 16 (header (magic version) s cone)) (omega (arith, limits.room_to)) in
+    let base_is : number_at (header (magic version) s cone) 16 ≡ s.base = number s.base (drop 20 (header (magic version) s cone)) (omega (arith, limits.base_to)) in
+    let packet_is : number_at (header (magic version) s cone) 20 ≡ s.packet = number s.packet (drop 24 (header (magic version) s cone)) (omega (arith, limits.packet_to)) in
+    let cone_is : number_at (header (magic version) s cone) 28 ≡ cone = number cone [] below in
     λ i. record {
       cone = cone_is i;
+      version = version;
       numbers = record {
         threshold = threshold_is i;
         bins = s.bins;

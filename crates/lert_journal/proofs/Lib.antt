@@ -1,4 +1,5 @@
 mod Examples
+pub mod ItemBytes
 pub mod HeaderLaws
 pub mod PayloadBack
 pub mod PayloadLaws

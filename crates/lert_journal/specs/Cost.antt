@@ -6,8 +6,8 @@ use Rattle.lert_journal.specs.Payload.{payload_of}
 
 -- the gate, the length and the payload of the record that gave this packet; gate and length where none came; and as many as the
 -- greatest record has, where it leaves the format
-abbrev pub entry_cost : ℕ → Packet → Result Bool LogFault → ℕ
-entry_cost most packet (Ok true) = 5 + length (payload_of packet)
-entry_cost most packet (Ok false) = 5
-entry_cost most packet (Err Failed) = 5
-entry_cost most packet (Err (Malformed at)) = 5 + most
+abbrev pub entry_cost : ℕ → ℕ → Packet → Result Bool LogFault → ℕ
+entry_cost version most packet (Ok true) = 5 + length (payload_of version packet)
+entry_cost version most packet (Ok false) = 5
+entry_cost version most packet (Err Failed) = 5
+entry_cost version most packet (Err (Malformed at)) = 5 + most

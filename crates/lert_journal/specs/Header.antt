@@ -4,14 +4,14 @@ use Rattle.byteorder.specs.Endian.{little_number, little_bytes}
 use Rattle.lert_base.specs.declared.kept.Kept.{Kept}
 use Rattle.lert_spec.specs.{declared.numbers.Numbers.Numbers, Agreed.agreed}
 
--- the bytes that begin a journal: the letters LERTJ, and version 1
-abbrev pub magic : List ℕ
-magic = 76 ∷ 69 ∷ 82 ∷ 84 ∷ 74 ∷ 1 ∷ 0 ∷ 0 ∷ []
+-- the bytes that begin a journal: the letters LERTJ, and its version
+abbrev pub magic : ℕ → List ℕ
+magic version = 76 ∷ 69 ∷ 82 ∷ 84 ∷ 74 ∷ version ∷ 0 ∷ 0 ∷ []
 
--- the header of a cone's journal
-abbrev pub header : Numbers → ℕ → List ℕ
-header s cone =
-    magic
+-- the header of a cone's file that begins with eight bytes
+abbrev pub header : List ℕ → Numbers → ℕ → List ℕ
+header begins s cone =
+    begins
     ++ little_bytes 4 s.threshold
     ++ little_bytes 4 s.room
     ++ little_bytes 4 s.base
@@ -23,10 +23,11 @@ header s cone =
 abbrev pub number_at : List ℕ → ℕ → ℕ
 number_at bytes place = little_number 4 (drop place bytes)
 
--- the cone and the numbers in the bytes of a header
+-- the cone, the version and the numbers in the bytes of a header
 abbrev pub kept_in : List ℕ → Kept
 kept_in bytes = record {
   cone = number_at bytes 28;
+  version = slice_index bytes 5;
   numbers = record {
     threshold = number_at bytes 8;
     bins = slice_index bytes 24;
@@ -39,10 +40,10 @@ kept_in bytes = record {
   };
 }
 
--- the place at which a file leaves the header of a journal: at the first of its first eight bytes that differs from
--- those that begin one, else at its length, where it ends inside the header; none where it has a header, of whatever
--- numbers. A file that ends behind its header leaves the format at its length too, for want of a gate
+-- the place at which a file leaves the header of a journal of the first version: at the first of its first eight bytes
+-- that differs from those that begin one, else at its length, where it ends inside the header; none where it has a header,
+-- of whatever numbers. A file that ends behind its header leaves the format at its length too, for want of a gate
 abbrev pub header_left : List ℕ → Option ℕ
 header_left bytes =
-    if nat_lt (agreed magic bytes) 8 then Some (agreed magic bytes)
+    if nat_lt (agreed (magic 1) bytes) 8 then Some (agreed (magic 1) bytes)
     else (if nat_lt (length bytes) 32 then Some (length bytes) else None)

@@ -1,6 +1,7 @@
 //! The header of a journal.
 
 ghost use Rattle.std.specs.Prelude.{◌≡◌, ◌≢◌, ℕ, ◌+◌, ◌≤◌, List, length, take, MatchOption, IfNone};
+ghost use Rattle.lert_spec.specs.Items.{IsVersion};
 ghost use Rattle.lert_journal.specs.Header.{magic, header, header_left, number_at, kept_in};
 
 use byteorder::{ByteOrder, LittleEndian};
@@ -14,10 +15,10 @@ pub const HEADER_LEN: usize = 32;
 // The letters LERTJ, and version 1.
 const MAGIC: [u8; 8] = [0x4c, 0x45, 0x52, 0x54, 0x4a, 0x01, 0x00, 0x00];
 
-/// Writes the header of a cone's journal.
+/// Writes the header of a cone's journal, of the first version.
 pub fn write_header(settings: &Settings, cone: u32, into: &mut [u8; HEADER_LEN])
-    ensures text { into.new ≡ header settings.now cone }
-    ensures reads_back { kept_in into.new ≡ record { cone = cone; numbers = settings.now } }
+    ensures text { into.new ≡ header (magic 1) settings.now cone }
+    ensures reads_back { kept_in into.new ≡ record { cone = cone; version = 1; numbers = settings.now } }
 {
     let numbers = settings.numbers();
     put(into, 0, &MAGIC);
@@ -35,16 +36,21 @@ pub fn write_header(settings: &Settings, cone: u32, into: &mut [u8; HEADER_LEN])
     put_u32(into, 28, cone);
 }
 
-/// The cone and the numbers in a header as they stand there, valid or not. None comes exactly where the
-/// bytes don't begin as a journal.
+/// The cone, the version and the numbers in a header as they stand there, the numbers valid or not. None comes exactly
+/// where the bytes don't begin as a journal of version 1 or 2.
 pub fn read_header(bytes: &[u8; HEADER_LEN]) -> Option<Kept>
-    ensures { MatchOption result (take 8 bytes.now ≢ magic)
-        (λ kept. (take 8 bytes.now ≡ magic) × (kept ≡ kept_in bytes.now)) }
+    ensures { MatchOption result ((version : ℕ) → IsVersion version → take 8 bytes.now ≢ magic version)
+        (λ kept. IsVersion kept.version × (take 8 bytes.now ≡ magic kept.version) × (kept ≡ kept_in bytes.now)) }
 {
-    if bytes[..8] != MAGIC[..] {
+    let version = bytes[5];
+    let is_known = version == 1 || version == 2;
+    let mut magic = MAGIC;
+    magic[5] = version;
+    if !is_known || bytes[..8] != magic[..] {
         return None;
     }
     Some(Kept {
+        version,
         cone: number_at(bytes, 28),
         numbers: Numbers {
             threshold: u64::from(number_at(bytes, 8)),
@@ -59,12 +65,12 @@ pub fn read_header(bytes: &[u8; HEADER_LEN]) -> Option<Kept>
     })
 }
 
-/// The place at which a file leaves the header of a journal, from its first 32 bytes or more, or all where it has fewer. It
-/// is that of the first of eight bytes that begins no journal, else the file's length, where it ends inside the
+/// The place at which a file leaves the header of a journal of the first version, from its first 32 bytes or more, or all
+/// where it has fewer. It is that of the first of eight bytes that begins no journal, else the file's length, where it ends inside the
 /// header. None where a header stands there, of whatever numbers.
 pub fn header_left(bytes: &[u8]) -> Option<u64>
     ensures place { (file : List ℕ) → take 32 bytes.now ≡ take 32 file → result ≡ header_left file }
-    ensures whole { IfNone result ((32 ≤ length bytes.now) × (take 8 bytes.now ≡ magic)) }
+    ensures whole { IfNone result ((32 ≤ length bytes.now) × (take 8 bytes.now ≡ magic 1)) }
 {
     let same = agreed(&MAGIC, bytes);
     if same < MAGIC.len() {

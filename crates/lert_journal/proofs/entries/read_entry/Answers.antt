@@ -14,10 +14,10 @@ use Rattle.lert_gatelog.proofs.Deciding.{open_or_closed, one_payload}
 use Rattle.lert_journal.specs.Payload.{payload_of, packet_in, IsJournaled}
 use Rattle.lert_journal.proofs.Costs.{fault_cost}
 use Rattle.lert_journal.proofs.OneAnswer.{packet_or_left, closed_or_left, left_by_payload, one_place_left, same_fault, same_place, fails, fails_there}
-use Rattle.lert_journal.proofs.OneAnswer.{ok_no_fault, place_no_failure, plus_five, payload_short, keys_fit, went_forward}
+use Rattle.lert_journal.proofs.OneAnswer.{ok_no_fault, place_no_failure, plus_five, payload_short, items_fit, went_forward}
 use Rattle.lert_journal.specs.Journal.{LeavesAt}
 use Rattle.lert_journal.proofs.PayloadBack.{packet_back}
-use Rattle.lert_journal.proofs.PayloadWhole.{whole_packet}
+use Rattle.lert_journal.proofs.PayloadWhole.{whole_items}
 use Rattle.lert_journal.proofs.entries.read_entry.Given as given
 use Rattle.lert_journal.proofs.entries.read_entry.Goals as goal
 
@@ -35,13 +35,13 @@ returns-in_err-count g c =
       found = λ seen told. tt;
       closed = λ seen told. tt;
       malformed = λ seen told at is. inl (said.malformed seen told at (ap Err (same_fault _ (Malformed at) is)));
-      reads_back = λ seen told packet holds. fails c.args.settings.now c.args.cone c.args.log.now.most (seen c.args.log.now.file) c.args.log.now.gate _
+      reads_back = λ seen told packet holds. fails c.args.version c.args.settings.now c.args.cone c.args.log.now.most (seen c.args.log.now.file) c.args.log.now.gate _
           (λ at is. said.malformed seen told at (ap Err is))
-          (λ at. packet_or_left c.args.settings.now c.args.cone c.args.log.now.most (seen c.args.log.now.file) c.args.log.now.gate at packet holds);
-      ends = λ seen told closed. fails c.args.settings.now c.args.cone c.args.log.now.most (seen c.args.log.now.file) c.args.log.now.gate _
+          (λ at. packet_or_left c.args.version c.args.settings.now c.args.cone c.args.log.now.most (seen c.args.log.now.file) c.args.log.now.gate at packet holds);
+      ends = λ seen told closed. fails c.args.version c.args.settings.now c.args.cone c.args.log.now.most (seen c.args.log.now.file) c.args.log.now.gate _
           (λ at is. said.malformed seen told at (ap Err is))
-          (λ at. closed_or_left c.args.settings.now c.args.cone c.args.log.now.most (seen c.args.log.now.file) c.args.log.now.gate at closed);
-      refuses = λ seen told at left_at. fails_there c.args.settings.now c.args.cone c.args.log.now.most (seen c.args.log.now.file) c.args.log.now.gate at _
+          (λ at. closed_or_left c.args.version c.args.settings.now c.args.cone c.args.log.now.most (seen c.args.log.now.file) c.args.log.now.gate at closed);
+      refuses = λ seen told at left_at. fails_there c.args.version c.args.settings.now c.args.cone c.args.log.now.most (seen c.args.log.now.file) c.args.log.now.gate at _
           (λ other is. said.malformed seen told other (ap Err is)) left_at;
       journaled = tt;
       moved = tt;
@@ -50,7 +50,7 @@ returns-in_err-count g c =
       stayed = (refl, refl);
       room = refl;
       only_reads = reading_as (bays g) (lawful g) _ _ _ _ (λ is. ap Err (same_fault _ Failed is)) said.only_reads;
-      handed = up_to_more c.args.log.now.file _ _ _ _ (fault_cost c.args.log.now.most (packet_of c.args.entry.now) _) said.handed;
+      handed = up_to_more c.args.log.now.file _ _ _ _ (fault_cost c.args.version c.args.log.now.most (packet_of c.args.entry.now) _) said.handed;
     })
 
 -- ---- a closed gate
@@ -91,12 +91,12 @@ returns-in_default-clause-only_reads g c = reading_as (bays g) (lawful g) _ _ _ 
 pub returns-in_default-clause-reads_back : goal.returns-in_default-clause-reads_back
 returns-in_default-clause-reads_back g c seen told packet holds =
     let closed = rw c.in_default.is at (c.in_ok-count.ensures.closed seen told) in
-    absurd (open_or_closed c.args.log.now.most (seen c.args.log.now.file) c.args.log.now.gate (payload_of packet) holds.stands closed)
+    absurd (open_or_closed c.args.log.now.most (seen c.args.log.now.file) c.args.log.now.gate (payload_of c.args.version packet) holds.stands closed)
 
 pub returns-in_default-clause-refuses : goal.returns-in_default-clause-refuses
 returns-in_default-clause-refuses g c seen told at =
     let closed = rw c.in_default.is at (c.in_ok-count.ensures.closed seen told) in
-    closed_or_left c.args.settings.now c.args.cone c.args.log.now.most (seen c.args.log.now.file) c.args.log.now.gate at closed
+    closed_or_left c.args.version c.args.settings.now c.args.cone c.args.log.now.most (seen c.args.log.now.file) c.args.log.now.gate at closed
 
 pub returns-in_default-clause-handed : goal.returns-in_default-clause-handed
 returns-in_default-clause-handed g c = rw c.in_default.is at c.in_ok-count.ensures.handed
@@ -106,14 +106,14 @@ returns-in_default-clause-handed g c = rw c.in_default.is at c.in_ok-count.ensur
 pub place_left-requires : goal.place_left-requires
 place_left-requires g c =
     let counted = rw c.in-Some.is at c.in_ok-count.ensures.counted in
-    payload_short c.in-Some.count c.args.log.now.most c.next.new.into counted.1 c.gate-gate.ensures.most
+    record { version = c.requires.version; short = payload_short c.in-Some.count c.args.log.now.most c.next.new.into counted.1 c.gate-gate.ensures.most }
 
 -- its payload leaves the format
 pub returns-in-Some-place_left : goal.returns-in-Some-place_left
 returns-in-Some-place_left g c =
     let counted = rw c.in-Some.is at c.in_ok-count.ensures.counted in
     let spoiled : (seen : Files) → g.B.Bay.files c.args.bay.now ≡ Some seen →
-    LeavesAt c.args.settings.now c.args.cone c.args.log.now.most (seen c.args.log.now.file) c.args.log.now.gate (c.gate-gate.result + 1 + c.in-Some-place_left.place) = λ seen told. inr (record {
+    LeavesAt c.args.version c.args.settings.now c.args.cone c.args.log.now.most (seen c.args.log.now.file) c.args.log.now.gate (c.gate-gate.result + 1 + c.in-Some-place_left.place) = λ seen told. inr (record {
       payload = take c.in-Some.count c.next.new.into;
       place = c.in-Some-place_left.place;
       stands = rw c.in-Some.is at (c.in_ok-count.ensures.opened seen told);
@@ -123,13 +123,13 @@ returns-in-Some-place_left g c =
     record {
       found = λ seen told. tt;
       closed = λ seen told. tt;
-      malformed = λ seen told at is. subst (LeavesAt c.args.settings.now c.args.cone c.args.log.now.most (seen c.args.log.now.file) c.args.log.now.gate)
+      malformed = λ seen told at is. subst (LeavesAt c.args.version c.args.settings.now c.args.cone c.args.log.now.most (seen c.args.log.now.file) c.args.log.now.gate)
           (same_place _ at (same_fault _ _ is)) (spoiled seen told);
-      reads_back = λ seen told packet holds. absurd (packet_or_left c.args.settings.now c.args.cone c.args.log.now.most (seen c.args.log.now.file) c.args.log.now.gate _ packet holds
+      reads_back = λ seen told packet holds. absurd (packet_or_left c.args.version c.args.settings.now c.args.cone c.args.log.now.most (seen c.args.log.now.file) c.args.log.now.gate _ packet holds
           (spoiled seen told));
-      ends = λ seen told closed. absurd (closed_or_left c.args.settings.now c.args.cone c.args.log.now.most (seen c.args.log.now.file) c.args.log.now.gate _ closed
+      ends = λ seen told closed. absurd (closed_or_left c.args.version c.args.settings.now c.args.cone c.args.log.now.most (seen c.args.log.now.file) c.args.log.now.gate _ closed
           (spoiled seen told));
-      refuses = λ seen told at left_at. inr (ap Malformed (one_place_left c.args.settings.now c.args.cone c.args.log.now.most (seen c.args.log.now.file) c.args.log.now.gate _ at
+      refuses = λ seen told at left_at. inr (ap Malformed (one_place_left c.args.version c.args.settings.now c.args.cone c.args.log.now.most (seen c.args.log.now.file) c.args.log.now.gate _ at
           (spoiled seen told) left_at));
       journaled = tt;
       moved = tt;
@@ -143,30 +143,31 @@ returns-in-Some-place_left g c =
 
 pub fill-requires : goal.fill-requires
 fill-requires g c =
-    let whole = whole_packet c.args.settings.now c.args.cone (take c.in-Some.count c.next.new.into) (sym c.in_default-place_left.ensures.place) in
+    let whole = whole_items c.args.version c.args.settings.now c.args.cone (take c.in-Some.count c.next.new.into) (sym c.in_default-place_left.ensures.place) in
     record {
       some = whole.1;
-      room = keys_fit (take c.in-Some.count c.next.new.into) _ c.args.entry.now.keys.room whole.2.few c.requires.entry;
+      weighed = c.in_default-place_left.ensures.holds.weighed;
+      room = items_fit c.args.version (take c.in-Some.count c.next.new.into) _ c.args.entry.now.keys.room c.in_default-place_left.ensures.holds.few c.requires.entry;
     }
 
 -- ---- a packet
 
 pub returns-clause-journaled : goal.returns-clause-journaled
 returns-clause-journaled g c said =
-    let whole = whole_packet c.args.settings.now c.args.cone (take c.in-Some.count c.next.new.into) (sym c.in_default-place_left.ensures.place) in
-    subst (IsJournaled c.args.settings.now c.args.cone) (sym c.fill.ensures.packet) whole.2
+    let whole = whole_items c.args.version c.args.settings.now c.args.cone (take c.in-Some.count c.next.new.into) (sym c.in_default-place_left.ensures.place) in
+    subst (IsJournaled c.args.version c.args.settings.now c.args.cone) (sym c.fill.ensures.packet) c.in_default-place_left.ensures.holds
 
 pub returns-clause-found : goal.returns-clause-found
 returns-clause-found g c seen told said =
     let stands = rw c.in-Some.is at (c.in_ok-count.ensures.opened seen told) in
-    let whole = whole_packet c.args.settings.now c.args.cone (take c.in-Some.count c.next.new.into) (sym c.in_default-place_left.ensures.place) in
-    let text : payload_of (packet_of c.fill.new.entry) ≡ take c.in-Some.count c.next.new.into = ap payload_of c.fill.ensures.packet ∙ c.fill.ensures.text whole.0 in
+    let whole = whole_items c.args.version c.args.settings.now c.args.cone (take c.in-Some.count c.next.new.into) (sym c.in_default-place_left.ensures.place) in
+    let text : payload_of c.args.version (packet_of c.fill.new.entry) ≡ take c.in-Some.count c.next.new.into = ap (payload_of c.args.version) c.fill.ensures.packet ∙ c.fill.ensures.text whole.0 in
     subst (IsOpen c.args.log.now.most (seen c.args.log.now.file) c.args.log.now.gate) (sym text) stands
 
 pub returns-clause-moved : goal.returns-clause-moved
 returns-clause-moved g c said =
-    let whole = whole_packet c.args.settings.now c.args.cone (take c.in-Some.count c.next.new.into) (sym c.in_default-place_left.ensures.place) in
-    let text : payload_of (packet_of c.fill.new.entry) ≡ take c.in-Some.count c.next.new.into = ap payload_of c.fill.ensures.packet ∙ c.fill.ensures.text whole.0 in
+    let whole = whole_items c.args.version c.args.settings.now c.args.cone (take c.in-Some.count c.next.new.into) (sym c.in_default-place_left.ensures.place) in
+    let text : payload_of c.args.version (packet_of c.fill.new.entry) ≡ take c.in-Some.count c.next.new.into = ap (payload_of c.args.version) c.fill.ensures.packet ∙ c.fill.ensures.text whole.0 in
     let moved = rw c.in-Some.is at c.in_ok-count.ensures.moved in
     let counted = rw c.in-Some.is at c.in_ok-count.ensures.counted in
     let long : length (take c.in-Some.count c.next.new.into) ≡ c.in-Some.count = length-take-le c.in-Some.count c.next.new.into
@@ -176,8 +177,8 @@ returns-clause-moved g c said =
 pub returns-clause-reads_back : goal.returns-clause-reads_back
 returns-clause-reads_back g c seen told packet holds =
     let stands = rw c.in-Some.is at (c.in_ok-count.ensures.opened seen told) in
-    let same = one_payload c.args.log.now.most (seen c.args.log.now.file) c.args.log.now.gate (take c.in-Some.count c.next.new.into) (payload_of packet) stands holds.stands in
-    (refl, c.fill.ensures.packet ∙ (ap packet_in same ∙ packet_back packet (omega (arith, holds.journaled.by_most)) (omega (arith, holds.journaled.trace_most)) holds.fits))
+    let same = one_payload c.args.log.now.most (seen c.args.log.now.file) c.args.log.now.gate (take c.in-Some.count c.next.new.into) (payload_of c.args.version packet) stands holds.stands in
+    (refl, c.fill.ensures.packet ∙ (ap (packet_in c.args.version) same ∙ packet_back c.args.version packet (omega (arith, holds.journaled.by_most)) (omega (arith, holds.journaled.trace_most)) holds.fits holds.journaled.weighed))
 
 pub returns-clause-ends : goal.returns-clause-ends
 returns-clause-ends g c seen told closed =
@@ -187,7 +188,7 @@ returns-clause-ends g c seen told closed =
 pub returns-clause-refuses : goal.returns-clause-refuses
 returns-clause-refuses g c seen told at left_at =
     let stands = rw c.in-Some.is at (c.in_ok-count.ensures.opened seen told) in
-    left_by_payload c.args.settings.now c.args.cone c.args.log.now.most (seen c.args.log.now.file) c.args.log.now.gate at (take c.in-Some.count c.next.new.into) stands left_at
+    left_by_payload c.args.version c.args.settings.now c.args.cone c.args.log.now.most (seen c.args.log.now.file) c.args.log.now.gate at (take c.in-Some.count c.next.new.into) stands left_at
     (sym c.in_default-place_left.ensures.place)
 
 pub returns-clause-closed : goal.returns-clause-closed
@@ -200,7 +201,7 @@ pub returns-clause-forward : goal.returns-clause-forward
 returns-clause-forward g c said =
     let moved = rw c.in-Some.is at c.in_ok-count.ensures.moved in
     let counted = rw c.in-Some.is at c.in_ok-count.ensures.counted in
-    went_forward c.args.log.now.gate c.next.new.self.gate c.in-Some.count c.args.log.now.most c.args.settings.now.packet (ap (λ log. log.gate) moved) counted.0 counted.1 c.requires.most
+    went_forward c.args.log.now.gate c.next.new.self.gate c.in-Some.count c.args.log.now.most _ (ap (λ log. log.gate) moved) counted.0 counted.1 c.requires.most
 
 pub returns-clause-waits : goal.returns-clause-waits
 returns-clause-waits g c said = absurd (true≢false said)
@@ -216,10 +217,10 @@ returns-clause-only_reads g c = reading_as (bays g) (lawful g) _ _ _ _ (λ is. a
 
 pub returns-clause-handed : goal.returns-clause-handed
 returns-clause-handed g c =
-    let whole = whole_packet c.args.settings.now c.args.cone (take c.in-Some.count c.next.new.into) (sym c.in_default-place_left.ensures.place) in
-    let text : payload_of (packet_of c.fill.new.entry) ≡ take c.in-Some.count c.next.new.into = ap payload_of c.fill.ensures.packet ∙ c.fill.ensures.text whole.0 in
+    let whole = whole_items c.args.version c.args.settings.now c.args.cone (take c.in-Some.count c.next.new.into) (sym c.in_default-place_left.ensures.place) in
+    let text : payload_of c.args.version (packet_of c.fill.new.entry) ≡ take c.in-Some.count c.next.new.into = ap (payload_of c.args.version) c.fill.ensures.packet ∙ c.fill.ensures.text whole.0 in
     let counted = rw c.in-Some.is at c.in_ok-count.ensures.counted in
     let long : length (take c.in-Some.count c.next.new.into) ≡ c.in-Some.count = length-take-le c.in-Some.count c.next.new.into
     (omega (arith, counted.1, c.requires.room, c.next.auto.into)) in
-    let same : length (payload_of (packet_of c.fill.new.entry)) ≡ c.in-Some.count = ap length text ∙ long in
+    let same : length (payload_of c.args.version (packet_of c.fill.new.entry)) ≡ c.in-Some.count = ap length text ∙ long in
     up_to_more c.args.log.now.file (5 + c.in-Some.count) _ _ _ (omega (arith, same)) (rw c.in-Some.is at c.in_ok-count.ensures.handed)
