@@ -1,6 +1,8 @@
 -- What a cone answers to a packet: it refuses it before the first step, or breaks off in the middle, or takes it.
 use Rattle.std.proofs.{Common.{◌≡◌, ℕ, ◌+◌, ◌<◌, true, false, List, [], ◌∷◌, ◌++◌, length, Some, Result, Err, OnOk, sym, ◌∙◌, subst, inl}, lemmas.Bool.false≢true}
 use Rattle.std.specs.{Prelude.{◌↔◌, IfOk, IfErr}, Result.IsErrAnd}
+use Rattle.lert_levels.specs.OnDisk.{written}
+use Rattle.lert_base.specs.Packet.{keys_of}
 use Rattle.lert_base.specs.{Packet.{Packet, events_of}, declared.cone_fault.ConeFault.ConeFault, declared.cone_fault.ConeFault.TheVariants.{Closed, Broken, CapacityFull}}
 use Rattle.lert_bay.specs.{Files.{Files, IfTold}, Kept.Bays}
 use Rattle.lert_gatelog.specs.Gated.{next_gate}
@@ -16,14 +18,14 @@ abbrev pub Admits : {B : Type 0} → Bays B → Packet → Standing B → Standi
 Admits bays packet old new result = record {
   stands_for : OnOk result ((h : List Packet) → StandsFor bays.files bays.leaves bays.faults old h → StandsFor bays.files bays.leaves bays.faults new (h ++ packet ∷ []));
   answers : IfOk result (λ acked. (h : List Packet) → StandsFor bays.files bays.leaves bays.faults old h → Answers bays.files old h packet acked);
-  acked : IfOk result (λ acked. acked ≡ record { from = old.events + 1; to = old.events + length packet.keys; reports = length new.reports });
+  acked : IfOk result (λ acked. acked ≡ record { from = old.events + 1; to = old.events + length (keys_of packet); reports = length new.reports });
   taken : OnOk result (new ≡ record old {
     bay = new.bay;
-    listing = record old.listing { events = old.listing.events ++ packet.keys };
+    listing = record old.listing { events = old.listing.events ++ (keys_of packet) };
     rows = new.rows;
     reports = new.reports;
-    events = old.events + length packet.keys;
-    gate = next_gate old.gate (payload_of packet);
+    events = old.events + length (keys_of packet);
+    gate = next_gate old.gate (payload_of written packet);
     log = new.log;
   });
   in_time_so_far : OnOk result ((h : List Packet) → StandsFor bays.files bays.leaves bays.faults old h → WasSound bays.files old → IfTold (bays.files old.bay)
@@ -39,7 +41,7 @@ Admits bays packet old new result = record {
     gate = new.gate;
     log = new.log;
   });
-  full : (n len : ℕ) → (result ≡ Err (CapacityFull n len)) ↔ ((old.state ≡ Running) × (n ≡ old.events) × (len ≡ length packet.keys)
+  full : (n len : ℕ) → (result ≡ Err (CapacityFull n len)) ↔ ((old.state ≡ Running) × (n ≡ old.events) × (len ≡ length (keys_of packet))
       × (capacity old.listing.settings < n + len));
   each_moment : is_broken old.state ≡ false → WasSound bays.files old → IfTold (bays.files old.bay) (λ _. (h : List Packet) → StandsFor bays.files bays.leaves bays.faults old h →
       (image : Files) → bays.left_since new.bay (bays.moment old.bay) image → IsSoundOver old.listing.settings old.listing.cone h (Some packet) image);
@@ -47,7 +49,7 @@ Admits bays packet old new result = record {
 
 -- before the first step
 pub not_admitted : {B : Type 0} {bays : Bays B} (lawful : IsLawful bays) (packet : Packet) {T : Type 0} {len : ℕ} {tested : Result T ConeFault} {given : Result Acked ConeFault}
-    {fault : ConeFault} (old : Standing B) → len ≡ length packet.keys → tested ≡ Err fault → ((tested ≡ Err Closed) ↔ (old.state ≡ Finished)) →
+    {fault : ConeFault} (old : Standing B) → len ≡ length (keys_of packet) → tested ≡ Err fault → ((tested ≡ Err Closed) ↔ (old.state ≡ Finished)) →
     ((tested ≡ Err Broken) ↔ (is_broken old.state ≡ true)) →
     ((n more : ℕ) → (tested ≡ Err (CapacityFull n more)) ↔ ((old.state ≡ Running) × (n ≡ old.events) × (more ≡ len) × (capacity old.listing.settings < n + more))) →
     IfErr tested (λ f. is_refusal f ≡ true) → IsErrAnd given (λ g. g ≡ fault) → Admits bays packet old old given

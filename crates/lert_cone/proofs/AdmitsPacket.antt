@@ -1,5 +1,7 @@
 -- What a cone answers to a packet that it takes.
 use Rattle.std.proofs.Common.{◌≡◌, ℕ, ◌+◌, ◌<◌, ◌≤◌, false, List, [], ◌∷◌, ◌++◌, length, Option, Ok, refl, sym, ap, ◌∙◌, subst, arith}
+use Rattle.lert_levels.specs.OnDisk.{written}
+use Rattle.lert_base.specs.Packet.{keys_of}
 use Rattle.lert_base.specs.Packet.{Packet, events_of}
 use Rattle.lert_bay.specs.{Files.IfTold, Kept.Bays}
 use Rattle.lert_gatelog.specs.Gated.{Log, next_gate}
@@ -14,12 +16,12 @@ use Rattle.lert_cone.proofs.{TimeLaws.timely_so_far, Admits.Admits, Stepping.pas
 
 module _ {B : Type 0} {bays : Bays B} (lawful : IsLawful bays) (packet : Packet) where
   module _ {bay bay_after : B} {tally after : Tallied} {room room_after : ℕ} {state : ConeState} {journal journal_after : Log} {log log_after : LogPlace} (made : B) (events : ℕ)
-      (over : Option Packet) (last : LogPoint) (running : state ≡ Running) (within : events + length packet.keys ≤ capacity tally.listing.settings) where
+      (over : Option Packet) (last : LogPoint) (running : state ≡ Running) (within : events + length (keys_of packet) ≤ capacity tally.listing.settings) where
     -- with all its keys
-    module _ {events_after reports : ℕ} (events_are : events_after ≡ events + length packet.keys) (some : 0 < length packet.keys) (still : tally.listing.closed ≡ false)
+    module _ {events_after reports : ℕ} (events_are : events_after ≡ events + length (keys_of packet)) (some : 0 < length (keys_of packet)) (still : tally.listing.closed ≡ false)
         (reports_are : reports ≡ length after.due.reports) (did : TakesPacket bays packet (work_at bay tally log room)
         (work_at bay_after after log_after room_after) journal journal_after (Ok tt)) where
-      is : after.listing ≡ record tally.listing { events = tally.listing.events ++ packet.keys }
+      is : after.listing ≡ record tally.listing { events = tally.listing.events ++ (keys_of packet) }
       is = did.listing ∙ ap (λ (keys : List ℕ). record tally.listing { events = keys }) did.taken
 
       same : IsSameCone (cone_at bay made tally events state over journal.gate log last)
@@ -37,12 +39,12 @@ module _ {B : Type 0} {bays : Bays B} (lawful : IsLawful bays) (packet : Packet)
           let whole = stands.whole (ap is_broken running) sound was.0 was.1 in
           whole_of (bays.leaves bay_after) seen (h ++ packet ∷ []) after journal_after.gate log_after did.counted (did.in_step was.0 was.1 h whole seen told) (lawful.as_read bay_after seen told)
           (ap (λ (l : Listing). l.events) is ∙ keys_more h packet tally.listing.events whole.keys)
-          (ap (λ (j : Log). j.gate) did.moved ∙ (ap (λ g. next_gate g (payload_of packet)) whole.gate_is ∙ end_more h packet)))
+          (ap (λ (j : Log). j.gate) did.moved ∙ (ap (λ g. next_gate g (payload_of written packet)) whole.gate_is ∙ end_more h packet)))
           stands
 
       new_is : ◌≡◌ {A = Standing B} (cone_at bay_after made after events_after state over journal_after.gate log_after last)
-          (record (cone_at bay_after made after (events + length packet.keys) state over (next_gate journal.gate (payload_of packet)) log_after last) {
-            listing = record tally.listing { events = tally.listing.events ++ packet.keys };
+          (record (cone_at bay_after made after (events + length (keys_of packet)) state over (next_gate journal.gate (payload_of written packet)) log_after last) {
+            listing = record tally.listing { events = tally.listing.events ++ (keys_of packet) };
           })
       new_is i = record (cone_at bay_after made after (events_are i) state over ((ap (λ (j : Log). j.gate) did.moved) i) log_after last) { listing = is i }
 
@@ -86,7 +88,7 @@ module _ {B : Type 0} {bays : Bays B} (lawful : IsLawful bays) (packet : Packet)
     -- and it is a cone again, whose buffer has the room that was lent
     pub still_cone : {events_after cone_room cone_room_after keys_room : ℕ} →
         TakesPacket bays packet (work_at bay tally log room)
-        (work_at bay_after after log_after room_after) journal journal_after (Ok tt) → events_after ≡ events + length packet.keys → 0 < length packet.keys →
+        (work_at bay_after after log_after room_after) journal journal_after (Ok tt) → events_after ≡ events + length (keys_of packet) → 0 < length (keys_of packet) →
         cone_room_after ≡ cone_room → room_after ≡ cone_room_after →
         IsCone bays.files bays.leaves bays.faults bays.mark (cone_at bay made tally events state over journal.gate log last) tally journal cone_room keys_room →
         IsCone bays.files bays.leaves bays.faults bays.mark (cone_at bay_after made after events_after state over journal_after.gate log_after last) after journal_after cone_room_after keys_room

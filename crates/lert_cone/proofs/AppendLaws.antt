@@ -2,6 +2,7 @@
 use Rattle.std.proofs.Common.{◌≡◌, ℕ, ◌+◌, ◌-◌, ◌^◌, ◌<◌, ◌≤◌, false, List, [], ◌∷◌, ◌++◌, length, Some, All, Result, Ok, Err, OnOk, refl, sym, ap, ◌∙◌, subst, inl, inr, arith, length-append}
 use Rattle.std.proofs.{Common.append-nil, lemmas.Bool.false≢true, lemmas.List.take_at, lemmas.List.Elements.{All-append, All-nil, All-cons}}
 use Rattle.std.specs.Result.{is_err}
+use Rattle.lert_base.specs.Packet.{keys_of}
 use Rattle.lert_base.specs.Packet.{Packet, events_of}
 use Rattle.lert_bay.specs.{Files.Files, Settled.part}
 use Rattle.lert_gatelog.specs.{Gated.next_gate, Kept.{InEach, KeepsOthers, KeepsBefore, IsWhollySettled}}
@@ -38,10 +39,10 @@ but_last_more : (history : List Packet) (packet : Packet) → but_last (history 
 but_last_more history packet = take_at history (packet ∷ []) (length (history ++ packet ∷ []) - 1) (omega (arith, length-append history (packet ∷ [])))
 
 -- the keys of a packet more are still to come
-pub partway_packet : (s : Numbers) (history : List Packet) (packet : Packet) (events : List ℕ) → events ≡ events_of history → IsPartway s (history ++ packet ∷ []) events packet.keys
+pub partway_packet : (s : Numbers) (history : List Packet) (packet : Packet) (events : List ℕ) → events ≡ events_of history → IsPartway s (history ++ packet ∷ []) events (keys_of packet)
 partway_packet s history packet events keys = record {
   rest = [];
-  is = events_more history packet ∙ ap (λ ks. ks ++ packet.keys) (sym keys) ∙ ap (λ ks. events ++ ks) (sym (append-nil packet.keys));
+  is = events_more history packet ∙ ap (λ ks. ks ++ (keys_of packet)) (sym keys) ∙ ap (λ ks. events ++ ks) (sym (append-nil (keys_of packet)));
   late = omega (arith, ap (λ ks. last_flush s (length ks)) keys, ap (λ h. last_flush s (length (events_of h))) (but_last_more history packet));
 }
 
@@ -49,8 +50,8 @@ partway_packet s history packet events keys = record {
 
 module _ (leaves since : Files → Type 0) (seen : Files) (t : Tallied) (log : LogPlace) (gate : ℕ) (history : List Packet) (packet : Packet)
     (counted : IsCounted t) (still : t.listing.closed ≡ false) (read : leaves seen) (whole : IsWhole leaves seen t.listing t.rows t.due.reports gate log history)
-    (journaled : IsJournaled t.listing.settings t.listing.cone packet) (fit : All (λ key. key < 2 ^ 64) packet.keys) (fits : length
-    (events_of history) + length packet.keys ≤ capacity t.listing.settings)
+    (journaled : IsJournaled written t.listing.settings t.listing.cone packet) (fit : All (λ key. key < 2 ^ 64) (keys_of packet)) (fits : length
+    (events_of history) + length (keys_of packet) ≤ capacity t.listing.settings)
     (others : KeepsOthers leaves since seen 0) (before : KeepsBefore leaves since seen 0 gate) where
   up : IsInStep leaves seen history t.listing t.rows t.due.reports log
   up = whole.in_step
@@ -72,36 +73,36 @@ module _ (leaves since : Files → Type 0) (seen : Files) (t : Tallied) (log : L
   frames_then = frames_since leaves since seen t.listing.settings t.listing.events t.rows counted.valid counted.are read up.frames
       (λ from to named. others 2 from to (λ same. absurd (omega (arith, same))))
 
-  pub records_there : InEach leaves 0 (λ bytes. HasPackets (most_payload t.listing.settings) bytes 32 history gate)
-  records_there image may = subst (λ (end : ℕ). HasPackets (most_payload t.listing.settings) (image 0) 32 history end) (sym whole.gate_is) (up.journal image may).records
+  pub records_there : InEach leaves 0 (λ bytes. HasPackets written (most_payload t.listing.settings) bytes 32 history gate)
+  records_there image may = subst (λ (end : ℕ). HasPackets written (most_payload t.listing.settings) (image 0) 32 history end) (sym whole.gate_is) (up.journal image may).records
 
   within_more : length (events_of (history ++ packet ∷ [])) ≤ capacity t.listing.settings
   within_more = omega (arith, counted_more history packet, fits)
 
-  journaled_more : All (IsJournaled t.listing.settings t.listing.cone) (history ++ packet ∷ [])
-  journaled_more = All-append (IsJournaled t.listing.settings t.listing.cone) history (packet ∷ []) journal.journaled
-      (All-cons (IsJournaled t.listing.settings t.listing.cone) packet [] journaled (All-nil (IsJournaled t.listing.settings t.listing.cone)))
+  journaled_more : All (IsJournaled written t.listing.settings t.listing.cone) (history ++ packet ∷ [])
+  journaled_more = All-append (IsJournaled written t.listing.settings t.listing.cone) history (packet ∷ []) journal.journaled
+      (All-cons (IsJournaled written t.listing.settings t.listing.cone) packet [] journaled (All-nil (IsJournaled written t.listing.settings t.listing.cone)))
 
-  fit_more : All (λ (p : Packet). All (λ key. key < 2 ^ 64) p.keys) (history ++ packet ∷ [])
-  fit_more = All-append (λ (p : Packet). All (λ key. key < 2 ^ 64) p.keys) history (packet ∷ []) journal.fit
-      (All-cons (λ (p : Packet). All (λ key. key < 2 ^ 64) p.keys) packet [] fit (All-nil (λ (p : Packet). All (λ key. key < 2 ^ 64) p.keys)))
+  fit_more : All (λ (p : Packet). All (λ key. key < 2 ^ 64) (keys_of p)) (history ++ packet ∷ [])
+  fit_more = All-append (λ (p : Packet). All (λ key. key < 2 ^ 64) (keys_of p)) history (packet ∷ []) journal.fit
+      (All-cons (λ (p : Packet). All (λ key. key < 2 ^ 64) (keys_of p)) packet [] fit (All-nil (λ (p : Packet). All (λ key. key < 2 ^ 64) (keys_of p))))
 
   -- an image with the packets from before, or with these and this one
-  journal_same : (image : Files) → since image → HasPackets (most_payload t.listing.settings) (image 0) 32 history gate → IsJournal t.listing.settings t.listing.cone history (image 0)
+  journal_same : (image : Files) → since image → HasPackets written (most_payload t.listing.settings) (image 0) 32 history gate → IsJournal t.listing.settings t.listing.cone history (image 0)
   journal_same image may there = record {
     headed = headed image may ∙ journal.headed;
-    records = subst (λ (end : ℕ). HasPackets (most_payload t.listing.settings) (image 0) 32 history end) whole.gate_is there;
+    records = subst (λ (end : ℕ). HasPackets written (most_payload t.listing.settings) (image 0) 32 history end) whole.gate_is there;
     journaled = journal.journaled;
     fit = journal.fit;
     within = journal.within;
   }
 
-  journal_more : (gate_after : ℕ) → gate_after ≡ next_gate gate (payload_of packet) → (image : Files) → since image → HasPackets (most_payload t.listing.settings) (image 0) 32
+  journal_more : (gate_after : ℕ) → gate_after ≡ next_gate gate (payload_of written packet) → (image : Files) → since image → HasPackets written (most_payload t.listing.settings) (image 0) 32
       (history ++ packet ∷ []) gate_after →
       IsJournal t.listing.settings t.listing.cone (history ++ packet ∷ []) (image 0)
   journal_more gate_after is image may there = record {
     headed = headed image may ∙ journal.headed;
-    records = subst (λ (end : ℕ). HasPackets (most_payload t.listing.settings) (image 0) 32 (history ++ packet ∷ []) end) (is ∙ (ap (λ g. next_gate g (payload_of packet)) whole.gate_is
+    records = subst (λ (end : ℕ). HasPackets written (most_payload t.listing.settings) (image 0) 32 (history ++ packet ∷ []) end) (is ∙ (ap (λ g. next_gate g (payload_of written packet)) whole.gate_is
         ∙ end_more history packet)) there;
     journaled = journaled_more;
     fit = fit_more;
@@ -111,14 +112,14 @@ module _ (leaves since : Files → Type 0) (seen : Files) (t : Tallied) (log : L
   partway_none : IsPartway t.listing.settings (history ++ packet ∷ []) t.listing.events []
   partway_none =
       let whole_packet = partway_packet t.listing.settings history packet t.listing.events whole.keys in
-      record { rest = packet.keys ++ whole_packet.rest; is = whole_packet.is; late = whole_packet.late }
+      record { rest = (keys_of packet) ++ whole_packet.rest; is = whole_packet.is; late = whole_packet.late }
 
   -- the records say of the longer list what they said
   begins_more : NamesRecord t.listing.settings (history ++ packet ∷ []) (last_n0 up.logged) (last_place up.logged)
   begins_more = names_more history (packet ∷ []) t.listing.settings (last_n0 up.logged) (last_place up.logged) up.begins
 
   -- in each image of each moment
-  pub sound_appending : InEach since 0 (HasPacketsOrOneMore (most_payload t.listing.settings) 32 history gate packet) → (image : Files) → since image →
+  pub sound_appending : InEach since 0 (HasPacketsOrOneMore written (most_payload t.listing.settings) 32 history gate packet) → (image : Files) → since image →
       IsSoundOver t.listing.settings t.listing.cone history (Some packet) image
   sound_appending each image may = elim (each image may) [
     | inl same ↦ inl (sound_of t.listing.settings t.listing.cone history t.listing.events t.rows t.listing.closed up.logged log.gate counted.valid counted.rows
@@ -128,15 +129,15 @@ module _ (leaves since : Files → Type 0) (seen : Files) (t : Tallied) (log : L
       packet,
       refl,
       sound_of t.listing.settings t.listing.cone (history ++ packet ∷ []) t.listing.events t.rows t.listing.closed up.logged log.gate counted.valid counted.rows
-          partway_none (λ ended. absurd (false≢true (sym still ∙ ended))) up.log_of begins_more image (journal_more (next_gate gate (payload_of packet)) refl image may more) (log_then image may)
+          partway_none (λ ended. absurd (false≢true (sym still ∙ ended))) up.log_of begins_more image (journal_more (next_gate gate (payload_of written packet)) refl image may more) (log_then image may)
           (frames_then image may),
     )
   ]
 
   -- after Ok
   pub up_appended : (after : Files → Type 0) (seen_after : Files) (gate_after : ℕ) → ((image : Files) → after image → since image) →
-      gate_after ≡ next_gate gate (payload_of packet) →
-      InEach after 0 (λ bytes. HasPackets (most_payload t.listing.settings) bytes 32 (history ++ packet ∷ []) gate_after) → IsWhollySettled after seen_after 0 →
+      gate_after ≡ next_gate gate (payload_of written packet) →
+      InEach after 0 (λ bytes. HasPackets written (most_payload t.listing.settings) bytes 32 (history ++ packet ∷ []) gate_after) → IsWhollySettled after seen_after 0 →
       IsWhollySettled after seen_after 1 →
       IsInStep after seen_after (history ++ packet ∷ []) t.listing t.rows t.due.reports log
   up_appended after seen_after gate_after now is there journal_settled log_settled = record {
@@ -163,28 +164,28 @@ when_ok (Err _) answered holds = absurd (false≢true (sym answered))
 pub appended_there : {T E : Type 0} (result : Result T E) (leaves after : Files → Type 0) (s : Numbers) (file most gate gate_after : ℕ) (packet : Packet) → file ≡ 0 →
     most ≡ most_payload s →
     is_err result ≡ false
-    → ((first : ℕ) (packets : List Packet) → InEach leaves file (λ bytes. HasPackets most bytes first packets gate) → OnOk result (InEach after file (λ bytes. HasPackets most bytes first
+    → ((first : ℕ) (packets : List Packet) → InEach leaves file (λ bytes. HasPackets written most bytes first packets gate) → OnOk result (InEach after file (λ bytes. HasPackets written most bytes first
     (packets ++ packet ∷ []) gate_after)))
-    → (packets : List Packet) → InEach leaves 0 (λ bytes. HasPackets (most_payload s) bytes 32 packets gate) → InEach after 0 (λ bytes. HasPackets (most_payload s) bytes 32
+    → (packets : List Packet) → InEach leaves 0 (λ bytes. HasPackets written (most_payload s) bytes 32 packets gate) → InEach after 0 (λ bytes. HasPackets written (most_payload s) bytes 32
     (packets ++ packet ∷ []) gate_after)
 appended_there result leaves after s file most gate gate_after packet file_is most_is answered appended packets =
-    subst (λ (m : ℕ). InEach leaves 0 (λ bytes. HasPackets m bytes 32 packets gate) → InEach after 0 (λ bytes. HasPackets m bytes 32 (packets ++ packet ∷ []) gate_after)) most_is
-    (subst (λ (f : ℕ). InEach leaves f (λ bytes. HasPackets most bytes 32 packets gate) → InEach after f (λ bytes. HasPackets most bytes 32 (packets ++ packet ∷ []) gate_after)) file_is
+    subst (λ (m : ℕ). InEach leaves 0 (λ bytes. HasPackets written m bytes 32 packets gate) → InEach after 0 (λ bytes. HasPackets written m bytes 32 (packets ++ packet ∷ []) gate_after)) most_is
+    (subst (λ (f : ℕ). InEach leaves f (λ bytes. HasPackets written most bytes 32 packets gate) → InEach after f (λ bytes. HasPackets written most bytes 32 (packets ++ packet ∷ []) gate_after)) file_is
     (λ all. when_ok result answered (appended 32 packets all)))
 
 -- what an append says of a log's file and greatest payload, said of the journal
 pub each_there : (leaves since : Files → Type 0) (s : Numbers) (file most gate : ℕ) (history : List Packet) (packet : Packet) → file ≡ 0 → most ≡ most_payload s
-    → (InEach leaves file (λ bytes. HasPackets most bytes 32 history gate) → InEach since file (HasPacketsOrOneMore most 32 history gate packet))
-    → InEach leaves 0 (λ bytes. HasPackets (most_payload s) bytes 32 history gate) → InEach since 0 (HasPacketsOrOneMore (most_payload s) 32 history gate packet)
+    → (InEach leaves file (λ bytes. HasPackets written most bytes 32 history gate) → InEach since file (HasPacketsOrOneMore written most 32 history gate packet))
+    → InEach leaves 0 (λ bytes. HasPackets written (most_payload s) bytes 32 history gate) → InEach since 0 (HasPacketsOrOneMore written (most_payload s) 32 history gate packet)
 each_there leaves since s file most gate history packet file_is most_is each =
-    subst (λ (m : ℕ). InEach leaves 0 (λ bytes. HasPackets m bytes 32 history gate) → InEach since 0 (HasPacketsOrOneMore m 32 history gate packet)) most_is
-    (subst (λ (f : ℕ). InEach leaves f (λ bytes. HasPackets most bytes 32 history gate) → InEach since f (HasPacketsOrOneMore most 32 history gate packet)) file_is each)
+    subst (λ (m : ℕ). InEach leaves 0 (λ bytes. HasPackets written m bytes 32 history gate) → InEach since 0 (HasPacketsOrOneMore written m 32 history gate packet)) most_is
+    (subst (λ (f : ℕ). InEach leaves f (λ bytes. HasPackets written most bytes 32 history gate) → InEach since f (HasPacketsOrOneMore written most 32 history gate packet)) file_is each)
 
 -- a packet more
-pub some_more : (history : List Packet) (packet : Packet) → All (λ p. 0 < length p.keys) history → 0 < length packet.keys → All (λ p. 0 < length p.keys) (history ++ packet ∷ [])
-some_more history packet all some = All-append (λ p. 0 < length p.keys) history (packet ∷ []) all (All-cons (λ p. 0 < length p.keys) packet [] some (All-nil (λ p. 0 < length p.keys)))
+pub some_more : (history : List Packet) (packet : Packet) → All (λ p. 0 < length (keys_of p)) history → 0 < length (keys_of packet) → All (λ p. 0 < length (keys_of p)) (history ++ packet ∷ [])
+some_more history packet all some = All-append (λ p. 0 < length (keys_of p)) history (packet ∷ []) all (All-cons (λ p. 0 < length (keys_of p)) packet [] some (All-nil (λ p. 0 < length (keys_of p))))
 
-pub keys_more : (history : List Packet) (packet : Packet) (events : List ℕ) → events ≡ events_of history → events ++ packet.keys ≡ events_of (history ++ packet ∷ [])
-keys_more history packet events keys = ap (λ ks. ks ++ packet.keys) keys ∙ sym (events_more history packet)
+pub keys_more : (history : List Packet) (packet : Packet) (events : List ℕ) → events ≡ events_of history → events ++ (keys_of packet) ≡ events_of (history ++ packet ∷ [])
+keys_more history packet events keys = ap (λ ks. ks ++ (keys_of packet)) keys ∙ sym (events_more history packet)
 
 -- turns in a row

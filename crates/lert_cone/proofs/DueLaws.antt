@@ -1,5 +1,5 @@
 -- What totals bring: the reports of one total more.
-use Rattle.std.proofs.Common.{ℕ, ◌≡◌, ◌+◌, ◌-◌, ◌^◌, ◌<◌, ◌≤◌, suc, Bool, true, false, cond, eqb, leb, not, ◌&&◌, ◌||◌, List, [], ◌∷◌, ◌++◌, length, map, filter, All, Option, Some, None, refl, ap}
+use Rattle.std.proofs.Common.{ℕ, ◌≡◌, ◌+◌, ◌^◌, ◌<◌, ◌≤◌, suc, Bool, true, false, cond, eqb, leb, not, ◌&&◌, ◌||◌, List, [], ◌∷◌, ◌++◌, length, map, filter, All, Option, Some, None, refl, ap}
 use Rattle.std.proofs.{Common.{sym, ◌∙◌, arith, inl, inr, subst, append_assoc, length-append}, lemmas.Bool.{cases_Bool, cases_eq, eq-eqb, ne_eqb, le-leb, lt-leb, false≢true}, lemmas.List.map-append}
 use Rattle.std.proofs.lemmas.List.Elements.{filter-append}
 use Rattle.lert_spec.specs.Edges.{tail_bits}

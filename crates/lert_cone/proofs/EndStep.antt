@@ -1,6 +1,7 @@
 -- The end of a cone through the scan and the closing record.
 use Rattle.std.proofs.Common.{◌≡◌, ℕ, ◌+◌, ◌-◌, ◌≤◌, Bool, true, false, List, [], ◌∷◌, ◌++◌, length, map, sym, ap, ◌∙◌, subst, inl, inr, arith, append-nil, take, drop, length-append}
 use Rattle.std.proofs.{lemmas.Bool.false≢true, lemmas.Grind.flat_map-append, lemmas.List.take-append-drop}
+use Rattle.lert_base.specs.Packet.{keys_of}
 use Rattle.lert_base.specs.Packet.{Packet, events_of}
 use Rattle.lert_bay.specs.Files.{Files}
 use Rattle.lert_gatelog.specs.{Gated.{IsGated, next_gate}, Kept.{InEach, KeepsOthers, KeepsBefore, IsWhollySettled, IsWithOrWithout}}
@@ -139,7 +140,7 @@ late_all history events all =
     let front = take (length history - 1) history in
     let back = drop (length history - 1) history in
     let split : events_of history ≡ events_of front ++ events_of back = ap events_of (sym (take-append-drop (length history - 1) history))
-    ∙ flat_map-append (λ (p : Packet). p.keys) front back in
+    ∙ flat_map-append (λ (p : Packet). (keys_of p)) front back in
     omega (arith, ap length all, ap length split, length-append (events_of front) (events_of back))
 
 -- after calls that read alone

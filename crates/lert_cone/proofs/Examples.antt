@@ -1,6 +1,10 @@
 -- The definitions, computed on the files that three keys 7 leave.
 use Rattle.std.proofs.{Common.{◌≡◌, ℕ, zero, suc, ◌+◌, ◌-◌, ◌^◌, ◌<◌, ◌≤◌, All, List, [], ◌∷◌, ◌++◌, drop, map, take, Some, None, refl, sym, arith}, lemmas.List.Elements.{All-nil, All-cons}}
 use Rattle.std.specs.Prelude.{slice_index_or}
+use Rattle.lert_levels.specs.OnDisk.{written}
+use Rattle.lert_base.specs.Packet.{keys_of}
+use Rattle.lert_spec.specs.Items.{units}
+use Rattle.lert_spec.proofs.ItemLaws.{units_of_version}
 use Rattle.lert_base.specs.Packet.{Packet, events_of}
 use Rattle.lert_bay.specs.Files.{Files}
 use Rattle.lert_journal.specs.Payload.{IsJournaled}
@@ -15,7 +19,7 @@ abbrev small : Numbers
 small = record { threshold = 3; bins = 3; ratio = 2; base = 4; levels = 2; cone_bits = 0; room = 32; packet = 8 }
 
 abbrev sevens : Packet
-sevens = record { by = 0; trace = 0; keys = 7 ∷ 7 ∷ 7 ∷ [] }
+sevens = record { by = 0; trace = 0; items = units (7 ∷ 7 ∷ 7 ∷ []) }
 
 abbrev journal_bytes : List ℕ
 journal_bytes =
@@ -56,7 +60,7 @@ most_of_small : most_payload small ≡ 264
 most_of_small = refl
 
 -- a journal may hold them
-journaled : IsJournaled small 0 sevens
+journaled : IsJournaled written small 0 sevens
 unfolding mix
 journaled = record {
   some = omega arith;
@@ -67,9 +71,10 @@ journaled = record {
       All-cons (λ key. cone_of small key ≡ 0) 7 (7 ∷ 7 ∷ []) refl
       (All-cons (λ key. cone_of small key ≡ 0) 7 (7 ∷ []) refl
       (All-cons (λ key. cone_of small key ≡ 0) 7 [] refl (All-nil (λ key. cone_of small key ≡ 0))));
+  weighed = units_of_version written (7 ∷ 7 ∷ 7 ∷ []);
 }
 
-keys_fit : All (λ key. key < 2 ^ 64) sevens.keys
+keys_fit : All (λ key. key < 2 ^ 64) (keys_of sevens)
 keys_fit =
     All-cons (λ key. key < 2 ^ 64) 7 (7 ∷ 7 ∷ []) (omega arith)
     (All-cons (λ key. key < 2 ^ 64) 7 (7 ∷ []) (omega arith)
@@ -150,8 +155,8 @@ sound = record {
         records = (record { opened = refl; counted = refl; some = omega arith; fits = omega arith; there = refl }, refl);
         closed = record { within = omega arith; shut = λ one. absurd (omega (arith, one)) };
       };
-      journaled = All-cons (IsJournaled small 0) sevens [] journaled (All-nil (IsJournaled small 0));
-      fit = All-cons (λ packet. All (λ key. key < 2 ^ 64) packet.keys) sevens [] keys_fit (All-nil (λ packet. All (λ key. key < 2 ^ 64) packet.keys));
+      journaled = All-cons (IsJournaled written small 0) sevens [] journaled (All-nil (IsJournaled written small 0));
+      fit = All-cons (λ packet. All (λ key. key < 2 ^ 64) (keys_of packet)) sevens [] keys_fit (All-nil (λ packet. All (λ key. key < 2 ^ 64) (keys_of packet)));
       within = omega arith;
     };
     logged = ending ∷ [];
@@ -177,7 +182,7 @@ flushes = refl
 -- eight packets of 3, 1, 5, 9, 2, 7, 6 and 4 keys: their records begin at 32, 69, 90, 143, 228, 257, 326 and 387, with the
 -- positions 1, 4, 5, 10, 19, 21, 28 and 34
 abbrev packet_of : List ℕ → Packet
-packet_of keys = record { by = 0; trace = 0; keys = keys }
+packet_of keys = record { by = 0; trace = 0; items = units keys }
 
 abbrev eight : List Packet
 eight =

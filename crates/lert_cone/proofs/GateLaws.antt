@@ -1,6 +1,8 @@
 -- What stands at the gates of a journal that is read anew: the packets of its history in turn, and nothing else.
 use Rattle.std.proofs.Common.{◌≡◌, ℕ, ◌+◌, ◌<◌, ◌≤◌, ◌^◌, Bool, true, false, List, [], ◌∷◌, ◌++◌, length, take, drop, map, All, sym, ap, ◌∙◌, subst, inl, inr, ◌⊎◌, arith, length-append, append-nil}
 use Rattle.std.proofs.{Common.append_assoc, Math.Seq.get_or-append_seam, lemmas.Bool.false≢true, lemmas.Grind.flat_map-append, lemmas.List.take-append-drop}
+use Rattle.lert_levels.specs.OnDisk.{written}
+use Rattle.lert_base.specs.Packet.{keys_of}
 use Rattle.lert_base.specs.Packet.{Packet, events_of}
 use Rattle.lert_gatelog.specs.Gated.{IsOpen, IsClosed, Records, next_gate}
 use Rattle.lert_gatelog.proofs.Deciding.{one_payload, open_or_closed}
@@ -14,28 +16,28 @@ use Rattle.lert_cone.proofs.SoundLaws.{events_more, end_more}
 
 -- one packet more
 pub past_more : (history done : List Packet) (events : List ℕ) (gate : ℕ) (packet : Packet) → IsPast history done events gate → IsNext history done packet →
-    IsPast history (done ++ packet ∷ []) (events ++ packet.keys) (next_gate gate (payload_of packet))
+    IsPast history (done ++ packet ∷ []) (events ++ (keys_of packet)) (next_gate gate (payload_of written packet))
 past_more history done events gate packet past next = record {
   rest = next.rest;
   is = next.is ∙ sym (append_assoc done (packet ∷ []) next.rest);
-  keys = ap (λ keys. keys ++ packet.keys) past.keys ∙ sym (events_more done packet);
-  gate_is = ap (λ g. next_gate g (payload_of packet)) past.gate_is ∙ end_more done packet;
+  keys = ap (λ keys. keys ++ (keys_of packet)) past.keys ∙ sym (events_more done packet);
+  gate_is = ap (λ g. next_gate g (payload_of written packet)) past.gate_is ∙ end_more done packet;
 }
 
 -- the keys so far begin those of the history
 pub keys_past : (history done : List Packet) (events : List ℕ) (gate : ℕ) (past : IsPast history done events gate) → events_of history ≡ events ++ events_of past.rest
 keys_past history done events gate past =
     ap events_of past.is
-    ∙ (flat_map-append (λ (p : Packet). p.keys) done past.rest
+    ∙ (flat_map-append (λ (p : Packet). (keys_of p)) done past.rest
     ∙ ap (λ keys. keys ++ events_of past.rest) (sym past.keys))
 
 -- and behind them come those of the next packet
 pub keys_next : (history done : List Packet) (events : List ℕ) (gate : ℕ) (packet : Packet) → IsPast history done events gate → (next : IsNext history done packet) →
-    events_of history ≡ events ++ (packet.keys ++ events_of next.rest)
+    events_of history ≡ events ++ ((keys_of packet) ++ events_of next.rest)
 keys_next history done events gate packet past next =
     ap events_of next.is
-    ∙ (flat_map-append (λ (p : Packet). p.keys) done (packet ∷ next.rest)
-    ∙ ap (λ keys. keys ++ (packet.keys ++ events_of next.rest)) (sym past.keys))
+    ∙ (flat_map-append (λ (p : Packet). (keys_of p)) done (packet ∷ next.rest)
+    ∙ ap (λ keys. keys ++ ((keys_of packet) ++ events_of next.rest)) (sym past.keys))
 
 -- the first of them are taken, the others are still to come
 pub keys_cut : (history : List Packet) (events keys rest : List ℕ) (count : ℕ) → events_of history ≡ events ++ (keys ++ rest) → events_of history ≡ (events ++ take count keys) ++
@@ -47,55 +49,55 @@ keys_cut history events keys rest count is =
     ∙ sym (append_assoc events (take count keys) (drop count keys ++ rest))))
 
 -- one packet stands at a gate
-pub one_packet : (s : Numbers) (cone : ℕ) (bytes : List ℕ) (gate : ℕ) (one other : Packet) → HoldsPacket s cone (most_payload s) bytes gate one → HoldsPacket s cone
+pub one_packet : (s : Numbers) (cone : ℕ) (bytes : List ℕ) (gate : ℕ) (one other : Packet) → HoldsPacket written s cone (most_payload s) bytes gate one → HoldsPacket written s cone
     (most_payload s) bytes gate other → one ≡ other
 one_packet s cone bytes gate one other holds too =
-    sym (packet_back one (omega (arith, holds.journaled.by_most)) (omega (arith, holds.journaled.trace_most)) holds.fits)
-    ∙ (ap packet_in (one_payload (most_payload s) bytes gate (payload_of one) (payload_of other) holds.stands too.stands)
-    ∙ packet_back other (omega (arith, too.journaled.by_most)) (omega (arith, too.journaled.trace_most)) too.fits)
+    sym (packet_back written one (omega (arith, holds.journaled.by_most)) (omega (arith, holds.journaled.trace_most)) holds.fits holds.journaled.weighed)
+    ∙ (ap (packet_in written) (one_payload (most_payload s) bytes gate (payload_of written one) (payload_of written other) holds.stands too.stands)
+    ∙ packet_back written other (omega (arith, too.journaled.by_most)) (omega (arith, too.journaled.trace_most)) too.fits too.journaled.weighed)
 
 -- ---- only one of these stands at a gate
 
 -- a packet that may stand there, or a place at which the format is left
-pub packet_or_leaves : (s : Numbers) (cone n0 : ℕ) (closed : Bool) (n : ℕ) (bytes : List ℕ) (gate at : ℕ) (packet : Packet) → HoldsPacket s cone (most_payload s) bytes gate packet →
+pub packet_or_leaves : (s : Numbers) (cone n0 : ℕ) (closed : Bool) (n : ℕ) (bytes : List ℕ) (gate at : ℕ) (packet : Packet) → HoldsPacket written s cone (most_payload s) bytes gate packet →
     MayFollow s n0 closed n packet →
     ReplayLeavesAt s cone n0 closed n bytes gate at → ⊥
-packet_or_leaves s cone n0 closed n bytes gate at packet holds may (In_record leaves) = packet_or_left s cone (most_payload s) bytes gate at packet holds leaves
-packet_or_leaves s cone n0 closed n bytes gate at packet holds may (Too_few shut few at_is) = open_or_closed (most_payload s) bytes gate (payload_of packet) holds.stands shut
+packet_or_leaves s cone n0 closed n bytes gate at packet holds may (In_record leaves) = packet_or_left written s cone (most_payload s) bytes gate at packet holds leaves
+packet_or_leaves s cone n0 closed n bytes gate at packet holds may (Too_few shut few at_is) = open_or_closed (most_payload s) bytes gate (payload_of written packet) holds.stands shut
 packet_or_leaves s cone n0 closed n bytes gate at packet holds may (Past_the_end other there ended goes at_is) =
-    absurd (omega (arith, goes, ap (λ (p : Packet). length p.keys) (one_packet s cone bytes gate packet other holds there), may.before_closing ended))
+    absurd (omega (arith, goes, ap (λ (p : Packet). length (keys_of p)) (one_packet s cone bytes gate packet other holds there), may.before_closing ended))
 packet_or_leaves s cone n0 closed n bytes gate at packet holds may (Too_many other there running many at_is) =
-    absurd (omega (arith, many, ap (λ (p : Packet). length p.keys) (one_packet s cone bytes gate packet other holds there), may.within))
+    absurd (omega (arith, many, ap (λ (p : Packet). length (keys_of p)) (one_packet s cone bytes gate packet other holds there), may.within))
 
 -- a closed gate behind enough events, or a place
 pub closed_or_leaves : (s : Numbers) (cone n0 : ℕ) (closed : Bool) (n : ℕ) (bytes : List ℕ) (gate at : ℕ) → IsClosed bytes gate → n0 ≤ n →
     ReplayLeavesAt s cone n0 closed n bytes gate at → ⊥
-closed_or_leaves s cone n0 closed n bytes gate at shut enough (In_record leaves) = closed_or_left s cone (most_payload s) bytes gate at shut leaves
+closed_or_leaves s cone n0 closed n bytes gate at shut enough (In_record leaves) = closed_or_left written s cone (most_payload s) bytes gate at shut leaves
 closed_or_leaves s cone n0 closed n bytes gate at shut enough (Too_few too few at_is) = absurd (omega (arith, few, enough))
-closed_or_leaves s cone n0 closed n bytes gate at shut enough (Past_the_end packet there ended goes at_is) = open_or_closed (most_payload s) bytes gate (payload_of packet) there.stands shut
-closed_or_leaves s cone n0 closed n bytes gate at shut enough (Too_many packet there running many at_is) = open_or_closed (most_payload s) bytes gate (payload_of packet) there.stands shut
+closed_or_leaves s cone n0 closed n bytes gate at shut enough (Past_the_end packet there ended goes at_is) = open_or_closed (most_payload s) bytes gate (payload_of written packet) there.stands shut
+closed_or_leaves s cone n0 closed n bytes gate at shut enough (Too_many packet there running many at_is) = open_or_closed (most_payload s) bytes gate (payload_of written packet) there.stands shut
 
 -- a packet that may not, or a closed gate behind too few events, has no other place
-held_place : (s : Numbers) (cone n0 : ℕ) (closed : Bool) (n : ℕ) (bytes : List ℕ) (gate at : ℕ) (packet : Packet) → HoldsPacket s cone (most_payload s) bytes gate packet →
+held_place : (s : Numbers) (cone n0 : ℕ) (closed : Bool) (n : ℕ) (bytes : List ℕ) (gate at : ℕ) (packet : Packet) → HoldsPacket written s cone (most_payload s) bytes gate packet →
     ReplayLeavesAt s cone n0 closed n bytes gate at →
     ((closed ≡ true) × (at ≡ gate)) ⊎ ((closed ≡ false) × (at ≡ gate + 1))
-held_place s cone n0 closed n bytes gate at packet holds (In_record leaves) = absurd (packet_or_left s cone (most_payload s) bytes gate at packet holds leaves)
-held_place s cone n0 closed n bytes gate at packet holds (Too_few shut few at_is) = absurd (open_or_closed (most_payload s) bytes gate (payload_of packet) holds.stands shut)
+held_place s cone n0 closed n bytes gate at packet holds (In_record leaves) = absurd (packet_or_left written s cone (most_payload s) bytes gate at packet holds leaves)
+held_place s cone n0 closed n bytes gate at packet holds (Too_few shut few at_is) = absurd (open_or_closed (most_payload s) bytes gate (payload_of written packet) holds.stands shut)
 held_place s cone n0 closed n bytes gate at packet holds (Past_the_end other there ended goes at_is) = inl (ended, at_is)
 held_place s cone n0 closed n bytes gate at packet holds (Too_many other there running many at_is) = inr (running, at_is)
 
 shut_place : (s : Numbers) (cone n0 : ℕ) (closed : Bool) (n : ℕ) (bytes : List ℕ) (gate at : ℕ) → IsClosed bytes gate → ReplayLeavesAt s cone n0 closed n bytes gate at → at ≡ gate
-shut_place s cone n0 closed n bytes gate at shut (In_record leaves) = absurd (closed_or_left s cone (most_payload s) bytes gate at shut leaves)
+shut_place s cone n0 closed n bytes gate at shut (In_record leaves) = absurd (closed_or_left written s cone (most_payload s) bytes gate at shut leaves)
 shut_place s cone n0 closed n bytes gate at shut (Too_few too few at_is) = at_is
-shut_place s cone n0 closed n bytes gate at shut (Past_the_end packet there ended goes at_is) = absurd (open_or_closed (most_payload s) bytes gate (payload_of packet) there.stands shut)
-shut_place s cone n0 closed n bytes gate at shut (Too_many packet there running many at_is) = absurd (open_or_closed (most_payload s) bytes gate (payload_of packet) there.stands shut)
+shut_place s cone n0 closed n bytes gate at shut (Past_the_end packet there ended goes at_is) = absurd (open_or_closed (most_payload s) bytes gate (payload_of written packet) there.stands shut)
+shut_place s cone n0 closed n bytes gate at shut (Too_many packet there running many at_is) = absurd (open_or_closed (most_payload s) bytes gate (payload_of written packet) there.stands shut)
 
-left_place : (s : Numbers) (cone n0 : ℕ) (closed : Bool) (n : ℕ) (bytes : List ℕ) (gate at other : ℕ) → LeavesAt s cone (most_payload s) bytes gate at →
+left_place : (s : Numbers) (cone n0 : ℕ) (closed : Bool) (n : ℕ) (bytes : List ℕ) (gate at other : ℕ) → LeavesAt written s cone (most_payload s) bytes gate at →
     ReplayLeavesAt s cone n0 closed n bytes gate other → at ≡ other
-left_place s cone n0 closed n bytes gate at other left (In_record leaves) = one_place_left s cone (most_payload s) bytes gate at other left leaves
-left_place s cone n0 closed n bytes gate at other left (Too_few shut few at_is) = absurd (closed_or_left s cone (most_payload s) bytes gate at shut left)
-left_place s cone n0 closed n bytes gate at other left (Past_the_end packet there ended goes at_is) = absurd (packet_or_left s cone (most_payload s) bytes gate at packet there left)
-left_place s cone n0 closed n bytes gate at other left (Too_many packet there running many at_is) = absurd (packet_or_left s cone (most_payload s) bytes gate at packet there left)
+left_place s cone n0 closed n bytes gate at other left (In_record leaves) = one_place_left written s cone (most_payload s) bytes gate at other left leaves
+left_place s cone n0 closed n bytes gate at other left (Too_few shut few at_is) = absurd (closed_or_left written s cone (most_payload s) bytes gate at shut left)
+left_place s cone n0 closed n bytes gate at other left (Past_the_end packet there ended goes at_is) = absurd (packet_or_left written s cone (most_payload s) bytes gate at packet there left)
+left_place s cone n0 closed n bytes gate at other left (Too_many packet there running many at_is) = absurd (packet_or_left written s cone (most_payload s) bytes gate at packet there left)
 
 -- one place is the first
 pub one_replay_place : (s : Numbers) (cone n0 : ℕ) (closed : Bool) (n : ℕ) (bytes : List ℕ) (gate at other : ℕ) → ReplayLeavesAt s cone n0 closed n bytes gate at →
@@ -114,12 +116,12 @@ one_replay_place s cone n0 closed n bytes gate at other (Too_many packet holds r
 -- ---- the packets of a history
 
 -- the packets behind some others stand from the gate behind those on
-from_gate : (most : ℕ) (bytes : List ℕ) (front done rest : List Packet) (end : ℕ) → Records most bytes (end_of front) (map payload_of (done ++ rest)) end → Records most bytes (end_of
-    (front ++ done)) (map payload_of rest) end
-from_gate most bytes front [] rest end there = subst (λ (h : List Packet). Records most bytes (end_of h) (map payload_of rest) end) (sym (append-nil front)) there
+from_gate : (most : ℕ) (bytes : List ℕ) (front done rest : List Packet) (end : ℕ) → Records most bytes (end_of front) (map (payload_of written) (done ++ rest)) end → Records most bytes (end_of
+    (front ++ done)) (map (payload_of written) rest) end
+from_gate most bytes front [] rest end there = subst (λ (h : List Packet). Records most bytes (end_of h) (map (payload_of written) rest) end) (sym (append-nil front)) there
 from_gate most bytes front (packet ∷ done) rest end there =
-    subst (λ (h : List Packet). Records most bytes (end_of h) (map payload_of rest) end) (append_assoc front (packet ∷ []) done)
-    (from_gate most bytes (front ++ packet ∷ []) done rest end (subst (λ (gate : ℕ). Records most bytes gate (map payload_of (done ++ rest)) end) (end_more front packet) there.1))
+    subst (λ (h : List Packet). Records most bytes (end_of h) (map (payload_of written) rest) end) (append_assoc front (packet ∷ []) done)
+    (from_gate most bytes (front ++ packet ∷ []) done rest end (subst (λ (gate : ℕ). Records most bytes gate (map (payload_of written) (done ++ rest)) end) (end_more front packet) there.1))
 
 -- what holds of each holds of the one behind some
 at_seam : (P : Packet → Type 0) (done rest : List Packet) (packet : Packet) → All P (done ++ packet ∷ rest) → P packet
@@ -129,7 +131,7 @@ at_seam P done rest packet all =
 -- the next packet of a history stands there, or they were all read and the gate is closed
 abbrev pub NextOrEnd : Numbers → ℕ → List ℕ → List Packet → List Packet → ℕ → Type 0
 NextOrEnd s cone bytes history done gate =
-    ((done ≡ history) × IsClosed bytes gate) ⊎ ((packet : Packet) × IsNext history done packet × HoldsPacket s cone (most_payload s) bytes gate packet)
+    ((done ≡ history) × IsClosed bytes gate) ⊎ ((packet : Packet) × IsNext history done packet × HoldsPacket written s cone (most_payload s) bytes gate packet)
 
 module _ (s : Numbers) (cone : ℕ) (bytes : List ℕ) (history done : List Packet) (events : List ℕ) (gate : ℕ) (journal : IsJournal s cone history bytes)
     (past : IsPast history done events gate) where
@@ -138,16 +140,16 @@ module _ (s : Numbers) (cone : ℕ) (bytes : List ℕ) (history done : List Pack
       let all : done ≡ history = sym (is ∙ append-nil done) in
       inl (all, subst (IsClosed bytes) (sym (past.gate_is ∙ ap end_of all)) journal.records.closed)
   next_by (packet ∷ rest) is =
-      let there : Records (most_payload s) bytes (end_of []) (map payload_of (done ++ packet ∷ rest)) (end_of history) =
-      subst (λ (h : List Packet). Records (most_payload s) bytes 32 (map payload_of h) (end_of history)) is journal.records.records in
+      let there : Records (most_payload s) bytes (end_of []) (map (payload_of written) (done ++ packet ∷ rest)) (end_of history) =
+      subst (λ (h : List Packet). Records (most_payload s) bytes 32 (map (payload_of written) h) (end_of history)) is journal.records.records in
       inr (
         packet,
         record { rest = rest; is = is },
         record {
-          stands = subst (λ (g : ℕ). IsOpen (most_payload s) bytes g (payload_of packet)) (sym past.gate_is)
+          stands = subst (λ (g : ℕ). IsOpen (most_payload s) bytes g (payload_of written packet)) (sym past.gate_is)
               (from_gate (most_payload s) bytes [] done (packet ∷ rest) (end_of history) there).0;
-          journaled = at_seam (IsJournaled s cone) done rest packet (subst (All (IsJournaled s cone)) is journal.journaled);
-          fits = at_seam (λ (p : Packet). All (λ key. key < 2 ^ 64) p.keys) done rest packet (subst KeysFit is journal.fit);
+          journaled = at_seam (IsJournaled written s cone) done rest packet (subst (All (IsJournaled written s cone)) is journal.journaled);
+          fits = at_seam (λ (p : Packet). All (λ key. key < 2 ^ 64) (keys_of p)) done rest packet (subst KeysFit is journal.fit);
         },
       )
 
@@ -155,24 +157,24 @@ module _ (s : Numbers) (cone : ℕ) (bytes : List ℕ) (history done : List Pack
   next_or_end = next_by past.rest past.is
 
   -- a packet that stands there is the next one
-  pub is_next : (packet : Packet) → HoldsPacket s cone (most_payload s) bytes gate packet → IsNext history done packet
+  pub is_next : (packet : Packet) → HoldsPacket written s cone (most_payload s) bytes gate packet → IsNext history done packet
   is_next packet holds = elim next_or_end [
-    | inl ended ↦ absurd (open_or_closed (most_payload s) bytes gate (payload_of packet) holds.stands ended.1)
+    | inl ended ↦ absurd (open_or_closed (most_payload s) bytes gate (payload_of written packet) holds.stands ended.1)
     | inr there ↦ subst (IsNext history done) (one_packet s cone bytes gate there.0 packet there.2 holds) there.1
   ]
 
   -- the keys with its own are no more than those of the history, so it may stand there
-  pub next_within : (packet : Packet) → HoldsPacket s cone (most_payload s) bytes gate packet → length events + length packet.keys ≤ length (events_of history)
+  pub next_within : (packet : Packet) → HoldsPacket written s cone (most_payload s) bytes gate packet → length events + length (keys_of packet) ≤ length (events_of history)
   next_within packet holds =
       let next = is_next packet holds in
       omega (
         arith,
         ap length (keys_next history done events gate packet past next),
-        length-append events (packet.keys ++ events_of next.rest),
-        length-append packet.keys (events_of next.rest),
+        length-append events ((keys_of packet) ++ events_of next.rest),
+        length-append (keys_of packet) (events_of next.rest),
       )
 
-  pub next_follows : (n0 : ℕ) (closed : Bool) → (closed ≡ true → n0 ≡ length (events_of history)) → (packet : Packet) → HoldsPacket s cone (most_payload s) bytes gate packet →
+  pub next_follows : (n0 : ℕ) (closed : Bool) → (closed ≡ true → n0 ≡ length (events_of history)) → (packet : Packet) → HoldsPacket written s cone (most_payload s) bytes gate packet →
       MayFollow s n0 closed (length events) packet
   next_follows n0 closed behind packet holds = record {
     within = omega (arith, journal.within, next_within packet holds);
@@ -183,7 +185,7 @@ module _ (s : Numbers) (cone : ℕ) (bytes : List ℕ) (history done : List Pack
   pub ends_there : IsClosed bytes gate → done ≡ history
   ends_there closed = elim next_or_end [
     | inl ended ↦ ended.0
-    | inr there ↦ absurd (open_or_closed (most_payload s) bytes gate (payload_of there.0) there.2.stands closed)
+    | inr there ↦ absurd (open_or_closed (most_payload s) bytes gate (payload_of written there.0) there.2.stands closed)
   ]
 
   pub all_there : IsClosed bytes gate → length events ≡ length (events_of history)

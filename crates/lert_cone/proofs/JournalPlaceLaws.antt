@@ -2,6 +2,9 @@
 use Rattle.std.proofs.Common.{◌≡◌, ℕ, zero, suc, ◌+◌, ◌-◌, ◌*◌, ◌/◌, ◌<◌, ◌≤◌, cond, List, [], ◌∷◌, ◌++◌, All, length, get_or, take, drop, refl, ap, sym, ◌∙◌, subst, inl, inr, arith, length-append}
 use Rattle.std.proofs.{Common.{length-drop, length-take, append_assoc, get_or-set_other, get_or-set_same}, Math.ListN.set, Math.Nat.{add-mul, mul-le-mul_right}, lemmas.Bool.{cases_lt, eq-eqb, ne_eqb}}
 use Rattle.std.proofs.{lemmas.Grind.flat_map-append, lemmas.List.{get_or-append-add, get_or-take}}
+use Rattle.lert_cone.proofs.SoundLaws.{some_keys_of}
+use Rattle.lert_levels.specs.OnDisk.{written}
+use Rattle.lert_base.specs.Packet.{keys_of}
 use Rattle.lert_base.specs.Packet.{Packet, events_of}
 use Rattle.lert_journal.specs.Payload.{IsJournaled}
 use Rattle.lert_reports.specs.{Log.last_n0, LogText.LogRecord}
@@ -16,7 +19,7 @@ use Rattle.lert_cone.proofs.BinLaws.{begun_from, begun_none, begun_to, bin_more,
 -- the packets before it have no more keys than all
 events_within : (history : List Packet) (place : JournalPlace) (p : ℕ) (holds : HoldsPosition history place p) → length (events_of holds.done) ≤ length (events_of history)
 events_within history place p holds =
-    let split = ap events_of holds.is ∙ flat_map-append (λ (q : Packet). q.keys) holds.done (holds.packet ∷ holds.rest) in
+    let split = ap events_of holds.is ∙ flat_map-append (λ (q : Packet). (keys_of q)) holds.done (holds.packet ∷ holds.rest) in
     omega (arith, ap (length {A = ℕ}) split, length-append (events_of holds.done) (events_of (holds.packet ∷ holds.rest)))
 
 -- ---- a history that grows
@@ -67,7 +70,7 @@ places_none history places from_is = record {
 -- a packet that stands behind others, at its gate and with its first position
 module _ (history done : List Packet) (packet : Packet) (rest : List Packet) (is : history ≡ done ++ packet ∷ rest) (place : JournalPlace) (n : ℕ) (gate_is : place.gate ≡ end_of done)
     (n_is : n ≡ length (events_of done)) (first_is : place.first ≡ n + 1) where
-  pub packet_holds : AreOfRecord history place n (n + length packet.keys)
+  pub packet_holds : AreOfRecord history place n (n + length (keys_of packet))
   packet_holds = record {
     each = λ p low high. record {
       done = done;
@@ -83,12 +86,12 @@ module _ (history done : List Packet) (packet : Packet) (rest : List Packet) (is
 
 -- the packet behind a list
 pub last_holds : (history : List Packet) (packet : Packet) (place : JournalPlace) (n : ℕ) → place.gate ≡ end_of history → n ≡ length (events_of history) → place.first ≡ n + 1 →
-    AreOfRecord (history ++ packet ∷ []) place n (n + length packet.keys)
+    AreOfRecord (history ++ packet ∷ []) place n (n + length (keys_of packet))
 last_holds history packet place n gate_is n_is first_is = packet_holds (history ++ packet ∷ []) history packet [] refl place n gate_is n_is first_is
 
 -- the packet that is read next
 pub next_holds : (history done : List Packet) (events : List ℕ) (gate : ℕ) (packet : Packet) (keys : List ℕ) (place : JournalPlace) → IsPast history done events gate → IsNext history done packet →
-    keys ≡ packet.keys → place.gate ≡ gate → place.first ≡ length events + 1 → AreOfRecord history place (length events) (length events + length keys)
+    keys ≡ (keys_of packet) → place.gate ≡ gate → place.first ≡ length events + 1 → AreOfRecord history place (length events) (length events + length keys)
 next_holds history done events gate packet keys place past next keys_are gate_is first_is =
     subst (λ (ks : List ℕ). AreOfRecord history place (length events) (length events + length ks)) (sym keys_are)
     (packet_holds history done packet next.rest next.is place (length events) (gate_is ∙ past.gate_is) (ap length past.keys) first_is)
@@ -250,7 +253,7 @@ module _ (s : Numbers) (valid : IsValid s) where
   ]
 
   -- what a record names keeps the rules of a log
-  pub may_name : (cone n0 : ℕ) (history : List Packet) (place : JournalPlace) → All (IsJournaled s cone) history → length (events_of history) ≤ capacity s → NamesRecord s history n0 place →
+  pub may_name : (cone n0 : ℕ) (history : List Packet) (place : JournalPlace) → All (IsJournaled written s cone) history → length (events_of history) ≤ capacity s → NamesRecord s history n0 place →
       MayName s n0 place
   may_name cone n0 history place journaled within names =
       elim (cases_lt 0 n0) [
@@ -258,7 +261,7 @@ module _ (s : Numbers) (valid : IsValid s) where
             let front : length history ≡ length holds.done + length (holds.packet ∷ holds.rest) = ap (length {A = Packet}) holds.is ∙ length-append holds.done (holds.packet ∷ holds.rest) in
             record {
               offset_from = omega (arith, holds.gate_is);
-              offset_to = omega (arith, holds.gate_is, front, few history (λ k d below. (journaled k d below).some), within, capacity_to s valid, events_within history place (edge s 0 n0 + 1) holds);
+              offset_to = omega (arith, holds.gate_is, front, few history (λ k d below. some_keys_of s cone _ (journaled k d below)), within, capacity_to s valid, events_within history place (edge s 0 n0 + 1) holds);
               first_from = omega (arith, holds.first_is);
               first_to = holds.from;
             })

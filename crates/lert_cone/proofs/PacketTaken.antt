@@ -1,6 +1,8 @@
 -- A packet through the calls that it makes: it isn't appended, or it is, and its keys are taken.
 use Rattle.std.specs.{Prelude.IsErr, Result.IsErrAnd}
 use Rattle.std.proofs.Common.{◌≡◌, ℕ, ◌+◌, ◌^◌, ◌<◌, ◌≤◌, List, [], ◌∷◌, ◌++◌, All, length, Result, Ok, Err, OnOk, OnErr, Some, refl, ap, ◌∙◌, subst, inl, inr, arith, sym}
+use Rattle.lert_levels.specs.OnDisk.{written}
+use Rattle.lert_base.specs.Packet.{keys_of}
 use Rattle.lert_base.specs.Packet.{Packet, events_of}
 use Rattle.lert_bay.specs.{Files.{Files, IfTold, Turns}, Kept.{Bays, KeepsBay}}
 use Rattle.lert_gatelog.specs.{Gated.{IsClosed, Log, next_gate}, Kept.{InEach, KeepsOthers, KeepsBefore, IsWhollySettled, OthersStay}}
@@ -16,12 +18,12 @@ use Rattle.lert_cone.proofs.{AppendLaws.{sound_appending, up_appended, records_t
 -- what the append of a packet says: its clauses
 abbrev pub AppendsPacket : {B : Type 0} → Bays B → Packet → B → B → Log → Log → Result (Unit {0}) Fault → Type 0
 AppendsPacket bays packet bay bay_after old new result = record {
-  moved : OnOk result (new ≡ record old { gate = next_gate old.gate (payload_of packet) });
+  moved : OnOk result (new ≡ record old { gate = next_gate old.gate (payload_of written packet) });
   stayed : OnErr result (new ≡ old);
-  each_moment : IfTold (bays.files bay) (λ _. (first : ℕ) (packets : List Packet) → InEach (bays.leaves bay) old.file (λ bytes. HasPackets old.most bytes first packets old.gate) →
-      InEach (bays.left_since bay_after (bays.moment bay)) old.file (HasPacketsOrOneMore old.most first packets old.gate packet));
-  appended : IfTold (bays.files bay) (λ _. (first : ℕ) (packets : List Packet) → InEach (bays.leaves bay) old.file (λ bytes. HasPackets old.most bytes first packets old.gate) →
-      OnOk result (InEach (bays.leaves bay_after) old.file (λ bytes. HasPackets old.most bytes first (packets ++ packet ∷ []) new.gate)));
+  each_moment : IfTold (bays.files bay) (λ _. (first : ℕ) (packets : List Packet) → InEach (bays.leaves bay) old.file (λ bytes. HasPackets written old.most bytes first packets old.gate) →
+      InEach (bays.left_since bay_after (bays.moment bay)) old.file (HasPacketsOrOneMore written old.most first packets old.gate packet));
+  appended : IfTold (bays.files bay) (λ _. (first : ℕ) (packets : List Packet) → InEach (bays.leaves bay) old.file (λ bytes. HasPackets written old.most bytes first packets old.gate) →
+      OnOk result (InEach (bays.leaves bay_after) old.file (λ bytes. HasPackets written old.most bytes first (packets ++ packet ∷ []) new.gate)));
   closed : IfTold (bays.files bay) (λ _. OnOk result (InEach (bays.leaves bay_after) old.file (λ bytes. IsClosed bytes new.gate)));
   settled : OnOk result (IfTold (bays.files bay_after) (λ seen. IsWhollySettled (bays.leaves bay_after) seen old.file));
   before : IfTold (bays.files bay) (λ seen. KeepsBefore (bays.leaves bay) (bays.left_since bay_after (bays.moment bay)) seen old.file old.gate);
@@ -31,8 +33,8 @@ AppendsPacket bays packet bay bay_after old new result = record {
 }
 
 module _ {B : Type 0} {bays : Bays B} (lawful : IsLawful bays) {old : Workplace B} {packet : Packet} {journal : Log} (can : CanTakePacket bays packet old journal) {keys : List ℕ}
-    (keys_are : keys ≡ packet.keys) (keys_fit : All (λ key. key < 2 ^ 64) keys) (journal_after : Log) (bay : B) where
-  fit : All (λ key. key < 2 ^ 64) packet.keys
+    (keys_are : keys ≡ (keys_of packet)) (keys_fit : All (λ key. key < 2 ^ 64) keys) (journal_after : Log) (bay : B) where
+  fit : All (λ key. key < 2 ^ 64) (keys_of packet)
   fit = subst (All (λ key. key < 2 ^ 64)) keys_are keys_fit
 
   -- whatever comes of the append
@@ -46,11 +48,11 @@ module _ {B : Type 0} {bays : Bays B} (lawful : IsLawful bays) {old : Workplace 
     before_here : IfTold (bays.files old.bay) (λ seen. KeepsBefore (bays.leaves old.bay) (bays.left_since bay (bays.moment old.bay)) seen 0 journal.gate)
     before_here seen told = subst (λ (f : ℕ). KeepsBefore (bays.leaves old.bay) (bays.left_since bay (bays.moment old.bay)) seen f journal.gate) can.file (appends.before seen told)
 
-    fits_here : (seen : Files) (history : List Packet) → IsWholeAt bays old journal seen history → length (events_of history) + length packet.keys ≤ capacity old.counts.listing.settings
+    fits_here : (seen : Files) (history : List Packet) → IsWholeAt bays old journal seen history → length (events_of history) + length (keys_of packet) ≤ capacity old.counts.listing.settings
     fits_here seen history whole = omega (arith, can.fits, ap (length {A = ℕ}) whole.keys)
 
     there : (seen : Files) → bays.files old.bay ≡ Some seen → (history : List Packet) → IsWholeAt bays old journal seen history →
-        InEach (bays.leaves old.bay) 0 (λ bytes. HasPackets (most_payload old.counts.listing.settings) bytes 32 history journal.gate)
+        InEach (bays.leaves old.bay) 0 (λ bytes. HasPackets written (most_payload old.counts.listing.settings) bytes 32 history journal.gate)
     there seen told history whole =
         records_there (bays.leaves old.bay) (bays.left_since bay (bays.moment old.bay)) seen old.counts old.log journal.gate history packet can.counted can.still
         (lawful.as_read old.bay seen told) whole
@@ -145,7 +147,7 @@ module _ {B : Type 0} {bays : Bays B} (lawful : IsLawful bays) {old : Workplace 
     -- its keys are those of the record that begins at the gate
     next_then : (place : JournalPlace) → place.gate ≡ journal.gate → place.first ≡ length old.counts.listing.events + 1 → (seen : Files) (history : List Packet) →
         IsWholeAt bays old journal seen history →
-        AreOfRecord (history ++ packet ∷ []) place (length old.counts.listing.events) (length old.counts.listing.events + length packet.keys)
+        AreOfRecord (history ++ packet ∷ []) place (length old.counts.listing.events) (length old.counts.listing.events + length (keys_of packet))
     next_then place gate_is first_is seen history whole =
         last_holds history packet place (length old.counts.listing.events) (gate_is ∙ whole.gate_is) (ap (length {A = ℕ}) whole.keys) first_is
 

@@ -1,5 +1,5 @@
 -- The text of a record, as it is appended.
-use Rattle.std.proofs.Common.{◌≡◌, ℕ, ◌+◌, ◌-◌, ◌*◌, ◌≤◌, List, [], ◌∷◌, ◌++◌, length, take, drop, Result, Err, refl, sym, ap, subst, ◌∙◌, arith, length-drop, length-append}
+use Rattle.std.proofs.Common.{◌≡◌, ℕ, ◌+◌, ◌-◌, ◌≤◌, List, [], ◌∷◌, ◌++◌, length, take, drop, Result, Err, refl, sym, ap, subst, ◌∙◌, arith, length-drop, length-append}
 use Rattle.std.proofs.{lemmas.List.take_all, lemmas.Nat.mul-le}
 use Rattle.lert_gatelog.specs.Gated.{appendix, IsAppendix}
 use Rattle.lert_gatelog.proofs.GatedLaws.{length_appendix}

@@ -1,6 +1,8 @@
 -- A record of the journal through the calls that a cone makes for it as it is read again: it is read, and then its keys are taken.
 use Rattle.std.proofs.Common.{◌≡◌, ℕ, ◌+◌, ◌≤◌, List, ◌++◌, length, take, drop, max, Option, Some, Result, Ok, OnOk, sym, ap, ◌∙◌, subst, inl, inr, arith, length-append}
 use Rattle.std.specs.List.{length_refill}
+use Rattle.lert_levels.specs.OnDisk.{written}
+use Rattle.lert_base.specs.Packet.{keys_of}
 use Rattle.lert_base.specs.Packet.{Packet, events_of}
 use Rattle.lert_bay.specs.{Files.{Files, IfTold}, Images.Lasts, Kept.{Bays, CallsBay, KeepsBay}}
 use Rattle.lert_bay.proofs.KeptLaws.{IsLawful, calls, calls_as, calls_on}
@@ -15,9 +17,9 @@ use Rattle.lert_cone.proofs.{Calls.{now_since, alone_on, alone_reading}, GateLaw
 use Rattle.lert_cone.proofs.{ReplayLaws.{journal_on_way, on_way_read, sound_recounted}, ReplayStands.{next_there, read_settled, seen_as, shut_there}, ReplayStep.told_once}
 
 -- a packet that stands at the gate of a journal, said of another name of it
-pub held_at : {s : Numbers} {cone most : ℕ} {journal there : Log} {bytes : List ℕ} {packet : Packet} → journal ≡ there → HoldsPacket s cone most bytes journal.gate packet →
-    HoldsPacket s cone most bytes there.gate packet
-held_at {s} {cone} {most} {journal} {there} {bytes} {packet} is holds = subst (λ (j : Log). HoldsPacket s cone most bytes j.gate packet) is holds
+pub held_at : {s : Numbers} {cone most : ℕ} {journal there : Log} {bytes : List ℕ} {packet : Packet} → journal ≡ there → HoldsPacket written s cone most bytes journal.gate packet →
+    HoldsPacket written s cone most bytes there.gate packet
+held_at {s} {cone} {most} {journal} {there} {bytes} {packet} is holds = subst (λ (j : Log). HoldsPacket written s cone most bytes j.gate packet) is holds
 
 -- a journal that moved on
 pub moved_on : {journal there after : Log} (payload : List ℕ) → after ≡ record journal { gate = next_gate journal.gate payload } → journal ≡ there →
@@ -104,7 +106,7 @@ module _ {B : Type 0} (bays : Bays B) (lawful : IsLawful bays) where
         (read_logged s old (Ok tt) shut) did)
 
     -- no flush comes with its keys
-    pub keys_unwritten : (s : Numbers) (n n0 : ℕ) (packet : Packet) (keys : List ℕ) (new : B) → keys ≡ packet.keys → last_flush s (n + length packet.keys) ≤ max n0 n →
+    pub keys_unwritten : (s : Numbers) (n n0 : ℕ) (packet : Packet) (keys : List ℕ) (new : B) → keys ≡ (keys_of packet) → last_flush s (n + length (keys_of packet)) ≤ max n0 n →
         (last_flush s (n + length keys) ≤ max n0 n → new ≡ bay_read) → IsUnwritten bays bay new
     keys_unwritten s n n0 packet keys new keys_are passed unflushed =
         subst (λ (b : B). IsUnwritten bays bay b) (sym (unflushed (omega (arith, passed, ap (λ (ks : List ℕ). last_flush s (n + length ks)) keys_are)))) read_unwritten
@@ -132,7 +134,7 @@ module _ {B : Type 0} (bays : Bays B) (lawful : IsLawful bays) where
       past = subst (IsPast history done t.listing.events) (sym gate_same) way.past
 
       -- a packet that stands there is the next one, and memory and files are where they were
-      pub with_keys : (packet : Packet) → HoldsPacket t.listing.settings t.listing.cone (most_payload t.listing.settings) (seen 0) gate packet → (keys : List ℕ) → keys ≡ packet.keys →
+      pub with_keys : (packet : Packet) → HoldsPacket written t.listing.settings t.listing.cone (most_payload t.listing.settings) (seen 0) gate packet → (keys : List ℕ) → keys ≡ (keys_of packet) →
           {X : Type 0} → (bays.files bay_read ≡ Some seen → (next : IsNext history done packet) → events_of history ≡ t.listing.events ++ (keys ++ events_of next.rest) →
           IsOnWay (bays.leaves bay_read) seen history t.listing t.rows t.due.reports log last.n0 → X) → X
       with_keys packet holds keys keys_are goes =
@@ -164,8 +166,8 @@ module _ {B : Type 0} (bays : Bays B) (lawful : IsLawful bays) where
             (λ image may. sound_recounted (bays.leaves bay) seen history t log last.n0 recounted on_way (events_of past.rest) (keys_past history done t.listing.events gate past) image
             (read.reads.moments image may))
 
-        pub keys_stay : (packet : Packet) → HoldsPacket t.listing.settings t.listing.cone (most_payload t.listing.settings) (seen 0) gate packet → (keys : List ℕ) →
-            keys ≡ packet.keys →
+        pub keys_stay : (packet : Packet) → HoldsPacket written t.listing.settings t.listing.cone (most_payload t.listing.settings) (seen 0) gate packet → (keys : List ℕ) →
+            keys ≡ (keys_of packet) →
             (place : JournalPlace) → place.gate ≡ gate → place.first ≡ length t.listing.events + 1 → (buffer : ℕ) (new : Workplace B) (result : Result (Unit {0}) TakeFault) →
             ReplaysKeys bays last.n0 place keys (record { bay = bay_read; counts = t; log = log; room = buffer }) new result →
             StaysSound bays t.listing.settings t.listing.cone history bay new.bay

@@ -1,6 +1,9 @@
 -- A cone whose journal is read again: what is so of it, what the record at a gate makes of it, and which
 -- lists it stands for at the end.
 use Rattle.std.proofs.{Common.{◌≡◌, ℕ, ◌+◌, ◌*◌, ◌^◌, ◌<◌, ◌≤◌, Bool, true, false, cond, List, length, Option, Some, None, All, refl, sym, ap, ◌∙◌, subst, arith}, lemmas.Bool.false≢true}
+use Rattle.lert_spec.proofs.ItemLaws.{length-keys_in}
+use Rattle.lert_levels.specs.OnDisk.{written}
+use Rattle.lert_base.specs.Packet.{keys_of}
 use Rattle.lert_base.specs.Packet.{Packet, events_of}
 use Rattle.lert_bay.specs.{Files.{Files, IfTold, Turns}, Images.KeepsImages}
 use Rattle.lert_gatelog.specs.{declared.fault.LogFault.LogFault, declared.fault.LogFault.TheVariants.{Failed as LogFailed, Malformed as LogMalformed}, Gated.{IsClosed, Log, next_gate}}
@@ -54,7 +57,7 @@ shut_there {file = file} {gate = gate} settled closed seen is = record {
 pub next_there : (leaves : Files → Type 0) (seen : Files) (history done : List Packet) (listing : Listing) (rows : List (List BinAt)) (reports : List Report) (log : LogPlace) (n0 gate : ℕ)
     (packet : Packet) →
     IsOnWay leaves seen history listing rows reports log n0 → leaves seen → IsPast history done listing.events gate →
-    HoldsPacket listing.settings listing.cone (most_payload listing.settings)
+    HoldsPacket written listing.settings listing.cone (most_payload listing.settings)
     (seen 0) gate packet → IsNext history done packet
 next_there leaves seen history done listing rows reports log n0 gate packet on_way read past holds =
     is_next listing.settings listing.cone (seen 0) history done listing.events gate (journal_on_way leaves seen history listing rows reports log n0 on_way read) past packet holds
@@ -189,7 +192,7 @@ module _ {B : Type 0} {files : B → Option Files} {leaves : B → Files → Typ
       (history : List Packet)
       → state ≡ cond last.closed Finished Running → gate_after ≡ gate → IsRecounted tally last.n0 → last.n0 ≤ length tally.listing.events → IsValid tally.listing.settings →
       events ≤ capacity tally.listing.settings
-      → All (λ packet. 0 < length packet.keys) history → length (events_of history) ≡ events → IfTold (files bay) (leaves bay)
+      → All (λ packet. 0 < length (keys_of packet)) history → length (events_of history) ≡ events → IfTold (files bay) (leaves bay)
       → (WereSoundAs files tally.listing.settings tally.listing.cone made
       → IfTold (files bay) (λ _. Replays files leaves (seen_as bay made tally events stopped gate log last) history history))
       → StandsFor files leaves faults (record (readied (seen_as bay made tally events stopped gate log last)) { state = state; gate = gate_after }) history
@@ -221,9 +224,9 @@ settled_then left settled seen told =
     settled_through left back.0 back.1 (settled back.0 back.1) seen told
 
 -- the gate behind a packet lies as far on as its keys need
-pub near_then : (gate gate_after events events_after : ℕ) (packet : Packet) → gate ≤ 2 ^ 62 → gate_after ≡ next_gate gate (payload_of packet) → 0 < length packet.keys →
-    events_after ≡ events + length packet.keys → gate_after ≤ 2 ^ 62 + 21 * events_after
-near_then gate gate_after events events_after packet reach is some events_is = omega (arith, reach, is, length_payload packet, some, events_is)
+pub near_then : (gate gate_after events events_after : ℕ) (packet : Packet) → gate ≤ 2 ^ 62 → gate_after ≡ next_gate gate (payload_of written packet) → 0 < length (keys_of packet) →
+    events_after ≡ events + length (keys_of packet) → gate_after ≤ 2 ^ 62 + 21 * events_after
+near_then gate gate_after events events_after packet reach is some events_is = omega (arith, reach, is, length_payload written packet, length-keys_in packet.items, some, events_is)
 
 -- a place at which the format is left, said of the listing's state
 pub leaves_listing : (s : Numbers) (cone n0 n gate at : ℕ) (closed other : Bool) (bytes : List ℕ) → closed ≡ other → ReplayLeavesAt s cone n0 other n bytes gate at →

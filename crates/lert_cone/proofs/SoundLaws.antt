@@ -1,11 +1,14 @@
 -- The files of a cone as their headers leave them, and through an append.
 use Rattle.std.proofs.Common.{◌≡◌, ℕ, ◌+◌, ◌^◌, ◌<◌, ◌≤◌, List, [], ◌∷◌, ◌++◌, length, take, get_or, Option, Some, None, All, refl, sym, ap, ◌∙◌, subst, arith, length-append, append-nil}
 use Rattle.std.proofs.{Math.Seq.get_or-append_seam, lemmas.Grind.flat_map-append, lemmas.List.{take-take, take_at, take_all}, lemmas.List.Elements.All-nil, lemmas.Option.{none-some, same_Some}}
+use Rattle.lert_spec.proofs.ItemLaws.{length-keys_in}
+use Rattle.lert_levels.specs.OnDisk.{written}
+use Rattle.lert_base.specs.Packet.{keys_of}
 use Rattle.lert_base.specs.Packet.{Packet, events_of}
 use Rattle.lert_bay.specs.{Files.{Files, Turns}, Settled.{part, Keeps}}
 use Rattle.lert_gatelog.specs.{Gated.{IsClosed, next_gate}, Kept.{InEach, KeepsOthers, IsWhollySettled, OthersStay}}
 use Rattle.lert_gatelog.proofs.GatedLaws.{byte_of_part, part_within}
-use Rattle.lert_journal.specs.{Header.header, Payload.{payload_of, IsJournaled}}
+use Rattle.lert_journal.specs.{Header.{magic, header}, Payload.{payload_of, IsJournaled}}
 use Rattle.lert_journal.proofs.PayloadLaws.{length_payload}
 use Rattle.lert_spec.specs.declared.numbers.Numbers.{Numbers}
 use Rattle.lert_cone.specs.{History.end_of, InStep.AreNew, Sound.IsJournal}
@@ -25,15 +28,19 @@ turns_back {before = None} turns new told = absurd (none-some new (sym (turns.un
 -- ---- histories
 
 -- the keys of one packet more
-pub events_more : (history : List Packet) (packet : Packet) → events_of (history ++ packet ∷ []) ≡ events_of history ++ packet.keys
-events_more history packet = flat_map-append (λ p. p.keys) history (packet ∷ []) ∙ ap (λ keys. events_of history ++ keys) (append-nil packet.keys)
+pub events_more : (history : List Packet) (packet : Packet) → events_of (history ++ packet ∷ []) ≡ events_of history ++ (keys_of packet)
+events_more history packet = flat_map-append (λ p. (keys_of p)) history (packet ∷ []) ∙ ap (λ keys. events_of history ++ keys) (append-nil (keys_of packet))
 
-pub counted_more : (history : List Packet) (packet : Packet) → length (events_of (history ++ packet ∷ [])) ≡ length (events_of history) + length packet.keys
-counted_more history packet = ap length (events_more history packet) ∙ length-append (events_of history) packet.keys
+pub counted_more : (history : List Packet) (packet : Packet) → length (events_of (history ++ packet ∷ [])) ≡ length (events_of history) + length (keys_of packet)
+counted_more history packet = ap length (events_more history packet) ∙ length-append (events_of history) (keys_of packet)
+
+-- a packet that a journal may hold has a key
+pub some_keys_of : (s : Numbers) (cone : ℕ) (packet : Packet) → IsJournaled written s cone packet → 0 < length (keys_of packet)
+some_keys_of s cone packet may = omega (arith, may.some, length-keys_in packet.items)
 
 -- the gate behind one packet more
-pub end_more : (history : List Packet) (packet : Packet) → next_gate (end_of history) (payload_of packet) ≡ end_of (history ++ packet ∷ [])
-end_more history packet = omega (arith, length_payload packet, counted_more history packet, length-append history (packet ∷ []))
+pub end_more : (history : List Packet) (packet : Packet) → next_gate (end_of history) (payload_of written packet) ≡ end_of (history ++ packet ∷ [])
+end_more history packet = omega (arith, length_payload written packet, length-keys_in packet.items, counted_more history packet, length-append history (packet ∷ []))
 
 -- ---- the headers
 
@@ -68,27 +75,27 @@ log_none s cone = record {
   rules = records_none s cone;
 }
 
-module _ (s : Numbers) (cone : ℕ) (leaves_one leaves since : Files → Type 0) (seen_one seen : Files) (long : length (header s cone) ≡ 32)
-    (begun : IsBegun (header s cone) leaves_one leaves since seen_one seen) where
-  first_text : seen_one 0 ≡ header s cone ++ 0 ∷ []
+module _ (s : Numbers) (cone : ℕ) (leaves_one leaves since : Files → Type 0) (seen_one seen : Files) (long : length (header (magic written) s cone) ≡ 32)
+    (begun : IsBegun (header (magic written) s cone) leaves_one leaves since seen_one seen) where
+  first_text : seen_one 0 ≡ header (magic written) s cone ++ 0 ∷ []
   first_text = begun.journal seen_one begun.first_read
 
   first_long : length (seen_one 0) ≡ 33
-  first_long = ap length first_text ∙ omega (arith, length-append (header s cone) (0 ∷ []), long)
+  first_long = ap length first_text ∙ omega (arith, length-append (header (magic written) s cone) (0 ∷ []), long)
 
   keeps : Keeps leaves seen_one 0 0 33
   keeps image may = subst (λ (to : ℕ). part (image 0) 0 to ≡ part (seen_one 0) 0 to) first_long
       (begun.others 0 0 (length (seen_one 0)) (λ same. absurd (omega (arith, same))) begun.journal_settled image (begun.now image may))
 
-  front : (image : Files) → leaves image → part (image 0) 0 33 ≡ header s cone ++ 0 ∷ []
+  front : (image : Files) → leaves image → part (image 0) 0 33 ≡ header (magic written) s cone ++ 0 ∷ []
   front image may = keeps image may ∙ (take_all 33 (seen_one 0) (omega (arith, first_long)) ∙ first_text)
 
   begun_journal : InEach leaves 0 (IsJournal s cone [])
   begun_journal image may = record {
-    headed = (begins (header s cone) (image 0) long (front image may)).0;
-    records = record { records = refl; closed = (begins (header s cone) (image 0) long (front image may)).1 };
-    journaled = All-nil (IsJournaled s cone);
-    fit = All-nil (λ packet. All (λ key. key < 2 ^ 64) packet.keys);
+    headed = (begins (header (magic written) s cone) (image 0) long (front image may)).0;
+    records = record { records = refl; closed = (begins (header (magic written) s cone) (image 0) long (front image may)).1 };
+    journaled = All-nil (IsJournaled written s cone);
+    fit = All-nil (λ packet. All (λ key. key < 2 ^ 64) (keys_of packet));
     within = omega arith;
   }
 

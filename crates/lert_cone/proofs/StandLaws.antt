@@ -2,6 +2,9 @@
 use Rattle.std.proofs.{Common.{◌≡◌, ℕ, ◌+◌, ◌*◌, ◌<◌, ◌≤◌, true, false, List, [], ◌++◌, length, Option, None, All, cond, refl, sym, ap, ◌∙◌, subst, arith, length-append}, lemmas.Bool.false≢true}
 use Rattle.std.proofs.lemmas.List.Elements.{All-nil}
 use Rattle.std.specs.Prelude.{replicate}
+use Rattle.lert_spec.proofs.ItemLaws.{length-keys_in}
+use Rattle.lert_levels.specs.OnDisk.{written}
+use Rattle.lert_base.specs.Packet.{keys_of}
 use Rattle.lert_base.specs.Packet.{Packet, events_of}
 use Rattle.lert_bay.specs.Files.{Files, IfTold, Turns}
 use Rattle.lert_gatelog.specs.Gated.{IsClosed, Log, next_gate}
@@ -88,7 +91,7 @@ module _ {B : Type 0} (files : B → Option Files) (leaves : B → Files → Typ
       → IfTold (files bay) (λ seen. AreNew s cone (leaves bay) seen) → IfTold (files bay) (leaves bay)
       → StandsFor files leaves faults (cone_at bay made tally 0 Running None gate log last) []
   new_stands bay made s cone tally gate log last valid is gate_is log_is rows_are none counted new as_read = record {
-    some = All-nil (λ packet. 0 < length packet.keys);
+    some = All-nil (λ packet. 0 < length (keys_of packet));
     counted = refl;
     within = omega arith;
     valid = subst (λ (l : Listing). IsValid l.settings) (sym is) valid;
@@ -161,7 +164,7 @@ was_before files {old = old} {new = new} same was first told =
 module _ {B : Type 0} {files : B → Option Files} {leaves : B → Files → Type 0} {faults : B → ℕ} where
   -- one in another state that isn't broken, or with a packet more
   pub stands_whole : {old new : Standing B} {history more : List Packet} → IsSameCone old new → is_broken new.state ≡ false → new.over ≡ None
-      → All (λ packet. 0 < length packet.keys) more → length (events_of more) ≡ new.events → new.events ≤ capacity old.listing.settings
+      → All (λ packet. 0 < length (keys_of packet)) more → length (events_of more) ≡ new.events → new.events ≤ capacity old.listing.settings
       → (WasSound files old → IfTold (files new.bay) (λ seen. IsWhole (leaves new.bay) seen new.listing new.rows new.reports new.gate new.log more)) →
       StandsFor files leaves faults old history
       → StandsFor files leaves faults new more
@@ -198,9 +201,9 @@ module _ {B : Type 0} {files : B → Option Files} {leaves : B → Files → Typ
   -- a packet more, and its keys
   pub more_cone : {mark : B → ℕ} {bay made last : B} {tally after : Tallied} {events events_after room room_after keys_room : ℕ} {state : ConeState} {over : Option Packet}
       {journal journal_after : Log} {log log_after : LogPlace} {point : LogPoint} (packet : Packet)
-      → state ≡ Running → after.listing ≡ record tally.listing { events = tally.listing.events ++ packet.keys } → IsCounted after → events_after ≡ events + length packet.keys
-      → journal_after ≡ record journal { gate = next_gate journal.gate (payload_of packet) } → room_after ≡ room → 0 < length packet.keys →
-      events + length packet.keys ≤ capacity tally.listing.settings
+      → state ≡ Running → after.listing ≡ record tally.listing { events = tally.listing.events ++ (keys_of packet) } → IsCounted after → events_after ≡ events + length (keys_of packet)
+      → journal_after ≡ record journal { gate = next_gate journal.gate (payload_of written packet) } → room_after ≡ room → 0 < length (keys_of packet) →
+      events + length (keys_of packet) ≤ capacity tally.listing.settings
       → faults bay ≤ faults last → Turns Anything (files bay) (files last) → mark last ≡ mark bay → IsShutIfTold (files last) (leaves last) 0 journal_after.gate
       → IsLogging after log_after room_after →
       IsShutIfTold (files last) (leaves last) 1 log_after.gate
@@ -218,10 +221,10 @@ module _ {B : Type 0} {files : B → Option Files} {leaves : B → Files → Typ
     tells = turns_on cone.tells turns;
     by_bay = λ never. absurd (false≢true (sym (ap is_broken running) ∙ ap is_broken never));
     none_over = cone.none_over;
-    counted = λ still. omega (arith, ap (λ (l : Listing). length l.events) is, length-append tally.listing.events packet.keys, cone.counted still, events_is);
+    counted = λ still. omega (arith, ap (λ (l : Listing). length l.events) is, length-append tally.listing.events (keys_of packet), cone.counted still, events_is);
     tallied = λ _. counted;
     closed = λ still. ap (λ (l : Listing). l.closed) is ∙ cone.closed still;
-    near = λ still. omega (arith, cone.near still, ap (λ (j : Log). j.gate) journal_is, length_payload packet, events_is, some);
+    near = λ still. omega (arith, cone.near still, ap (λ (j : Log). j.gate) journal_is, length_payload written packet, length-keys_in packet.items, events_is, some);
     shut = λ _. shut;
     logging = λ _. logging;
     log_shut = λ _. log_shut;

@@ -1,6 +1,9 @@
 -- The keys that a reopening doesn't read: as many keys of the cone as are asked for, and of a journal its first ones.
 use Rattle.std.proofs.Common.{◌≡◌, ℕ, zero, suc, ◌+◌, ◌<◌, ◌≤◌, ◌^◌, List, [], ◌∷◌, ◌++◌, length, map, take, replicate, All, Option, Some, refl, sym, ap, ap₂, ◌∙◌, subst, arith, append_assoc}
 use Rattle.std.proofs.{Common.length-append, lemmas.List.{length-map, length-replicate, length-take-le, map-append, take-append-le, take_all}, lemmas.List.Elements.{All-head, All-tail}}
+use Rattle.lert_spec.proofs.ItemLaws.{length-keys_in}
+use Rattle.lert_levels.specs.OnDisk.{written}
+use Rattle.lert_base.specs.Packet.{keys_of}
 use Rattle.lert_base.specs.Packet.{Packet, events_of}
 use Rattle.lert_bay.specs.{Files.Files, Settled.part}
 use Rattle.lert_gatelog.specs.Gated.{Records, IsOpen, counted_at}
@@ -55,46 +58,47 @@ module _ (s : Numbers) (cone : ℕ) (valid : IsValid s) (named : cone < 2 ^ s.co
       (kept keys (All-tail (λ k. k < 2 ^ 64) key keys fit) (All-tail (λ k. cone_of s k ≡ cone) key keys own))
 
   module _ (rest : List Packet) where
-    all_kept : (done : List Packet) → KeysFit (done ++ rest) → All (IsJournaled s cone) (done ++ rest) → map (own_key s cone) (events_of done) ≡ events_of done
+    all_kept : (done : List Packet) → KeysFit (done ++ rest) → All (IsJournaled written s cone) (done ++ rest) → map (own_key s cone) (events_of done) ≡ events_of done
     all_kept [] fit journaled = refl
     all_kept (packet ∷ done) fit journaled =
-        map-append (own_key s cone) packet.keys (events_of done)
+        map-append (own_key s cone) (keys_of packet) (events_of done)
         ∙ ap₂ (λ xs ys. xs ++ ys)
-        (kept packet.keys (All-head (λ (p : Packet). All (λ key. key < 2 ^ 64) p.keys) packet (done ++ rest) fit)
-        (All-head (IsJournaled s cone) packet (done ++ rest) journaled).of_cone)
-        (all_kept done (All-tail (λ (p : Packet). All (λ key. key < 2 ^ 64) p.keys) packet (done ++ rest) fit) (All-tail (IsJournaled s cone) packet (done ++ rest) journaled))
+        (kept (keys_of packet) (All-head (λ (p : Packet). All (λ key. key < 2 ^ 64) (keys_of p)) packet (done ++ rest) fit)
+        (All-head (IsJournaled written s cone) packet (done ++ rest) journaled).of_cone)
+        (all_kept done (All-tail (λ (p : Packet). All (λ key. key < 2 ^ 64) (keys_of p)) packet (done ++ rest) fit) (All-tail (IsJournaled written s cone) packet (done ++ rest) journaled))
 
-    few : (done : List Packet) → All (IsJournaled s cone) (done ++ rest) → length done ≤ length (events_of done)
+    few : (done : List Packet) → All (IsJournaled written s cone) (done ++ rest) → length done ≤ length (events_of done)
     few [] journaled = omega arith
     few (packet ∷ done) journaled = omega (
       arith,
-      length-append packet.keys (events_of done),
-      (All-head (IsJournaled s cone) packet (done ++ rest) journaled).some,
-      few done (All-tail (IsJournaled s cone) packet (done ++ rest) journaled),
+      length-append (keys_of packet) (events_of done),
+      (All-head (IsJournaled written s cone) packet (done ++ rest) journaled).some,
+      length-keys_in packet.items,
+      few done (All-tail (IsJournaled written s cone) packet (done ++ rest) journaled),
     )
 
     module _ (most : ℕ) (bytes : List ℕ) (end : ℕ) where
       -- a record's payload is read back as its packet
-      packet_there : (packet : Packet) (gate : ℕ) → IsOpen most bytes gate (payload_of packet) → IsJournaled s cone packet → All (λ key. key < 2 ^ 64) packet.keys →
-          packet_in (part bytes (gate + 5) (gate + 5 + counted_at bytes gate)) ≡ packet
+      packet_there : (packet : Packet) (gate : ℕ) → IsOpen most bytes gate (payload_of written packet) → IsJournaled written s cone packet → All (λ key. key < 2 ^ 64) (keys_of packet) →
+          packet_in written (part bytes (gate + 5) (gate + 5 + counted_at bytes gate)) ≡ packet
       packet_there packet gate stands journaled fit =
-          ap (λ n. packet_in (part bytes (gate + 5) (gate + 5 + n))) stands.counted
-          ∙ (ap packet_in stands.there
-          ∙ packet_back packet (omega (arith, journaled.by_most)) (omega (arith, journaled.trace_most)) fit)
+          ap (λ n. packet_in written (part bytes (gate + 5) (gate + 5 + n))) stands.counted
+          ∙ (ap (packet_in written) stands.there
+          ∙ packet_back written packet (omega (arith, journaled.by_most)) (omega (arith, journaled.trace_most)) fit journaled.weighed)
 
       -- as many records as there are packets, or more, begin with their keys
-      begun : (done : List Packet) (n gate : ℕ) → length done ≤ n → Records most bytes gate (map payload_of (done ++ rest)) end → KeysFit (done ++ rest) →
-          All (IsJournaled s cone) (done ++ rest) → (more : List ℕ) × (keys_from n bytes gate ≡ events_of done ++ more)
+      begun : (done : List Packet) (n gate : ℕ) → length done ≤ n → Records most bytes gate (map (payload_of written) (done ++ rest)) end → KeysFit (done ++ rest) →
+          All (IsJournaled written s cone) (done ++ rest) → (more : List ℕ) × (keys_from n bytes gate ≡ events_of done ++ more)
       begun [] n gate enough records fit journaled = (keys_from n bytes gate, refl)
       begun (packet ∷ done) zero gate enough records fit journaled = absurd (omega (arith, enough))
       begun (packet ∷ done) (suc n) gate enough records fit journaled =
-          let is_keys : All (λ key. key < 2 ^ 64) packet.keys = All-head (λ (p : Packet). All (λ key. key < 2 ^ 64) p.keys) packet (done ++ rest) fit in
-          let first = packet_there packet gate records.0 (All-head (IsJournaled s cone) packet (done ++ rest) journaled) is_keys in
-          let next : gate + 5 + counted_at bytes gate ≡ gate + 5 + length (payload_of packet) = ap (λ n. gate + 5 + n) records.0.counted in
-          let behind = begun done n (gate + 5 + length (payload_of packet)) (omega (arith, enough)) records.1
-          (All-tail (λ (p : Packet). All (λ key. key < 2 ^ 64) p.keys) packet (done ++ rest) fit) (All-tail (IsJournaled s cone) packet (done ++ rest) journaled) in (
+          let is_keys : All (λ key. key < 2 ^ 64) (keys_of packet) = All-head (λ (p : Packet). All (λ key. key < 2 ^ 64) (keys_of p)) packet (done ++ rest) fit in
+          let first = packet_there packet gate records.0 (All-head (IsJournaled written s cone) packet (done ++ rest) journaled) is_keys in
+          let next : gate + 5 + counted_at bytes gate ≡ gate + 5 + length (payload_of written packet) = ap (λ n. gate + 5 + n) records.0.counted in
+          let behind = begun done n (gate + 5 + length (payload_of written packet)) (omega (arith, enough)) records.1
+          (All-tail (λ (p : Packet). All (λ key. key < 2 ^ 64) (keys_of p)) packet (done ++ rest) fit) (All-tail (IsJournaled written s cone) packet (done ++ rest) journaled) in (
             behind.0,
-            ap₂ (λ (p : Packet) keys. p.keys ++ keys) first (ap (keys_from n bytes) next ∙ behind.1) ∙ sym (append_assoc packet.keys (events_of done) behind.0),
+            ap₂ (λ (p : Packet) keys. (keys_of p) ++ keys) first (ap (keys_from n bytes) next ∙ behind.1) ∙ sym (append_assoc (keys_of packet) (events_of done) behind.0),
           )
 
     taken : (done : List Packet) (keys more : List ℕ) → keys ≡ events_of done ++ more → take (length (events_of done)) (keys ++ replicate (length (events_of done)) 0) ≡ events_of done
@@ -111,9 +115,9 @@ module _ (s : Numbers) (cone : ℕ) (valid : IsValid s) (named : cone < 2 ^ s.co
   unread_is history done rest seen told journal is told_is =
       let n = length (events_of done) in
       let fit : KeysFit (done ++ rest) = subst KeysFit is journal.fit in
-      let journaled : All (IsJournaled s cone) (done ++ rest) = subst (All (IsJournaled s cone)) is journal.journaled in
-      let records : Records (most_payload s) (seen 0) 32 (map payload_of (done ++ rest)) (end_of history) =
-      subst (λ (h : List Packet). Records (most_payload s) (seen 0) 32 (map payload_of h) (end_of history)) is journal.records.records in
+      let journaled : All (IsJournaled written s cone) (done ++ rest) = subst (All (IsJournaled written s cone)) is journal.journaled in
+      let records : Records (most_payload s) (seen 0) 32 (map (payload_of written) (done ++ rest)) (end_of history) =
+      subst (λ (h : List Packet). Records (most_payload s) (seen 0) 32 (map (payload_of written) h) (end_of history)) is journal.records.records in
       let there = begun rest (most_payload s) (seen 0) (end_of history) done n 32 (few rest done journaled) records fit journaled in
       ap (λ (t : Option Files). map (own_key s cone) (take n (keys_from n (journal_of t) 32 ++ replicate n 0))) told_is
       ∙ (ap (map (own_key s cone)) (taken rest done (keys_from n (seen 0) 32) there.0 there.1)

@@ -1,5 +1,6 @@
 -- Where the records of a journal begin, and which of them the log's records name.
 use Rattle.std.specs.Prelude.{◌≡◌, ℕ, ◌+◌, ◌-◌, ◌*◌, ◌/◌, ◌^◌, ◌<◌, ◌≤◌, ◌==◌, List, ◌∷◌, ◌++◌, length, replicate, slice_index_or, if◌then◌else◌}
+use Rattle.lert_base.specs.Packet.{keys_of}
 use Rattle.lert_base.specs.Packet.{Packet, events_of}
 use Rattle.lert_spec.specs.{declared.numbers.Numbers.Numbers, Edges.{span, edge, capacity}, Limits.IsValid}
 use Rattle.lert_reports.specs.{Log.{last_first, last_offset}, LogText.LogRecord}
@@ -20,7 +21,7 @@ pub record HoldsPosition (history : List Packet) (place : JournalPlace) (p : ℕ
   pub gate_is : place.gate ≡ end_of done
   pub first_is : place.first ≡ length (events_of done) + 1
   pub from : place.first ≤ p
-  pub to : p < place.first + length packet.keys
+  pub to : p < place.first + length (keys_of packet)
 
 -- and so for each position behind n up to the last one
 pub record AreOfRecord (history : List Packet) (place : JournalPlace) (n last : ℕ) : Type 0 where

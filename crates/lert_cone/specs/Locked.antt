@@ -1,5 +1,6 @@
 -- What a lock says of the cone that it holds, by the cone's terms alone.
 use Rattle.std.specs.Prelude.{◌≡◌, ◌+◌, ◌<◌, Bool, true, false, List, [], ◌∷◌, ◌++◌, length, Option}
+use Rattle.lert_base.specs.Packet.{keys_of}
 use Rattle.lert_base.specs.{Packet.{Packet, events_of}, declared.cone_fault.ConeFault.ConeFault, declared.cone_fault.ConeFault.TheVariants.CapacityFull}
 use Rattle.lert_bay.specs.Files.{Files, IfTold}
 use Rattle.lert_spec.specs.{Edges.capacity, Look.look}
@@ -17,10 +18,10 @@ is_stopped (BrokenByRead file at) = true
 -- reports stand with it where the bay told its files as the cone was made, since no call changes whether it tells them
 pub record AnswersUnder {B : Type 0} (files : B → Option Files) (terms : Terms B) (history : List Packet) (packet : Packet) (acked : Acked) : Type 0 where
   pub from_is : acked.from ≡ length (events_of history) + 1
-  pub to_is : acked.to ≡ length (events_of history) + length packet.keys
+  pub to_is : acked.to ≡ length (events_of history) + length (keys_of packet)
   pub reports_are : WereSound files terms → IfTold (files terms.made) (λ _. acked.reports ≡ length (look terms.settings (events_of (history ++ packet ∷ []))))
 
 -- its refusal by its rule: the packet has more keys than it takes behind the list
 pub record RefusesUnder {B : Type 0} (terms : Terms B) (history : List Packet) (packet : Packet) (fault : ConeFault) : Type 0 where
-  pub fault_is : fault ≡ CapacityFull (length (events_of history)) (length packet.keys)
-  pub too_many : capacity terms.settings < length (events_of history) + length packet.keys
+  pub fault_is : fault ≡ CapacityFull (length (events_of history)) (length (keys_of packet))
+  pub too_many : capacity terms.settings < length (events_of history) + length (keys_of packet)

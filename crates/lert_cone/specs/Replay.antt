@@ -1,6 +1,8 @@
 -- A cone on its way through the journal of a stopped run: what its memory and its files have by then, and where a record
 -- leaves the format.
 use Rattle.std.specs.Prelude.{◌≡◌, ℕ, ◌+◌, ◌<◌, ◌≤◌, max, Bool, true, false, List, ◌∷◌, ◌++◌, length, take}
+use Rattle.lert_levels.specs.OnDisk.{written}
+use Rattle.lert_base.specs.Packet.{keys_of}
 use Rattle.lert_base.specs.Packet.{Packet, events_of}
 use Rattle.lert_bay.specs.Files.{Files}
 use Rattle.lert_gatelog.specs.Gated.{IsClosed}
@@ -46,16 +48,16 @@ pub record IsNext (history done : List Packet) (packet : Packet) : Type 0 where
 -- a packet may stand behind n events: with it they are no more than a cone takes, and no more than n0, where the log's last
 -- record is a closing one and was written after n0 events
 pub record MayFollow (s : Numbers) (n0 : ℕ) (closed : Bool) (n : ℕ) (packet : Packet) : Type 0 where
-  pub within : n + length packet.keys ≤ capacity s
-  pub before_closing : closed ≡ true → n + length packet.keys ≤ n0
+  pub within : n + length (keys_of packet) ≤ capacity s
+  pub before_closing : closed ≡ true → n + length (keys_of packet) ≤ n0
 
 -- The place at which what stands at a gate, behind n events, leaves the format, in a journal whose log's last record was
 -- written after n0 events: as a record of the journal; a closed gate before n0 events are there, and a record that goes
 -- past a closing one, at the gate; and one with which the events are above the capacity, at its length.
 pub data ReplayLeavesAt (s : Numbers) (cone n0 : ℕ) (closed : Bool) (n : ℕ) (bytes : List ℕ) (gate at : ℕ) : Type 0 where
-  In_record : LeavesAt s cone (most_payload s) bytes gate at → ReplayLeavesAt s cone n0 closed n bytes gate at
+  In_record : LeavesAt written s cone (most_payload s) bytes gate at → ReplayLeavesAt s cone n0 closed n bytes gate at
   Too_few : IsClosed bytes gate → n < n0 → at ≡ gate → ReplayLeavesAt s cone n0 closed n bytes gate at
-  Past_the_end : (packet : Packet) → HoldsPacket s cone (most_payload s) bytes gate packet → closed ≡ true → n0 < n + length packet.keys → at ≡ gate →
+  Past_the_end : (packet : Packet) → HoldsPacket written s cone (most_payload s) bytes gate packet → closed ≡ true → n0 < n + length (keys_of packet) → at ≡ gate →
       ReplayLeavesAt s cone n0 closed n bytes gate at
-  Too_many : (packet : Packet) → HoldsPacket s cone (most_payload s) bytes gate packet → closed ≡ false → capacity s < n + length packet.keys → at ≡ gate + 1 →
+  Too_many : (packet : Packet) → HoldsPacket written s cone (most_payload s) bytes gate packet → closed ≡ false → capacity s < n + length (keys_of packet) → at ≡ gate + 1 →
       ReplayLeavesAt s cone n0 closed n bytes gate at

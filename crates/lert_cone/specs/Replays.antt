@@ -1,5 +1,7 @@
 -- What the record at a gate makes of a cone whose journal is read again.
 use Rattle.std.specs.Prelude.{◌≡◌, ℕ, ◌+◌, ◌≤◌, max, List, [], ◌∷◌, ◌++◌, length, Option, Some, None, Result, Ok, Err}
+use Rattle.lert_levels.specs.OnDisk.{written}
+use Rattle.lert_base.specs.Packet.{keys_of}
 use Rattle.lert_base.specs.Packet.{Packet}
 use Rattle.lert_bay.specs.{Files.{Files, IfTold}, Images.KeepsImages, Kept.Bays, declared.bay.TheConstants.JOURNAL}
 use Rattle.lert_gatelog.specs.{declared.fault.LogFault.LogFault, declared.fault.LogFault.TheVariants.{Failed as LogFailed, Malformed as LogMalformed}, Gated.{IsClosed, next_gate}}
@@ -19,7 +21,7 @@ pub record Replays {B : Type 0} (files : B → Option Files) (leaves : B → Fil
 
 -- a packet that this cone's journal may hold stands in a file at a gate
 abbrev pub HoldsNext : {B : Type 0} → Replaying B → List ℕ → ℕ → Packet → Type 0
-HoldsNext cone bytes gate packet = HoldsPacket cone.listing.settings cone.listing.cone (most_payload cone.listing.settings) bytes gate packet
+HoldsNext cone bytes gate packet = HoldsPacket written cone.listing.settings cone.listing.cone (most_payload cone.listing.settings) bytes gate packet
 
 -- and may stand behind the keys that the cone has
 abbrev pub MayTake : {B : Type 0} → Replaying B → Packet → Type 0
@@ -33,10 +35,10 @@ LeavesBehind cone bytes gate at = ReplayLeavesAt cone.listing.settings cone.list
 abbrev pub with_packet : {B : Type 0} → Replaying B → Packet → ℕ → B → List (List BinAt) → List Report → LogPlace → Replaying B
 with_packet cone packet gate bay rows reports log = record cone {
   bay = bay;
-  listing = record cone.listing { events = cone.listing.events ++ packet.keys };
+  listing = record cone.listing { events = cone.listing.events ++ (keys_of packet) };
   rows = rows;
   reports = reports;
-  events = cone.events + length packet.keys;
+  events = cone.events + length (keys_of packet);
   gate = gate;
   log = log;
 }
@@ -45,9 +47,9 @@ with_packet cone packet gate bay rows reports log = record cone {
 pub record HasTaken {B : Type 0} (files : B → Option Files) (old new : Replaying B) (gate next : ℕ) : Type 0 where
   pub packet : Packet
   pub stands : IfTold (files old.bay) (λ seen. HoldsNext old (seen JOURNAL) gate packet)
-  pub journaled : IsJournaled old.listing.settings old.listing.cone packet
+  pub journaled : IsJournaled written old.listing.settings old.listing.cone packet
   pub follows : MayTake old packet
-  pub next_is : next ≡ next_gate gate (payload_of packet)
+  pub next_is : next ≡ next_gate gate (payload_of written packet)
   pub is : new ≡ with_packet old packet next new.bay new.rows new.reports new.log
 
 -- a closed gate was found, where the files are told, behind enough keys, and nothing else changed
@@ -63,7 +65,7 @@ pub record HasEnded {B : Type 0} (files : B → Option Files) (leaves : B → Fi
 -- position is n0 at most, or one of the keys so far.
 abbrev pub BringsNoFlush : {B : Type 0} → Replaying B → List ℕ → ℕ → Type 0
 BringsNoFlush cone bytes gate = (packet : Packet) → HoldsNext cone bytes gate packet → MayTake cone packet →
-    last_flush cone.listing.settings (length cone.listing.events + length packet.keys) ≤ max cone.last.n0 (length cone.listing.events)
+    last_flush cone.listing.settings (length cone.listing.events + length (keys_of packet)) ≤ max cone.last.n0 (length cone.listing.events)
 
 -- from one state of a bay to another the files are as they were, byte for byte, and so are the images, also at each moment
 -- between

@@ -16,7 +16,7 @@ pub record IsRoom (s : Numbers) (young : Young) (levels : OnDisk) (stored : Stor
   pub young_is : young ≡ record { settings = s; from = 0; to = 0; bins = [] }
   pub levels_are : levels ≡ record { settings = s; rows = replicate s.levels [] }
   pub stored_is : stored ≡ record { settings = s; reports = [] }
-  pub keys_are : keys ≡ record { keys = []; room = 4 * s.packet }
+  pub keys_are : keys ≡ record { items = []; room = 4 * s.packet }
   pub roomy : room ≡ room_of s
 
 -- the same, but that the levels are those of a cone after n0 events, and the store has reports of it up to there
@@ -29,7 +29,7 @@ pub record IsRestored (s : Numbers) (cone n0 : ℕ) (young : Young) (levels : On
   pub stored_of : stored.settings ≡ s
   pub own : All (λ report. cone_of s report.key ≡ cone) stored.reports
   pub placed : All (λ report. (1 ≤ report.at) × (report.at ≤ n0)) stored.reports
-  pub keys_are : keys ≡ record { keys = []; room = 4 * s.packet }
+  pub keys_are : keys ≡ record { items = []; room = 4 * s.packet }
   pub roomy : room ≡ room_of s
 
 -- what a log may say from which a cone goes on: a place that a cone can have, and a record of the journal that keeps the rules

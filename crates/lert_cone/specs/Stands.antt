@@ -1,5 +1,6 @@
 -- What a cone is seen as, and which lists of packets it stands for.
 use Rattle.std.specs.{Prelude.{◌≡◌, ℕ, ◌+◌, ◌*◌, ◌^◌, ◌<◌, ◌≤◌, Bool, true, false, List, [], ◌∷◌, ◌++◌, length, All, Option, None, option_map}, declared.snapshot.Snapshot.Snapshot}
+use Rattle.lert_base.specs.Packet.{keys_of}
 use Rattle.lert_base.specs.{declared.entry.Entry.Entry, Entries.packet_of, Packet.{Packet, events_of}, declared.cone_fault.ConeFault.ConeFault}
 use Rattle.lert_base.specs.declared.cone_fault.ConeFault.TheVariants.{Closed, Broken, CapacityFull, BayFailed, Unsound}
 use Rattle.lert_bay.specs.{Files.{Files, IfTold, Turns}, declared.bay.TheConstants.{JOURNAL, LOG}}
@@ -119,7 +120,7 @@ pub record IsWhole (leaves : Files → Type 0) (seen : Files) (listing : Listing
 -- rose since the cone was made, and by a read only where the bay doesn't tell its files. Where the bay told files that were
 -- sound for no list when the cone was made, nothing is said of them, as of files that aren't told.
 pub record StandsFor {B : Type 0} (files : B → Option Files) (leaves : B → Files → Type 0) (faults : B → ℕ) (cone : Standing B) (history : List Packet) : Type 0 where
-  pub some : All (λ packet. 0 < length packet.keys) history
+  pub some : All (λ packet. 0 < length (keys_of packet)) history
   pub counted : length (events_of history) ≡ cone.events
   pub within : cone.events ≤ capacity cone.listing.settings
   pub valid : IsValid cone.listing.settings
@@ -160,5 +161,5 @@ pub record IsCone {B : Type 0} (files : B → Option Files) (leaves : B → File
 -- files, how many reports stand with it
 pub record Answers {B : Type 0} (files : B → Option Files) (cone : Standing B) (history : List Packet) (packet : Packet) (acked : Acked) : Type 0 where
   pub from_is : acked.from ≡ length (events_of history) + 1
-  pub to_is : acked.to ≡ length (events_of history) + length packet.keys
+  pub to_is : acked.to ≡ length (events_of history) + length (keys_of packet)
   pub reports_are : WasSound files cone → IfTold (files cone.bay) (λ _. acked.reports ≡ length (look cone.listing.settings (events_of (history ++ packet ∷ []))))

@@ -1,5 +1,6 @@
 -- What keys, a packet, and the end make of a cone's counts, its log and its bay.
 use Rattle.std.specs.Prelude.{◌≡◌, ◌≢◌, ℕ, ◌+◌, ◌*◌, ◌^◌, ◌<◌, ◌≤◌, max, true, false, List, [], ◌∷◌, ◌++◌, All, length, Some, None, Result, Err, OnOk, IsErrOf}
+use Rattle.lert_base.specs.Packet.{keys_of}
 use Rattle.lert_base.specs.Packet.{Packet, events_of}
 use Rattle.lert_bay.specs.{Kept.{Bays, KeepsBay}, Files.{Files, IfTold, Turns}, declared.bay.TheConstants.{JOURNAL, LOG, FRAMES}}
 use Rattle.lert_gatelog.specs.Gated.{Log, next_gate}
@@ -90,10 +91,10 @@ pub record CanTakePacket {B : Type 0} (bays : Bays B) (packet : Packet) (at : Wo
   pub file : journal.file ≡ JOURNAL
   pub most : journal.most ≡ most_payload at.counts.listing.settings
   pub roomy : journal.most + 5 ≤ at.room
-  pub reach : journal.gate + 14 + 8 * length packet.keys < 2 ^ 63
+  pub reach : journal.gate + 14 + 8 * length (keys_of packet) < 2 ^ 63
   pub shut : IsShutIfTold (bays.files at.bay) (bays.leaves at.bay) JOURNAL journal.gate
-  pub journaled : IsJournaled at.counts.listing.settings at.counts.listing.cone packet
-  pub fits : length at.counts.listing.events + length packet.keys ≤ capacity at.counts.listing.settings
+  pub journaled : IsJournaled written at.counts.listing.settings at.counts.listing.cone packet
+  pub fits : length at.counts.listing.events + length (keys_of packet) ≤ capacity at.counts.listing.settings
   pub still : at.counts.listing.closed ≡ false
   pub counted : IsCounted at.counts
   pub can_log : CanLog bays at
@@ -103,10 +104,10 @@ pub record CanTakePacket {B : Type 0} (bays : Bays B) (packet : Packet) (at : Wo
 -- after Ok they go together with memory for the list and the packet.
 pub record TakesPacket {B : Type 0} (bays : Bays B) (packet : Packet) (old new : Workplace B) (journal journal_after : Log) (result : Result (Unit {0}) TakeFault) : Type 0 where
   pub listing : new.counts.listing ≡ record old.counts.listing { events = new.counts.listing.events }
-  pub taken : OnOk result (new.counts.listing.events ≡ old.counts.listing.events ++ packet.keys)
+  pub taken : OnOk result (new.counts.listing.events ≡ old.counts.listing.events ++ (keys_of packet))
   pub counted : OnOk result (IsCounted new.counts)
   pub can_log : OnOk result (CanLog bays new)
-  pub moved : OnOk result (journal_after ≡ record journal { gate = next_gate journal.gate (payload_of packet) })
+  pub moved : OnOk result (journal_after ≡ record journal { gate = next_gate journal.gate (payload_of written packet) })
   pub file : journal_after.file ≡ journal.file
   pub most : journal_after.most ≡ journal.most
   pub shut : OnOk result (IsShutIfTold (bays.files new.bay) (bays.leaves new.bay) JOURNAL journal_after.gate)

@@ -1,5 +1,7 @@
 -- The keys of a journal that a reopening doesn't read: those before the record at which it begins.
 use Rattle.std.specs.Prelude.{ℕ, zero, suc, ◌+◌, List, [], ◌++◌, map, take, replicate, Option, Some, None}
+use Rattle.lert_base.specs.Packet.{keys_of}
+use Rattle.lert_levels.specs.OnDisk.{written}
 use Rattle.lert_bay.specs.{Files.Files, Settled.part, declared.bay.TheConstants.JOURNAL}
 use Rattle.lert_gatelog.specs.Gated.{counted_at}
 use Rattle.lert_journal.specs.Payload.{packet_in}
@@ -19,7 +21,7 @@ own_key s cone key = key_with s cone (tail_of s key)
 abbrev pub keys_from : ℕ → List ℕ → ℕ → List ℕ
 keys_from zero bytes gate = []
 keys_from (suc n) bytes gate =
-    (packet_in (part bytes (gate + 5) (gate + 5 + counted_at bytes gate))).keys ++ keys_from n bytes (gate + 5 + counted_at bytes gate)
+    keys_of (packet_in written (part bytes (gate + 5) (gate + 5 + counted_at bytes gate))) ++ keys_from n bytes (gate + 5 + counted_at bytes gate)
 
 -- The first n keys of a journal, as a cone takes them that doesn't read them. They are as many keys of the cone whatever the
 -- journal holds, also where the files aren't told; where it is the journal of packets they are these packets' keys.

@@ -1,6 +1,8 @@
 //! A cone over its files.
 
 ghost use Rattle.std.specs.Prelude.{◌≡◌, ℕ, ◌+◌, ◌<◌, ◌≤◌, ◌^◌, ◌↔◌, ◌++◌, [], ◌∷◌, true, false, List, length, replicate, Some, None, Err, IfOk, IfErr, MatchResult, OnOk, OnErr, IsErrOf};
+ghost use Rattle.lert_spec.specs.Items.{keys_in};
+ghost use Rattle.lert_levels.specs.OnDisk.{written};
 ghost use Rattle.lert_base.specs.Entries.{packet_of};
 ghost use Rattle.lert_base.specs.Packet.{Packet, events_of};
 ghost use Rattle.lert_bay.specs.Files.{Files, IfTold, Turns};
@@ -163,7 +165,7 @@ impl<B: Bay, T: CountTable> Cone<B, T> {
     /// journal and memory take a packet without a flush, since memory is lost with the machine. What it says of its refusals, of
     /// a fault in the middle and of the bay is what each call says that steps a cone on: `StepsCone`.
     pub fn admit(&mut self, entry: &Entry) -> Result<Acked, ConeFault>
-        requires fits { IsJournaled self.old.listing.settings self.old.listing.cone (packet_of entry.now) }
+        requires fits { IsJournaled written self.old.listing.settings self.old.listing.cone (packet_of entry.now) }
 
         // Ok makes the list into the list and the packet.
         ensures stands_for { OnOk result ((h : List Packet) → StandsFor B.files B.leaves B.faults self.old h →
@@ -172,16 +174,16 @@ impl<B: Bay, T: CountTable> Cone<B, T> {
             Answers B.files self.old h (packet_of entry.now) acked) }
         ensures acked { IfOk result (λ acked. acked ≡ record {
           from = self.old.events + 1;
-          to = self.old.events + length entry.now.keys.keys;
+          to = self.old.events + length (keys_in entry.now.keys.items);
           reports = length self.new.reports;
         }) }
         ensures taken { OnOk result (self.new ≡ record self.old {
           bay = self.new.bay;
-          listing = record self.old.listing { events = self.old.listing.events ++ entry.now.keys.keys };
+          listing = record self.old.listing { events = self.old.listing.events ++ (keys_in entry.now.keys.items) };
           rows = self.new.rows;
           reports = self.new.reports;
-          events = self.old.events + length entry.now.keys.keys;
-          gate = next_gate self.old.gate (payload_of (packet_of entry.now));
+          events = self.old.events + length (keys_in entry.now.keys.items);
+          gate = next_gate self.old.gate (payload_of written (packet_of entry.now));
           log = self.new.log;
         }) }
 
@@ -205,7 +207,7 @@ impl<B: Bay, T: CountTable> Cone<B, T> {
 
         // CapacityFull comes exactly where a running cone has no place for so many keys.
         ensures full { (n len : ℕ) → (result ≡ Err (ConeFault.CapacityFull n len)) ↔
-            ((self.old.state ≡ ConeState.Running) × (n ≡ self.old.events) × (len ≡ length entry.now.keys.keys)
+            ((self.old.state ≡ ConeState.Running) × (n ≡ self.old.events) × (len ≡ length (keys_in entry.now.keys.items))
             × (capacity self.old.listing.settings < n + len)) }
 
         // In each image of each moment of the call the files are sound for the list, or for the list and the packet.

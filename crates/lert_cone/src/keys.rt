@@ -1,6 +1,7 @@
 //! The keys of a packet and the end of a cone, each with the record that the log gets behind it.
 
 ghost use Rattle.std.specs.Prelude.{◌≡◌, ℕ, ◌+◌, ◌^◌, ◌≤◌, ◌<◌, [], ◌∷◌, ◌++◌, length, All};
+ghost use Rattle.lert_spec.specs.Items.{keys_in};
 ghost use Rattle.lert_base.specs.Entries.{packet_of};
 ghost use Rattle.lert_levels.specs.rows.Rows.{directory_text};
 ghost use Rattle.lert_spec.specs.Mix.{cone_of};
@@ -8,6 +9,7 @@ ghost use Rattle.lert_cone.specs.Appends.{AppendsRecord};
 ghost use Rattle.lert_cone.specs.Takes.{CanLog, CanReplay, CanTake, CanTakePacket, ReplaysKeys, TakesEnd, TakesKeys, TakesPacket};
 ghost use Rattle.lert_cone.specs.Tally.{IsCounted, IsRecounted};
 
+use crate::headers::WRITTEN;
 use crate::journal_places::JournalPlace;
 use crate::report_log::ReportLog;
 use crate::tally::{TakeFault, Tally};
@@ -20,7 +22,7 @@ use lert_reports::LogKind;
 
 /// The keys of an entry, each of 64 bits.
 pub fn keys_of(entry: &Entry) -> &[u64]
-    ensures value { result.now ≡ entry.now.keys.keys }
+    ensures value { result.now ≡ (keys_in entry.now.keys.items) }
     ensures fit { All (λ key. key < 2 ^ 64) result.now }
 {
     // A name, so that the proof knows the keys' type.
@@ -47,7 +49,7 @@ pub fn take_packet<B: Bay, T: CountTable>(
         first: tally.len() + 1,
     };
     // The journal before the keys are counted: a flush among them writes a record that counts on the packet.
-    append_entry(journal, bay, entry, buffer)?;
+    append_entry(journal, bay, entry, buffer, WRITTEN)?;
     take_keys(tally, log, bay, place, keys, buffer)
 }
 

@@ -25,7 +25,7 @@ mod unread;
 
 pub use acked::Acked;
 pub use cone::{Cone, ConeTerms, ReplayingCone};
-pub use headers::{greatest_payload, is_fresh};
+pub use headers::{WRITTEN, greatest_payload, is_fresh};
 pub use lert_base::ConeFault;
 pub use lert_reports::LogPoint;
 pub use packets::{end_left, packet_left};

@@ -1,6 +1,7 @@
 //! The records of a journal that is read again.
 
 ghost use Rattle.std.specs.Prelude.{◌≡◌, ◌⊎◌, ℕ, ◌+◌, ◌*◌, ◌<◌, ◌≤◌, ◌^◌, length, true, false, IfOk, IsErrOf, IsFalse, IsTrue, MatchOption};
+ghost use Rattle.lert_levels.specs.OnDisk.{written};
 ghost use Rattle.lert_base.specs.Entries.{packet_of};
 ghost use Rattle.lert_bay.specs.Files.{Files, IfTold};
 ghost use Rattle.lert_bay.specs.Handed.{ReadsUpTo};
@@ -14,6 +15,7 @@ ghost use Rattle.lert_cone.specs.History.{most_payload};
 ghost use Rattle.lert_cone.specs.Reads.{OnlyReadsJournal};
 ghost use Rattle.lert_cone.specs.Replay.{MayFollow, ReplayLeavesAt};
 
+use crate::headers::WRITTEN;
 use crate::keys::keys_of;
 use crate::tally::Tally;
 use lert_base::{CountTable, Entry, Settings};
@@ -43,30 +45,30 @@ pub fn read_packet<B: Bay, T: CountTable>(
 
     // Where the file is told, the answer is what stands here.
     ensures found { IfTold (B.files bay.old) (λ seen. IfOk result (λ found. IsTrue found →
-        HoldsPacket tally.now.listing.settings tally.now.listing.cone (most_payload tally.now.listing.settings) (seen JOURNAL) journal.old.gate (packet_of entry.new))) }
+        HoldsPacket written tally.now.listing.settings tally.now.listing.cone (most_payload tally.now.listing.settings) (seen JOURNAL) journal.old.gate (packet_of entry.new))) }
     ensures closed { IfTold (B.files bay.old) (λ seen. IfOk result (λ found. IsFalse found → IsClosed (seen JOURNAL) journal.old.gate)) }
     ensures malformed { IfTold (B.files bay.old) (λ seen. (at : ℕ) → IsErrOf result (LogFault.Malformed at) →
         ReplayLeavesAt tally.now.listing.settings tally.now.listing.cone last.now.n0 last.now.closed (length tally.now.listing.events) (seen JOURNAL) journal.old.gate at) }
 
     // Told or not, the packet is one that this cone's journal may hold here, and the end stands behind enough keys.
-    ensures journaled { IfOk result (λ found. IsTrue found → IsJournaled tally.now.listing.settings tally.now.listing.cone (packet_of entry.new)) }
+    ensures journaled { IfOk result (λ found. IsTrue found → IsJournaled written tally.now.listing.settings tally.now.listing.cone (packet_of entry.new)) }
     ensures follows { IfOk result (λ found. IsTrue found →
         MayFollow tally.now.listing.settings last.now.n0 last.now.closed (length tally.now.listing.events) (packet_of entry.new)) }
     ensures enough { IfOk result (λ found. IsFalse found → last.now.n0 ≤ length tally.now.listing.events) }
     ensures moved { IfOk result (λ found. IsTrue found →
-        journal.new ≡ record journal.old { gate = next_gate journal.old.gate (payload_of (packet_of entry.new)) }) }
+        journal.new ≡ record journal.old { gate = next_gate journal.old.gate (payload_of written (packet_of entry.new)) }) }
     ensures forward { IfOk result (λ found. IsTrue found →
         (journal.old.gate < journal.new.gate) × (journal.new.gate ≤ journal.old.gate + 13 + 32 * tally.now.listing.settings.packet)) }
     ensures waits { IfOk result (λ found. IsFalse found → (journal.new ≡ journal.old) × (entry.new ≡ entry.old)) }
     ensures keeps { OnlyReadsJournal B.Bay bay.old bay.new journal.old journal.new entry.old.keys.room entry.new.keys.room (IsErrOf result LogFault.Failed) }
 
     // No byte of a record is read twice.
-    ensures handed { ReadsUpTo JOURNAL (entry_cost (most_payload tally.now.listing.settings) (packet_of entry.new) result) (B.handed_out bay.old) (B.handed_out bay.new) }
+    ensures handed { ReadsUpTo JOURNAL (entry_cost written (most_payload tally.now.listing.settings) (packet_of entry.new) result) (B.handed_out bay.old) (B.handed_out bay.new) }
 {
     let settings = tally.settings();
     let n = tally.len();
     let gate = journal.gate();
-    let is_packet = read_entry(journal, bay, settings, tally.cone(), entry, buffer)?;
+    let is_packet = read_entry(journal, bay, settings, tally.cone(), entry, buffer, WRITTEN)?;
     if !is_packet {
         return match end_left(last, n, gate) {
             Some(at) => Err(LogFault::Malformed { at }),

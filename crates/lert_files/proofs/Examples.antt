@@ -1,9 +1,10 @@
 -- The beginning of a journal of one cone, of others, and what is read of a log without a record.
 use Rattle.std.proofs.Common.{◌≡◌, ℕ, List, [], ◌∷◌, ◌++◌, take, false, refl, ap, arith, inl, inr}
+use Rattle.lert_levels.specs.OnDisk.{written}
 use Rattle.lert_base.specs.declared.kept.Kept.{Kept}
 use Rattle.lert_spec.specs.declared.numbers.Numbers.{Numbers}
 use Rattle.lert_reports.proofs.LogLaws.{records_none}
-use Rattle.lert_journal.specs.Header.{header}
+use Rattle.lert_journal.specs.Header.{magic, header}
 use Rattle.lert_files.specs.{Headed.{BeginningLeaves, IsHeaded, HasOther}, Read.{most_directory, IsReadOf}}
 
 abbrev alone : Numbers
@@ -13,7 +14,7 @@ abbrev four : Numbers
 four = record alone { threshold = 4 }
 
 abbrev journal : List ℕ
-journal = header alone 0 ++ 0 ∷ []
+journal = header (magic written) alone 0 ++ 0 ∷ []
 
 -- no byte, a cut header, another letter, and a header that nothing stands behind
 no_byte : BeginningLeaves alone 0 [] 0

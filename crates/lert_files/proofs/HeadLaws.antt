@@ -4,6 +4,7 @@ use Rattle.std.proofs.Common.{ℕ, ◌≡◌, ◌≢◌, ◌+◌, ◌<◌, ◌�
 use Rattle.std.proofs.{Common.length-take, Math.Seq.take-add, lemmas.Bool.{cases_lt, le-ltb}, lemmas.List.{drop_more, get_or-drop, length-drop, take_all, take-take}, lemmas.Option.none-some}
 use Rattle.std.specs.Prelude.{slice_index, if◌then◌else◌, MatchResult, IsErrAnd}
 use Rattle.byteorder.specs.Endian.{little_bytes}
+use Rattle.lert_levels.specs.OnDisk.{written}
 use Rattle.lert_base.specs.declared.kept.Kept.{Kept}
 use Rattle.lert_bay.specs.declared.bay.TheConstants.{JOURNAL}
 use Rattle.lert_spec.specs.{declared.numbers.Numbers.Numbers, Limits.IsInLimits, Agreed.agreed}
@@ -37,7 +38,7 @@ module _ (bytes : List ℕ) (small : (k : ℕ) → slice_index bytes k < 256) (l
       ∙ ap (λ rest. slice_index bytes 26 ∷ rest) (drop_more bytes 27 0 (omega (arith, long))))))
 
   -- bytes that say these numbers, and begin as a journal, are their header
-  pub header_of : (s : Numbers) (cone : ℕ) → take 8 bytes ≡ magic → kept_in bytes ≡ record { cone = cone; numbers = s } → bytes ≡ header s cone
+  pub header_of : (s : Numbers) (cone : ℕ) → take 8 bytes ≡ (magic written) → kept_in bytes ≡ record { cone = cone; version = written; numbers = s } → bytes ≡ header (magic written) s cone
   header_of s cone begun kept =
       let numbers : (kept_in bytes).numbers ≡ s = ap (λ (k : Kept). k.numbers) kept in
       let cone_is : number_at bytes 28 ≡ cone = ap (λ (k : Kept). k.cone) kept in
@@ -58,23 +59,23 @@ module _ (bytes : List ℕ) (small : (k : ℕ) → slice_index bytes k < 256) (l
 -- ---- files by their first bytes
 
 -- a file with a whole header leaves that nowhere
-pub whole_header : (file : List ℕ) → take 8 file ≡ magic → 32 ≤ length file → header_left file ≡ None
+pub whole_header : (file : List ℕ) → take 8 file ≡ (magic written) → 32 ≤ length file → header_left file ≡ None
 whole_header file begun long =
-    let same : agreed magic file ≡ 8 = agreed_whole magic file begun in
-    ap (λ b. if b then Some (agreed magic file) else (if nat_lt (length file) 32 then Some (length file) else None)) (le-ltb (agreed magic file) 8 (omega (arith, same)))
+    let same : agreed (magic written) file ≡ 8 = agreed_whole (magic written) file begun in
+    ap (λ b. if b then Some (agreed (magic written) file) else (if nat_lt (length file) 32 then Some (length file) else None)) (le-ltb (agreed (magic written) file) 8 (omega (arith, same)))
     ∙ ap (λ b. if b then Some (length file) else None) (le-ltb (length file) 32 (omega (arith, long)))
 
 -- the first eight bytes by the first thirty-two
-first_eight : (file head : List ℕ) → head ≡ take 32 file → take 8 head ≡ magic → take 8 file ≡ magic
+first_eight : (file head : List ℕ) → head ≡ take 32 file → take 8 head ≡ (magic written) → take 8 file ≡ (magic written)
 first_eight file head is begun = sym (take-take 8 32 file (omega arith)) ∙ (ap (take 8) (sym is) ∙ begun)
 
 module _ (s : Numbers) (cone : ℕ) (limits : IsInLimits s) (below : cone < 2 ^ 32) (file : List ℕ) where
-  headed_says : IsHeaded s cone file → kept_in (take 32 file) ≡ record { cone = cone; numbers = s }
-  headed_says headed = ap kept_in headed.headed ∙ reads_back s cone limits below
+  headed_says : IsHeaded s cone file → kept_in (take 32 file) ≡ record { cone = cone; version = written; numbers = s }
+  headed_says headed = ap kept_in headed.headed ∙ reads_back written s cone limits below
 
   pub headed_whole : IsHeaded s cone file → (at : ℕ) → BeginningLeaves s cone file at → ⊥
   headed_whole headed at (inl left) =
-      none-some at (sym (whole_header file (first_eight file (header s cone) (sym headed.headed) (begins s cone)) (omega (arith, headed.gate))) ∙ left)
+      none-some at (sym (whole_header file (first_eight file (header (magic written) s cone) (sym headed.headed) (begins written s cone)) (omega (arith, headed.gate))) ∙ left)
   headed_whole headed at (inr (gateless, is)) = absurd (omega (arith, headed.gate, gateless.short))
 
   pub headed_or_fault : (fault : ReopenFault) → IsHeaded s cone file → IsHeaderFault s cone file fault → ⊥
@@ -154,10 +155,10 @@ front_read count head whole = sym (take-take 8 count head (omega (arith, whole, 
 pub whole_file : (count : ℕ) (head file : List ℕ) → take count head ≡ take 32 file → 32 ≤ length (take count head) → 32 ≤ length file
 whole_file count head file is whole = omega (arith, whole, ap (λ (xs : List ℕ). length xs) is, length-take 32 file)
 
-pub gateless_there : (s : Numbers) (cone at : ℕ) (head file : List ℕ) (kept : Kept) → head ≡ take 32 file → take 8 head ≡ magic → 32 ≤ length file → at ≡ length file →
+pub gateless_there : (s : Numbers) (cone at : ℕ) (head file : List ℕ) (kept : Kept) → head ≡ take 32 file → take 8 head ≡ (magic written) → 32 ≤ length file → at ≡ length file →
     at ≤ 32 →
     kept ≡ kept_in head →
-    kept ≡ record { cone = cone; numbers = s } → IsHeaderFault s cone file (Malformed JOURNAL at)
+    kept ≡ record { cone = cone; version = written; numbers = s } → IsHeaderFault s cone file (Malformed JOURNAL at)
 gateless_there s cone at head file kept is begun long at_is short kept_is own =
     inl (
       at,
@@ -172,12 +173,12 @@ gateless_there s cone at head file kept is begun long at_is short kept_is own =
       ),
     )
 
-pub fault_there : (s : Numbers) (cone : ℕ) (head file : List ℕ) (kept : Kept) → head ≡ take 32 file → take 8 head ≡ magic → 32 ≤ length file → kept ≡ kept_in head →
-    kept ≢ record { cone = cone; numbers = s } → IsHeaderFault s cone file (OtherSettings kept)
+pub fault_there : (s : Numbers) (cone : ℕ) (head file : List ℕ) (kept : Kept) → head ≡ take 32 file → take 8 head ≡ (magic written) → 32 ≤ length file → kept ≡ kept_in head →
+    kept ≢ record { cone = cone; version = written; numbers = s } → IsHeaderFault s cone file (OtherSettings kept)
 fault_there s cone head file kept is begun long kept_is other =
     inr (kept, refl, record { whole = whole_header file (first_eight file head is begun) long; kept_is = kept_is ∙ ap kept_in is; other = other })
 
 pub headed_there : (s : Numbers) (cone : ℕ) (head file : List ℕ) (kept : Kept) → ((k : ℕ) → slice_index head k < 256) → length head ≡ 32 → head ≡ take 32 file →
-    take 8 head ≡ magic → 32 < length file → kept ≡ kept_in head → kept ≡ record { cone = cone; numbers = s } → IsHeaded s cone file
+    take 8 head ≡ (magic written) → 32 < length file → kept ≡ kept_in head → kept ≡ record { cone = cone; version = written; numbers = s } → IsHeaded s cone file
 headed_there s cone head file kept small long is begun gate kept_is own =
     record { headed = sym is ∙ header_of head small long s cone begun (sym kept_is ∙ own); gate = gate }

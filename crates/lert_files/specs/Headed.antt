@@ -2,16 +2,17 @@
 -- leave the format.
 use Rattle.std.specs.Prelude.{◌≡◌, ◌≢◌, ℕ, ◌<◌, List, length, take, Some, None}
 use Rattle.std.proofs.Common.{◌⊎◌}
+use Rattle.lert_levels.specs.OnDisk.{written}
 use Rattle.lert_base.specs.declared.kept.Kept.{Kept}
 use Rattle.lert_bay.specs.declared.bay.TheConstants.{JOURNAL}
-use Rattle.lert_journal.specs.Header.{header, header_left, kept_in}
+use Rattle.lert_journal.specs.Header.{magic, header, header_left, kept_in}
 use Rattle.lert_files.specs.{declared.fault.ReopenFault.ReopenFault, declared.fault.ReopenFault.TheVariants.{Malformed, OtherSettings}}
 use Rattle.lert_spec.specs.declared.numbers.Numbers.{Numbers}
 
 -- a file is the header of this cone's journal, and no gate stands behind it
 pub record IsGateless (s : Numbers) (cone : ℕ) (bytes : List ℕ) : Type 0 where
   pub whole : header_left bytes ≡ None
-  pub own : kept_in (take 32 bytes) ≡ record { cone = cone; numbers = s }
+  pub own : kept_in (take 32 bytes) ≡ record { cone = cone; version = written; numbers = s }
   pub short : length bytes < 33
 
 -- a file leaves the beginning of this cone's journal, a header and a gate behind it, at this place: in the header, or at its
@@ -21,14 +22,14 @@ BeginningLeaves s cone bytes at = (header_left bytes ≡ Some at) ⊎ (IsGateles
 
 -- a file begins with the header of this cone's journal, and has a gate behind it
 pub record IsHeaded (s : Numbers) (cone : ℕ) (bytes : List ℕ) : Type 0 where
-  pub headed : take 32 bytes ≡ header s cone
+  pub headed : take 32 bytes ≡ header (magic written) s cone
   pub gate : 32 < length bytes
 
 -- it has the whole header of a journal, but that was written with another number, or by another cone
 pub record HasOther (s : Numbers) (cone : ℕ) (bytes : List ℕ) (kept : Kept) : Type 0 where
   pub whole : header_left bytes ≡ None
   pub kept_is : kept ≡ kept_in (take 32 bytes)
-  pub other : kept ≢ record { cone = cone; numbers = s }
+  pub other : kept ≢ record { cone = cone; version = written; numbers = s }
 
 -- why the beginning of a journal is refused: it leaves the format, or it is another's
 abbrev pub IsHeaderFault : Numbers → ℕ → List ℕ → ReopenFault → Type 0

@@ -1,6 +1,7 @@
 //! The header of the journal.
 
 ghost use Rattle.std.specs.Prelude.{◌≡◌, ◌≢◌, ◌⊎◌, ℕ, ◌≤◌, List, Some, length, take, IsTrue, IsFalse, IfErr, MatchResult, IsErrOf, IsErrAnd};
+ghost use Rattle.lert_levels.specs.OnDisk.{written};
 ghost use Rattle.lert_base.specs.declared.kept.Kept.{Kept as KeptOf};
 ghost use Rattle.lert_bay.specs.declared.bay.TheConstants.{JOURNAL};
 ghost use Rattle.lert_bay.specs.Files.{IfTold};
@@ -12,6 +13,9 @@ use crate::fault::ReopenFault;
 use lert_base::{Kept, Settings};
 use lert_bay::{Bay, JOURNAL};
 use lert_journal::{HEADER_LEN, header_left, read_header};
+
+// The version of the journals that are read.
+const WRITTEN: u8 = 1;
 
 /// Reads the header of the journal. Ok comes exactly where it is that of this cone with these settings and a gate stands
 /// behind it, but where a call of the bay fails. Reads 32 bytes and a length, changes no file and takes no memory.
@@ -80,11 +84,12 @@ fn check_header(
 
 // Whether a header says these settings and this cone.
 fn is_own(settings: &Settings, cone: u32, kept: &Kept) -> bool
-    ensures own { IsTrue result → kept.now ≡ record { cone = cone; numbers = settings.now } }
-    ensures other { IsFalse result → kept.now ≢ record { cone = cone; numbers = settings.now } }
+    ensures own { IsTrue result → kept.now ≡ record { cone = cone; version = written; numbers = settings.now } }
+    ensures other { IsFalse result → kept.now ≢ record { cone = cone; version = written; numbers = settings.now } }
 {
     let own = Kept {
         cone,
+        version: WRITTEN,
         numbers: settings.numbers(),
     };
     *kept == own

@@ -3,6 +3,7 @@ use Rattle.std.proofs.Common.{◌≡◌, ◌≢◌, ℕ, ◌<◌, ◌≤◌, suc
 use Rattle.std.proofs.{Common.length-append, lemmas.Bool.{cases_eq, eq-eqb, ne_eqb}, lemmas.List.Concat.flat_map-append}
 use Rattle.std.proofs.{lemmas.List.Elements.{All-append, All-cons, All-contains, All-nil, filter-append}, lemmas.List.get_or_append_left}
 use Rattle.std.specs.Prelude.{All, Contains}
+use Rattle.lert_base.specs.Packet.{keys_of}
 use Rattle.lert_base.specs.{Beginning.BeginsWith, Packet.{Packet, events_of, of_trace, own}, Weave.{AreCut, IsPartWoven, IsWoven}, declared.cone_fault.ConeFault.ConeFault}
 use Rattle.lert_conelock.proofs.Contained.{no_item, item_here, item_cases}
 use Rattle.lert_conelock.specs.Sight.{Sight}
@@ -26,7 +27,7 @@ module _ (s : Numbers) (number cone : ℕ) (share : List ℕ) (reads : List (Lis
     each = λ k d below. subst (IsOwn s number share) (get_or_append_left xs ys d k below) (part.each k d (omega (arith, below, length-append xs ys)));
     joined = λ place trace keys there is.
         let begins = part.joined place trace keys there is in
-        let parts = ap events_of (filter-append (λ (p : Packet). eqb p.trace trace) xs ys) ∙ flat_map-append (λ (p : Packet). p.keys) (of_trace xs trace) (of_trace ys trace) in (
+        let parts = ap events_of (filter-append (λ (p : Packet). eqb p.trace trace) xs ys) ∙ flat_map-append (λ (p : Packet). (keys_of p)) (of_trace xs trace) (of_trace ys trace) in (
           events_of (of_trace ys trace) ++ begins.0,
           sym (append_assoc (events_of (of_trace xs trace)) (events_of (of_trace ys trace)) begins.0)
               ∙ (ap (λ (zs : List ℕ). zs ++ begins.0) (sym parts) ∙ begins.1),

@@ -2,6 +2,7 @@
 use Rattle.std.proofs.Common.{◌≡◌, ℕ, ◌%◌, ◌^◌, ◌<◌, ◌≤◌, zero, suc, List, [], ◌∷◌, ◌++◌, length, drop, take, get_or, Option, Some, Result, slice_get, refl, ap, sym, ◌∙◌, subst, arith}
 use Rattle.std.proofs.{lemmas.List.{length-take, take-append-drop}, lemmas.Option.{none-some, same_Some, slice_get-get_or, slice_get_within}}
 use Rattle.std.specs.Prelude.{All}
+use Rattle.lert_levels.specs.OnDisk.{written}
 use Rattle.lert_base.specs.{declared.held.Held.{Ghosts as HeldOf}, Packet.Packet, declared.cone_fault.ConeFault.ConeFault}
 use Rattle.lert_bay.specs.Files.{Files}
 use Rattle.lert_cone.specs.{Listing.Listing, Stands.{Standing, Terms, terms_of}}
@@ -63,7 +64,7 @@ module _ {S B R : Type 0} (remaining : S → Option (List ℕ)) (s_faults s_mark
     (new : AreNew files leaves b_faults s (firsts_of fleet)) (numbers : (cone : ℕ) (lock : LockSight (Standing B)) → slice_get fleet cone ≡ Some lock → lock.numbers ≡ workers)
     (cones_are : length fleet ≡ 2 ^ s.cone_bits) where
   -- each worker may run
-  pub may_run : workers ≤ 64 → ((terms : Terms B) (packet : Packet) → IsJournaled terms.settings terms.cone packet → held.fits terms packet) → All (MayRun held fleet) olds
+  pub may_run : workers ≤ 64 → ((terms : Terms B) (packet : Packet) → IsJournaled written terms.settings terms.cone packet → held.fits terms packet) → All (MayRun held fleet) olds
   may_run most fits = λ k d below.
       let there = slice_get-get_or olds k d below in
       let one = are k (get_or olds k d) there in
@@ -74,15 +75,15 @@ module _ {S B R : Type 0} (remaining : S → Option (List ℕ)) (s_faults s_mark
         number_most = (let n = one.number_is in omega (arith, n, below, size, most));
         cones = cones_are ∙ ap (λ (t : Numbers). 2 ^ t.cone_bits) (sym one.settings_is);
         fits = λ cone lock lock_is packet journaled. fits (held.terms lock.first) packet
-            (fit cone lock lock_is packet (subst (λ (t : Numbers). IsJournaled t cone packet) one.settings_is journaled));
+            (fit cone lock lock_is packet (subst (λ (t : Numbers). IsJournaled written t cone packet) one.settings_is journaled));
       }
     where
-      fit : (cone : ℕ) (lock : LockSight (Standing B)) → slice_get fleet cone ≡ Some lock → (packet : Packet) → IsJournaled s cone packet →
-          IsJournaled (held.terms lock.first).settings (held.terms lock.first).cone packet
+      fit : (cone : ℕ) (lock : LockSight (Standing B)) → slice_get fleet cone ≡ Some lock → (packet : Packet) → IsJournaled written s cone packet →
+          IsJournaled written (held.terms lock.first).settings (held.terms lock.first).cone packet
       fit cone lock lock_is packet journaled =
           let first = new cone lock.first (mapped fleet cone lock lock_is) in
           let terms : held.terms lock.first ≡ terms_of b_faults b_mark lock.first = is_held.terms_are lock.first in
-          subst (λ (t : Terms B). IsJournaled t.settings t.cone packet) (sym terms) (subst (λ (l : Listing). IsJournaled l.settings l.cone packet) (sym first.listing_is) journaled)
+          subst (λ (t : Terms B). IsJournaled written t.settings t.cone packet) (sym terms) (subst (λ (l : Listing). IsJournaled written l.settings l.cone packet) (sym first.listing_is) journaled)
         where
           mapped : (locks : FleetSight (Standing B)) (k : ℕ) (l : LockSight (Standing B)) → slice_get locks k ≡ Some l → slice_get (firsts_of locks) k ≡ Some l.first
           mapped [] k l is = absurd (none-some l is)

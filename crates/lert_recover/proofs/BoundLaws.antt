@@ -1,6 +1,8 @@
 -- How much of a journal a reopening reads at most that is sound for a list, also where a read of a record fails.
 use Rattle.std.proofs.Common.{ℕ, zero, suc, ◌≡◌, ◌+◌, ◌-◌, ◌*◌, ◌<◌, ◌≤◌, List, [], ◌∷◌, ◌++◌, All, length, refl, ap, sym, ◌∙◌, subst, arith, inl, inr, length-append, append-nil, append_assoc}
 use Rattle.std.proofs.{Math.Nat.pow-zero, lemmas.Bool.{cases_eq, cases_lt}, lemmas.List.take_at, lemmas.List.Elements.{All-cons, All-head, All-nil, All-tail}}
+use Rattle.lert_levels.specs.OnDisk.{written}
+use Rattle.lert_base.specs.Packet.{keys_of}
 use Rattle.lert_base.specs.Packet.{Packet, events_of}
 use Rattle.lert_bay.specs.Files.{Files}
 use Rattle.lert_cone.specs.{declared.journal_places.JournalPlace.JournalPlace, Framed.last_flush, History.{end_of, most_payload}, Sound.{IsSound, but_last}}
@@ -25,8 +27,8 @@ but_last_more : (history : List Packet) (packet : Packet) → but_last (history 
 but_last_more history packet = take_at history (packet ∷ []) (length (history ++ packet ∷ []) - 1) (omega (arith, length-append history (packet ∷ [])))
 
 -- the record of one packet more
-bytes_more : (packets : List Packet) (packet : Packet) → bytes_of (packets ++ packet ∷ []) ≡ bytes_of packets + 13 + 8 * length packet.keys
-bytes_more packets packet = omega (arith, length-append packets (packet ∷ []), events_split packets (packet ∷ []), ap length (append-nil packet.keys))
+bytes_more : (packets : List Packet) (packet : Packet) → bytes_of (packets ++ packet ∷ []) ≡ bytes_of packets + 13 + 8 * length (keys_of packet)
+bytes_more packets packet = omega (arith, length-append packets (packet ∷ []), events_split packets (packet ∷ []), ap length (append-nil (keys_of packet)))
 
 module _ (s : Numbers) (valid : IsValid s) where
   -- ---- how many keys there are
@@ -55,7 +57,7 @@ module _ (s : Numbers) (valid : IsValid s) where
 
   module _ (cone : ℕ) where
     abbrev Journaled : Packet → Type 0
-    Journaled packet = IsJournaled s cone packet
+    Journaled packet = IsJournaled written s cone packet
 
     -- ---- the records behind packets that have all keys up to the edge of level 0
 

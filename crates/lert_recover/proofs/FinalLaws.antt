@@ -2,6 +2,7 @@
 -- is right of an answer is right the other way round.
 use Rattle.std.proofs.{Common.{ℕ, ◌≡◌, ◌-◌, ◌<◌, ◌^◌, Bool, Option, Some, Result, Ok, Err, List, length, refl, ap, sym, ◌∙◌, subst, arith, inl, inr, ◌⊎◌}, lemmas.Option.same_Some}
 use Rattle.std.specs.Prelude.{All, MatchResult, IfErr, IfOk, IsErrAnd}
+use Rattle.lert_base.specs.Packet.{keys_of}
 use Rattle.lert_base.specs.{declared.kept.Kept.Kept, Packet.{Packet, events_of}}
 use Rattle.lert_bay.specs.{declared.bay.TheConstants.{JOURNAL, LOG}, Files.Files}
 use Rattle.lert_cone.specs.{JournalPlaces.{IsPlaceIn, last_place}, Sound.{IsSound, IsJournal}, Unread.unread}
@@ -212,11 +213,11 @@ module _ (s : Numbers) (cone : ℕ) (valid : IsValid s) (named : cone < 2 ^ s.co
     -- of files that are sound for a list
     module _ (told_in : Option Files) (told_is : told_in ≡ Some seen) (counts : K → ℕ) (stands_in : K → List Packet → Type 0) (finishes : K → Bool → Type 0)
         (history : List Packet) (sound : IsSound s cone history seen) where
-      some_keys : All (λ packet. 0 < length packet.keys) history
+      some_keys : All (λ packet. 0 < length (keys_of packet)) history
       some_keys k d within = (sound.journal.journaled k d within).some
 
       pub sound_told : (result : Result K E) → Told result → IfErr result (λ refused. (h : List Packet) → IsSound s cone h seen → IsOutside (fault_in refused)) →
-          IfOk result (λ now. (h : List Packet) → All (λ packet. 0 < length packet.keys) h → length (events_of h) ≡ counts now →
+          IfOk result (λ now. (h : List Packet) → All (λ packet. 0 < length (keys_of packet)) h → length (events_of h) ≡ counts now →
           ((now_seen : Files) → told_in ≡ Some now_seen → (other : List Packet) → IsSound s cone other now_seen → IsSound s cone h now_seen) → stands_in now h) →
           IfOk result (λ now. counts now ≡ length (events_in now)) → IfOk result (λ now. finishes now (closed_in now)) →
           MatchResult result (λ now. stands_in now history × finishes now (is_closed sound.logged)) (λ refused. IsOutside (fault_in refused))

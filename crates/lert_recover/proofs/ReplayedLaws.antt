@@ -2,6 +2,8 @@
 -- is left; and there is one such place.
 use Rattle.std.proofs.Common.{ℕ, ◌≡◌, ◌+◌, ◌≤◌, Bool, List, [], ◌∷◌, ◌++◌, length, map, refl, ap, sym, ◌∙◌, subst, arith, inl, inr, ◌⊎◌, length-append, append-nil, append_assoc}
 use Rattle.std.proofs.lemmas.List.Concat.{flat_map-append}
+use Rattle.lert_levels.specs.OnDisk.{written}
+use Rattle.lert_base.specs.Packet.{keys_of}
 use Rattle.lert_base.specs.Packet.{Packet, events_of}
 use Rattle.lert_cone.specs.{Framed.last_flush, History.{most_payload, end_of}, Replay.{MayFollow, ReplayLeavesAt}, Sound.IsJournal}
 use Rattle.lert_cone.proofs.{GateLaws.{closed_or_leaves, ends_there, is_next, one_packet, one_replay_place, packet_or_leaves}, SoundLaws.{counted_more, end_more, events_more}}
@@ -16,7 +18,7 @@ module _ (s : Numbers) (cone n0 : ℕ) (closed : Bool) (bytes : List ℕ) where
   Stand n gate packets end = AreReplayed s cone n0 closed bytes n gate packets end
 
   abbrev Holds : ℕ → Packet → Type 0
-  Holds gate packet = HoldsPacket s cone (most_payload s) bytes gate packet
+  Holds gate packet = HoldsPacket written s cone (most_payload s) bytes gate packet
 
   abbrev Leaves : ℕ → ℕ → ℕ → Type 0
   Leaves n gate at = JournalLeavesAt s cone n0 closed bytes n gate at
@@ -26,15 +28,15 @@ module _ (s : Numbers) (cone n0 : ℕ) (closed : Bool) (bytes : List ℕ) where
 
   -- ---- by the first packet
 
-  counts : (n : ℕ) (packet : Packet) (rest : List Packet) → n + length packet.keys + length (events_of rest) ≡ n + length (events_of (packet ∷ rest))
-  counts n packet rest = omega (arith, length-append packet.keys (events_of rest))
+  counts : (n : ℕ) (packet : Packet) (rest : List Packet) → n + length (keys_of packet) + length (events_of rest) ≡ n + length (events_of (packet ∷ rest))
+  counts n packet rest = omega (arith, length-append (keys_of packet) (events_of rest))
 
   -- at the gate itself
   pub here : (n gate at : ℕ) → Here n gate at → Leaves n gate at
   here n gate at leaves = record { packets = []; end = gate; stand = refl; leaves = subst (λ m. Here m gate at) (let same : n ≡ n + 0 = omega arith in same) leaves }
 
   -- behind a packet
-  pub later : (n gate at : ℕ) (packet : Packet) → Holds gate packet → MayFollow s n0 closed n packet → Leaves (n + length packet.keys) (next_gate gate (payload_of packet)) at →
+  pub later : (n gate at : ℕ) (packet : Packet) → Holds gate packet → MayFollow s n0 closed n packet → Leaves (n + length (keys_of packet)) (next_gate gate (payload_of written packet)) at →
       Leaves n gate at
   later n gate at packet holds may rest = record {
     packets = packet ∷ rest.packets;
@@ -44,7 +46,7 @@ module _ (s : Numbers) (cone n0 : ℕ) (closed : Bool) (bytes : List ℕ) where
   }
 
   abbrev Behind : ℕ → ℕ → ℕ → Type 0
-  Behind n gate at = (packet : Packet) × Holds gate packet × MayFollow s n0 closed n packet × Leaves (n + length packet.keys) (next_gate gate (payload_of packet)) at
+  Behind n gate at = (packet : Packet) × Holds gate packet × MayFollow s n0 closed n packet × Leaves (n + length (keys_of packet)) (next_gate gate (payload_of written packet)) at
 
   first_of : (n gate at : ℕ) (packets : List Packet) (end : ℕ) → Stand n gate packets end → Here (n + length (events_of packets)) end at → Here n gate at ⊎ Behind n gate at
   first_of n gate at [] end stand leaves = inl (subst (λ g. Here n g at) stand (subst (λ m. Here m end at) (let same : n + 0 ≡ n = omega arith in same) leaves))
@@ -60,7 +62,7 @@ module _ (s : Numbers) (cone n0 : ℕ) (closed : Bool) (bytes : List ℕ) where
   leaves_behind [] n gate end at stand leaves = subst (λ g. Leaves n g at) stand (subst (λ m. Leaves m end at) (let same : n + 0 ≡ n = omega arith in same) leaves)
   leaves_behind (packet ∷ rest) n gate end at stand leaves =
       later n gate at packet stand.0 stand.1
-      (leaves_behind rest (n + length packet.keys) (next_gate gate (payload_of packet)) end at stand.2 (subst (λ m. Leaves m end at) (sym (counts n packet rest)) leaves))
+      (leaves_behind rest (n + length (keys_of packet)) (next_gate gate (payload_of written packet)) end at stand.2 (subst (λ m. Leaves m end at) (sym (counts n packet rest)) leaves))
 
   pub leaves_past : (packets : List Packet) (n gate end at : ℕ) → Stand n gate packets end → Leaves n gate at → Leaves (n + length (events_of packets)) end at
   leaves_past [] n gate end at stand leaves = subst (λ g. Leaves (n + 0) g at) (sym stand) (subst (λ m. Leaves m gate at) (let same : n ≡ n + 0 = omega arith in same) leaves)
@@ -68,9 +70,9 @@ module _ (s : Numbers) (cone n0 : ℕ) (closed : Bool) (bytes : List ℕ) where
     | inl now ↦ absurd (packet_or_leaves s cone n0 closed n bytes gate at packet stand.0 stand.1 now)
     | inr behind ↦ (
         let same = one_packet s cone bytes gate behind.0 packet behind.1 stand.0 in
-        let there = subst (λ (p : Packet). Leaves (n + length p.keys) (next_gate gate (payload_of p)) at) same behind.3 in
+        let there = subst (λ (p : Packet). Leaves (n + length (keys_of p)) (next_gate gate (payload_of written p)) at) same behind.3 in
         subst (λ m. Leaves m end at) (counts n packet rest)
-        (leaves_past rest (n + length packet.keys) (next_gate gate (payload_of packet)) end at stand.2 there))
+        (leaves_past rest (n + length (keys_of packet)) (next_gate gate (payload_of written packet)) end at stand.2 there))
   ]
 
   -- ---- one place, or a closed gate
@@ -78,7 +80,7 @@ module _ (s : Numbers) (cone n0 : ℕ) (closed : Bool) (bytes : List ℕ) where
   shut_here : (n gate at : ℕ) → IsClosed bytes gate → n0 ≤ n → Leaves n gate at → ⊥
   shut_here n gate at shut enough leaves = elim (by_first n gate at leaves) [
     | inl now ↦ closed_or_leaves s cone n0 closed n bytes gate at shut enough now
-    | inr behind ↦ open_or_closed (most_payload s) bytes gate (payload_of behind.0) behind.1.stands shut
+    | inr behind ↦ open_or_closed (most_payload s) bytes gate (payload_of written behind.0) behind.1.stands shut
   ]
 
   pub ends_or_leaves : (n gate at : ℕ) → JournalEnds s cone n0 closed bytes n gate → Leaves n gate at → ⊥
@@ -100,7 +102,7 @@ module _ (s : Numbers) (cone n0 : ℕ) (closed : Bool) (bytes : List ℕ) where
   ends_behind [] n gate end stand ends = subst (λ g. JournalEnds s cone n0 closed bytes n g) stand
       (subst (λ m. JournalEnds s cone n0 closed bytes m end) (let same : n + 0 ≡ n = omega arith in same) ends)
   ends_behind (packet ∷ rest) n gate end stand ends =
-      let further = ends_behind rest (n + length packet.keys) (next_gate gate (payload_of packet)) end stand.2
+      let further = ends_behind rest (n + length (keys_of packet)) (next_gate gate (payload_of written packet)) end stand.2
       (subst (λ m. JournalEnds s cone n0 closed bytes m end) (sym (counts n packet rest)) ends) in
       record {
         packets = packet ∷ further.packets;
@@ -113,26 +115,26 @@ module _ (s : Numbers) (cone n0 : ℕ) (closed : Bool) (bytes : List ℕ) where
   -- ---- one packet more
 
   more : (packets : List Packet) (n gate end : ℕ) (packet : Packet) → Stand n gate packets end → Holds end packet → MayFollow s n0 closed (n + length (events_of packets)) packet →
-      Stand n gate (packets ++ packet ∷ []) (next_gate end (payload_of packet))
+      Stand n gate (packets ++ packet ∷ []) (next_gate end (payload_of written packet))
   more [] n gate end packet stand holds may = (
     subst (λ g. Holds g packet) stand holds,
     subst (λ m. MayFollow s n0 closed m packet) (let same : n + 0 ≡ n = omega arith in same) may,
-    ap (λ g. next_gate g (payload_of packet)) stand,
+    ap (λ g. next_gate g (payload_of written packet)) stand,
   )
   more (first ∷ rest) n gate end packet stand holds may = (
     stand.0,
     stand.1,
-    more rest (n + length first.keys) (next_gate gate (payload_of first)) end packet stand.2 holds
+    more rest (n + length (keys_of first)) (next_gate gate (payload_of written first)) end packet stand.2 holds
         (subst (λ m. MayFollow s n0 closed m packet) (sym (counts n first rest)) may),
   )
 
   -- the records of these packets, and of one more
-  records_behind : (packets : List Packet) (n gate end : ℕ) (packet : Packet) → Stand n gate packets end → IsOpen (most_payload s) bytes end (payload_of packet) →
-      Records (most_payload s) bytes gate (map payload_of (packets ++ packet ∷ [])) (next_gate end (payload_of packet))
+  records_behind : (packets : List Packet) (n gate end : ℕ) (packet : Packet) → Stand n gate packets end → IsOpen (most_payload s) bytes end (payload_of written packet) →
+      Records (most_payload s) bytes gate (map (payload_of written) (packets ++ packet ∷ [])) (next_gate end (payload_of written packet))
   records_behind [] n gate end packet stand opened =
-      (subst (λ g. IsOpen (most_payload s) bytes g (payload_of packet)) stand opened, ap (λ g. next_gate g (payload_of packet)) stand)
+      (subst (λ g. IsOpen (most_payload s) bytes g (payload_of written packet)) stand opened, ap (λ g. next_gate g (payload_of written packet)) stand)
   records_behind (first ∷ rest) n gate end packet stand opened =
-      (stand.0.stands, records_behind rest (n + length first.keys) (next_gate gate (payload_of first)) end packet stand.2 opened)
+      (stand.0.stands, records_behind rest (n + length (keys_of first)) (next_gate gate (payload_of written first)) end packet stand.2 opened)
 
   -- ---- behind the keys that came before
 
@@ -148,22 +150,22 @@ module _ (s : Numbers) (cone n0 : ℕ) (closed : Bool) (bytes : List ℕ) where
     count_of gate events has = ap length has.events_are ∙ length-append before (events_of has.packets)
 
     pub replayed_more : (gate : ℕ) (events : List ℕ) (packet : Packet) → Has gate events → Holds gate packet → MayFollow s n0 closed (length events) packet →
-        Has (next_gate gate (payload_of packet)) (events ++ packet.keys)
+        Has (next_gate gate (payload_of written packet)) (events ++ (keys_of packet))
     replayed_more gate events packet has holds may = record {
       packets = has.packets ++ packet ∷ [];
       stand = more has.packets (length before) first gate packet has.stand holds (subst (λ m. MayFollow s n0 closed m packet) (count_of gate events has) may);
-      events_are = ap (λ keys. keys ++ packet.keys) has.events_are
-          ∙ (append_assoc before (events_of has.packets) packet.keys ∙ ap (λ keys. before ++ keys) (sym (events_more has.packets packet)));
+      events_are = ap (λ keys. keys ++ (keys_of packet)) has.events_are
+          ∙ (append_assoc before (events_of has.packets) (keys_of packet) ∙ ap (λ keys. before ++ keys) (sym (events_more has.packets packet)));
     }
 
     -- no flush comes with the next packet of a journal that brings none
     pub none_flushed : (gate : ℕ) (events : List ℕ) (packet : Packet) → Has gate events → FlushesNothing s n0 bytes (length before) first →
-        IsOpen (most_payload s) bytes gate (payload_of packet) → last_flush s (length events + length packet.keys) ≤ n0
+        IsOpen (most_payload s) bytes gate (payload_of written packet) → last_flush s (length events + length (keys_of packet)) ≤ n0
     none_flushed gate events packet has nothing opened =
-        let count : length before + length (events_of (has.packets ++ packet ∷ [])) ≡ length events + length packet.keys =
+        let count : length before + length (events_of (has.packets ++ packet ∷ [])) ≡ length events + length (keys_of packet) =
         omega (arith, count_of gate events has, counted_more has.packets packet) in
         subst (λ n. last_flush s n ≤ n0) count
-        (nothing (has.packets ++ packet ∷ []) (next_gate gate (payload_of packet)) (records_behind has.packets (length before) first gate packet has.stand opened))
+        (nothing (has.packets ++ packet ∷ []) (next_gate gate (payload_of written packet)) (records_behind has.packets (length before) first gate packet has.stand opened))
 
     -- what is so behind what was replayed is so from the first gate on
     pub leaves_from_start : (gate : ℕ) (events : List ℕ) (at : ℕ) → Has gate events → Leaves (length events) gate at → Leaves (length before) first at
@@ -190,8 +192,8 @@ module _ (s : Numbers) (cone n0 : ℕ) (closed : Bool) (bytes : List ℕ) where
     follows (packet ∷ others) front rest n gate end is start stand shut =
         let next = is_next s cone bytes history front (events_of front) gate journal (record { rest = rest; is = is; keys = refl; gate_is = start }) packet stand.0 in
         sym (append_assoc front (packet ∷ []) others)
-        ∙ follows others (front ++ packet ∷ []) next.rest (n + length packet.keys) (next_gate gate (payload_of packet)) end
-        (next.is ∙ sym (append_assoc front (packet ∷ []) next.rest)) (ap (λ g. next_gate g (payload_of packet)) start ∙ end_more front packet) stand.2 shut
+        ∙ follows others (front ++ packet ∷ []) next.rest (n + length (keys_of packet)) (next_gate gate (payload_of written packet)) end
+        (next.is ∙ sym (append_assoc front (packet ∷ []) next.rest)) (ap (λ g. next_gate g (payload_of written packet)) start ∙ end_more front packet) stand.2 shut
 
     -- and the keys are all of it, where those before are the ones of the packets before
     pub all_keys : (done rest : List Packet) (before events : List ℕ) (first gate : ℕ) → history ≡ done ++ rest → before ≡ events_of done → first ≡ end_of done →

@@ -1,5 +1,7 @@
 -- A cone that replays one packet more, or stops.
 use Rattle.std.proofs.Common.{ℕ, ◌≡◌, ◌+◌, ◌-◌, ◌*◌, ◌^◌, ◌<◌, ◌≤◌, Some, Option, List, ◌++◌, length, max, refl, ap, sym, ◌∙◌, subst, arith, length-append}
+use Rattle.lert_levels.specs.OnDisk.{written}
+use Rattle.lert_base.specs.Packet.{keys_of}
 use Rattle.lert_base.specs.Packet.{Packet}
 use Rattle.lert_bay.specs.{declared.bay.TheConstants.{JOURNAL, FRAMES}, Files.{Files, IfTold}, Kept.{Bays, CallsBay}}
 use Rattle.lert_reports.specs.declared.log_point.LogPoint.{LogPoint}
@@ -55,10 +57,10 @@ module _ {B : Type 0} (files : B → Option Files) (start old new : Replaying B)
     abbrev pub Takes : Files → ℕ → Type 0
     Takes now next =
         (packet : Packet)
-        × HoldsPacket old.listing.settings old.listing.cone (most_payload old.listing.settings) (now JOURNAL) gate packet
+        × HoldsPacket written old.listing.settings old.listing.cone (most_payload old.listing.settings) (now JOURNAL) gate packet
         × MayFollow old.listing.settings old.last.n0 old.last.closed (length old.listing.events) packet
-        × (next ≡ next_gate gate (payload_of packet))
-        × (new.listing ≡ record old.listing { events = old.listing.events ++ packet.keys })
+        × (next ≡ next_gate gate (payload_of written packet))
+        × (new.listing ≡ record old.listing { events = old.listing.events ++ (keys_of packet) })
 
     pub read_on : (next : ℕ) → Read gate old.listing.events → ((now : Files) → files old.bay ≡ Some now → Takes now next) → Read next new.listing.events
     read_on next has taken =
@@ -67,15 +69,15 @@ module _ {B : Type 0} (files : B → Option Files) (start old new : Replaying B)
         let took = taken now there.1 in
         let packet = took.0 in
         let s = start.listing.settings in
-        let own : HoldsPacket s start.listing.cone (most_payload s) (seen JOURNAL) gate packet =
-        subst (λ (bytes : List ℕ). HoldsPacket s start.listing.cone (most_payload s) bytes gate packet) there.2
-        (subst (λ (cone : ℕ). HoldsPacket s cone (most_payload s) (now JOURNAL) gate packet) same.cone
-        (subst (λ (t : Numbers). HoldsPacket t old.listing.cone (most_payload t) (now JOURNAL) gate packet) same.settings took.1)) in
+        let own : HoldsPacket written s start.listing.cone (most_payload s) (seen JOURNAL) gate packet =
+        subst (λ (bytes : List ℕ). HoldsPacket written s start.listing.cone (most_payload s) bytes gate packet) there.2
+        (subst (λ (cone : ℕ). HoldsPacket written s cone (most_payload s) (now JOURNAL) gate packet) same.cone
+        (subst (λ (t : Numbers). HoldsPacket written t old.listing.cone (most_payload t) (now JOURNAL) gate packet) same.settings took.1)) in
         let may : MayFollow s start.last.n0 start.last.closed (length old.listing.events) packet =
         subst (λ (last : LogPoint). MayFollow s last.n0 last.closed (length old.listing.events) packet) same.last
         (subst (λ (t : Numbers). MayFollow t old.last.n0 old.last.closed (length old.listing.events) packet) same.settings took.2) in
         subst (Read next) (sym (ap (λ (l : Listing). l.events) took.4))
-        (subst (λ (g : ℕ). Read g (old.listing.events ++ packet.keys)) (sym took.3)
+        (subst (λ (g : ℕ). Read g (old.listing.events ++ (keys_of packet))) (sym took.3)
         (replayed_more s start.listing.cone start.last.n0 start.last.closed (seen JOURNAL) start.listing.events first gate old.listing.events packet has own may))
 
     -- where a call found the format left
@@ -106,11 +108,11 @@ module _ {B : Type 0} (files : B → Option Files) (start old new : Replaying B)
         let there = journal.told seen told in
         let s = start.listing.settings in
         let n = length old.listing.events in
-        let opened : IsOpen (most_payload s) (seen JOURNAL) gate (payload_of packet) =
-        subst (λ (bytes : List ℕ). IsOpen (most_payload s) bytes gate (payload_of packet)) there.2
-        (subst (λ (t : Numbers). IsOpen (most_payload t) (there.0 JOURNAL) gate (payload_of packet)) same.settings holds.stands) in
+        let opened : IsOpen (most_payload s) (seen JOURNAL) gate (payload_of written packet) =
+        subst (λ (bytes : List ℕ). IsOpen (most_payload s) bytes gate (payload_of written packet)) there.2
+        (subst (λ (t : Numbers). IsOpen (most_payload t) (there.0 JOURNAL) gate (payload_of written packet)) same.settings holds.stands) in
         let none = none_flushed s start.listing.cone start.last.n0 start.last.closed (seen JOURNAL) start.listing.events first gate old.listing.events packet has nothing opened in
-        subst (λ (t : Numbers). last_flush t (n + length packet.keys) ≤ max old.last.n0 n) (sym same.settings)
+        subst (λ (t : Numbers). last_flush t (n + length (keys_of packet)) ≤ max old.last.n0 n) (sym same.settings)
         (omega (arith, none, ap (λ (last : LogPoint). last.n0) same.last))
 
 -- each packet has a key, so fewer are left

@@ -1,5 +1,6 @@
 -- Packets and the bytes of their records, and how many of a journal are still to be read.
 use Rattle.std.proofs.{Common.{◌≡◌, ℕ, ◌+◌, ◌*◌, ◌<◌, ◌≤◌, List, ◌++◌, All, length, ap, ◌∙◌, arith, length-append}, lemmas.Grind.flat_map-append}
+use Rattle.lert_base.specs.Packet.{keys_of}
 use Rattle.lert_base.specs.Packet.{Packet, events_of}
 use Rattle.lert_cone.specs.{History.end_of, Replay.IsPast, Short.few}
 
@@ -9,7 +10,7 @@ bytes_of packets = 13 * length packets + 8 * length (events_of packets)
 
 pub events_split : (done rest : List Packet) → length (events_of (done ++ rest)) ≡ length (events_of done) + length (events_of rest)
 events_split done rest =
-    ap (length {A = ℕ}) (flat_map-append (λ (packet : Packet). packet.keys) done rest) ∙ length-append (events_of done) (events_of rest)
+    ap (length {A = ℕ}) (flat_map-append (λ (packet : Packet). (keys_of packet)) done rest) ∙ length-append (events_of done) (events_of rest)
 
 -- so far behind the first packets the journal ends
 pub ends_ahead : (done rest : List Packet) → end_of (done ++ rest) ≡ end_of done + bytes_of rest
@@ -20,5 +21,5 @@ pub past_ahead : (history done : List Packet) (events : List ℕ) (gate : ℕ) (
 past_ahead history done events gate past = omega (arith, ap end_of past.is, ends_ahead done past.rest, past.gate_is)
 
 -- a packet has a key at least, so a key takes 21 bytes at most
-pub bytes_few : (packets : List Packet) → All (λ packet. 0 < length packet.keys) packets → bytes_of packets ≤ 21 * length (events_of packets)
+pub bytes_few : (packets : List Packet) → All (λ packet. 0 < length (keys_of packet)) packets → bytes_of packets ≤ 21 * length (events_of packets)
 bytes_few packets some = omega (arith, few packets some)

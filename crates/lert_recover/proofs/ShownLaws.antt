@@ -1,4 +1,5 @@
 -- The reports of a cone that is reopened, of which those that were shown before are the first.
+use Rattle.lert_base.specs.Packet.{keys_of}
 use Rattle.lert_spec.specs.Counts.{plain}
 use Rattle.std.proofs.Common.{◌≡◌, ℕ, ◌^◌, ◌<◌, ◌≤◌, Bool, true, false, Option, Some, Result, Ok, Err, List, [], ◌∷◌, ◌++◌, length, All, length-append, ap, sym, ◌∙◌, refl, subst, arith}
 use Rattle.std.proofs.{lemmas.List.Concat.flat_map-append, lemmas.List.Elements.{All-head, All-tail}, lemmas.Option.same_Some}
@@ -23,8 +24,8 @@ keys_joined (key ∷ keys) others fit rest =
 keys_of : (history : List Packet) → KeysFit history → AreKeys (events_of history)
 keys_of [] fit = tt
 keys_of (packet ∷ rest) fit =
-    keys_joined packet.keys (events_of rest) (All-head (λ (p : Packet). All (λ key. key < 2 ^ 64) p.keys) packet rest fit)
-    (keys_of rest (All-tail (λ (p : Packet). All (λ key. key < 2 ^ 64) p.keys) packet rest fit))
+    keys_joined (keys_of packet) (events_of rest) (All-head (λ (p : Packet). All (λ key. key < 2 ^ 64) (keys_of p)) packet rest fit)
+    (keys_of rest (All-tail (λ (p : Packet). All (λ key. key < 2 ^ 64) (keys_of p)) packet rest fit))
 
 keys_split : (keys others : List ℕ) → AreKeys (keys ++ others) → AreKeys keys × AreKeys others
 keys_split [] others fit = (tt, fit)

@@ -1,5 +1,7 @@
 -- The packets of a journal as they are replayed, and where the files of a cone first leave their format.
 use Rattle.std.specs.Prelude.{◌≡◌, ℕ, ◌+◌, ◌-◌, ◌≤◌, Bool, List, [], ◌∷◌, ◌++◌, length, map, Option}
+use Rattle.lert_levels.specs.OnDisk.{written}
+use Rattle.lert_base.specs.Packet.{keys_of}
 use Rattle.lert_base.specs.Packet.{Packet, events_of}
 use Rattle.lert_bay.specs.{declared.bay.TheConstants.JOURNAL, Files.{Files, Turns}}
 use Rattle.lert_cone.specs.{Framed.last_flush, History.{most_payload, end_of}, Replay.{MayFollow, ReplayLeavesAt}, Replaying.Replaying, Replays.Replays}
@@ -15,9 +17,9 @@ use Rattle.lert_spec.specs.declared.numbers.Numbers.{Numbers}
 abbrev pub AreReplayed : Numbers → ℕ → ℕ → Bool → List ℕ → ℕ → ℕ → List Packet → ℕ → Type 0
 AreReplayed s cone n0 closed bytes n gate [] end = end ≡ gate
 AreReplayed s cone n0 closed bytes n gate (packet ∷ rest) end =
-    HoldsPacket s cone (most_payload s) bytes gate packet
+    HoldsPacket written s cone (most_payload s) bytes gate packet
     × MayFollow s n0 closed n packet
-    × AreReplayed s cone n0 closed bytes (n + length packet.keys) (next_gate gate (payload_of packet)) rest end
+    × AreReplayed s cone n0 closed bytes (n + length (keys_of packet)) (next_gate gate (payload_of written packet)) rest end
 
 -- some packets so stand from a gate on, and behind them the format is left at this place
 pub record JournalLeavesAt (s : Numbers) (cone n0 : ℕ) (closed : Bool) (bytes : List ℕ) (n gate at : ℕ) : Type 0 where
@@ -59,7 +61,7 @@ pub record AreInFormat (s : Numbers) (cone : ℕ) (seen : Files) : Type 0 where
 
 -- However many packets are read from a gate of a journal on, behind n keys, no flush position above n0 lies among the keys.
 abbrev pub FlushesNothing : Numbers → ℕ → List ℕ → ℕ → ℕ → Type 0
-FlushesNothing s n0 bytes n gate = (packets : List Packet) (end : ℕ) → Records (most_payload s) bytes gate (map payload_of packets) end →
+FlushesNothing s n0 bytes n gate = (packets : List Packet) (end : ℕ) → Records (most_payload s) bytes gate (map (payload_of written) packets) end →
     last_flush s (n + length (events_of packets)) ≤ n0
 
 -- ---- while packets are replayed

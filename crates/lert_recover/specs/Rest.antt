@@ -1,5 +1,7 @@
 -- What stands at a gate of a journal that is read without a cone.
 use Rattle.std.specs.Prelude.{◌≡◌, ℕ, ◌+◌, ◌<◌, ◌≤◌, Bool, List, length}
+use Rattle.lert_levels.specs.OnDisk.{written}
+use Rattle.lert_base.specs.Packet.{keys_of}
 use Rattle.lert_base.specs.Packet.{Packet}
 use Rattle.lert_cone.specs.{History.most_payload, Replay.{MayFollow, ReplayLeavesAt}}
 use Rattle.lert_gatelog.specs.Gated.{IsClosed, next_gate}
@@ -12,10 +14,10 @@ use Rattle.lert_spec.specs.{declared.numbers.Numbers.Numbers, Edges.capacity}
 abbrev pub IsFound : Numbers → ℕ → ℕ → Bool → ℕ → List ℕ → ℕ → ℕ → Found → Type 0
 IsFound s cone n0 closed n bytes gate next (Followed keys) =
     (packet : Packet)
-    × HoldsPacket s cone (most_payload s) bytes gate packet
+    × HoldsPacket written s cone (most_payload s) bytes gate packet
     × MayFollow s n0 closed n packet
-    × (keys ≡ length packet.keys)
-    × (next ≡ next_gate gate (payload_of packet))
+    × (keys ≡ length (keys_of packet))
+    × (next ≡ next_gate gate (payload_of written packet))
 IsFound s cone n0 closed n bytes gate next End = IsClosed bytes gate × (n0 ≤ n)
 IsFound s cone n0 closed n bytes gate next (Left at) = ReplayLeavesAt s cone n0 closed n bytes gate at
 

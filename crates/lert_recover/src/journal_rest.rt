@@ -16,7 +16,7 @@ ghost use Rattle.lert_spec.specs.Edges.{capacity};
 use crate::replay::Stop;
 use lert_base::Settings;
 use lert_bay::{Bay, JOURNAL};
-use lert_cone::{LogPoint, ReplayFault, end_left, greatest_payload, packet_left};
+use lert_cone::{LogPoint, ReplayFault, WRITTEN, end_left, greatest_payload, packet_left};
 use lert_files::ReopenFault;
 use lert_gatelog::{GateLog, LogFault};
 use lert_io::Failed;
@@ -162,7 +162,7 @@ fn packet_here(
 {
     // Its clause says that the numbers are valid.
     let _ = settings.numbers();
-    if let Some(place) = place_left(settings, cone, payload) {
+    if let Some(place) = place_left(settings, cone, payload, WRITTEN) {
         return Found::Left {
             at: gate + 1 + place,
         };

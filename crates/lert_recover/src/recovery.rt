@@ -1,6 +1,7 @@
 //! A cone over the files of a stopped run.
 
 ghost use Rattle.std.specs.Prelude.{◌≡◌, ◌⊎◌, ℕ, ◌+◌, ◌-◌, ◌<◌, ◌≤◌, ◌^◌, ◌++◌, List, All, None, length, if◌then◌else◌, MatchResult, IfOk, IfErr, IsErrAnd};
+ghost use Rattle.lert_base.specs.Packet.{keys_of};
 ghost use Rattle.lert_base.specs.declared.kept.Kept.{Kept as KeptOf};
 ghost use Rattle.lert_base.specs.Packet.{Packet, events_of};
 ghost use Rattle.lert_bay.specs.declared.bay.TheConstants.{JOURNAL, LOG, FRAMES};
@@ -75,7 +76,7 @@ pub fn reopen<B: Bay, T: CountTable>(
         IfOk result (λ now. (rest : List Report) × (now.reports ≡ look room.settings (events_of h) ++ rest))) }
 
     // Told or not, it stands for each list of as many events. Where the files were told and sound for a list, that is such a list.
-    ensures stands { IfOk result (λ now. (h : List Packet) → All (λ packet. 0 < length packet.keys) h → length (events_of h) ≡ now.events →
+    ensures stands { IfOk result (λ now. (h : List Packet) → All (λ packet. 0 < length (keys_of packet)) h → length (events_of h) ≡ now.events →
         IfTold (B.files bay) (λ seen. (other : List Packet) → IsSound room.settings cone other seen → IsSound room.settings cone h seen) →
         StandsFor B.files B.leaves B.faults now h) }
 
@@ -152,7 +153,7 @@ fn reopen_in_order<B: Bay, T: CountTable>(
     ensures bounded { IfTold (B.files bay) (λ seen. (h : List Packet) → IsSound room.settings cone h seen → MatchResult result
         (λ now. B.handed_out now.bay JOURNAL ≤ B.handed_out bay JOURNAL + most_read room.settings)
         (λ refused. B.handed_out refused.bay JOURNAL ≤ B.handed_out bay JOURNAL + most_read room.settings)) }
-    ensures stands { IfOk result (λ now. (h : List Packet) → All (λ packet. 0 < length packet.keys) h → length (events_of h) ≡ now.events →
+    ensures stands { IfOk result (λ now. (h : List Packet) → All (λ packet. 0 < length (keys_of packet)) h → length (events_of h) ≡ now.events →
         IfTold (B.files bay) (λ seen. (other : List Packet) → IsSound room.settings cone other seen → IsSound room.settings cone h seen) →
         StandsFor B.files B.leaves B.faults now h) }
     ensures stays_sound { IfTold (B.files bay) (λ seen. (h : List Packet) → IsSound room.settings cone h seen →
@@ -207,7 +208,7 @@ fn replay_journal<B: Bay, T: CountTable>(
         (λ refused. IsStopped cone.listing.settings cone.listing.cone cone.last.n0 cone.last.closed (seen JOURNAL) (length cone.listing.events) last.now.offset refused.fault)) }
     ensures fails { IfTold (B.files cone.bay) (λ _. IfErr result (λ refused. (h : List Packet) → ReplaysSome B.files B.leaves cone h →
         refused.fault ≡ ReopenFault.Failed)) }
-    ensures stands { IfOk result (λ now. (h : List Packet) → All (λ packet. 0 < length packet.keys) h → length (events_of h) ≡ now.events →
+    ensures stands { IfOk result (λ now. (h : List Packet) → All (λ packet. 0 < length (keys_of packet)) h → length (events_of h) ≡ now.events →
         (WereSoundAs B.files cone.listing.settings cone.listing.cone cone.made → IfTold (B.files cone.bay) (λ _. ReplaysSome B.files B.leaves cone h)) → StandsFor B.files B.leaves B.faults now h) }
     ensures passed { IfOk result (λ now. cone.last.n0 ≤ length now.listing.events) }
     ensures counted { IfOk result (λ now. now.events ≡ length now.listing.events) }

@@ -1,7 +1,7 @@
 //! A cone whose journal is read again.
 
 ghost use Rattle.std.specs.Prelude.{◌≡◌, ◌≢◌, ◌⊎◌, ℕ, ◌+◌, ◌-◌, ◌<◌, ◌≤◌, ◌^◌, if◌then◌else◌, max, List, [], ◌∷◌, ◌++◌, length, All, None, Err, IfErr, IfNone, IfOk, IfSome, IsErrOf, OnErr, OnOk};
-ghost use Rattle.lert_base.specs.Packet.{Packet, events_of};
+ghost use Rattle.lert_base.specs.Packet.{keys_of, Packet, events_of};
 ghost use Rattle.lert_bay.specs.Files.{Files, IfTold};
 ghost use Rattle.lert_bay.specs.Kept.{CallsBay};
 ghost use Rattle.lert_bay.specs.Settled.{IsSettled};
@@ -285,7 +285,7 @@ impl<B: Bay, T: CountTable> ReplayingCone<B, T> {
         ensures value { result ≡ readied self }
 
         // It stands for a list whose keys it has as many of, where it is behind its packets, if the files were sound for one.
-        ensures stands_for { (h : List Packet) → All (λ packet. 0 < length packet.keys) h → length (events_of h) ≡ self.events →
+        ensures stands_for { (h : List Packet) → All (λ packet. 0 < length (keys_of packet)) h → length (events_of h) ≡ self.events →
             (WasSound B.files result → IfTold (B.files self.bay) (λ _. Replays B.files B.leaves self h h)) →
             StandsFor B.files B.leaves B.faults result h }
     {

@@ -1,6 +1,7 @@
 -- A weave has the keys of its parts of all traces, in another order.
 use Rattle.std.proofs.{Common.{◌≡◌, ◌≢◌, ℕ, ◌+◌, ◌<◌, Bool, eqb, cond, List, [], ◌∷◌, ◌++◌, length, flat_map, sum_by, ap, sym, ◌∙◌, refl, arith, length-append}, lemmas.Bool.{eq-eqb, ne_eqb}}
 use Rattle.std.proofs.lemmas.List.Sums.{sum_by-append}
+use Rattle.lert_base.specs.Packet.{keys_of}
 use Rattle.lert_base.specs.{Packet.{Packet, events_of, of_trace}, Weave.{IsBrought, IsWoven}}
 use Rattle.lert_spec.specs.{declared.numbers.Numbers.Numbers, Mix.{cone_of, part_of}}
 use Rattle.lert_spec.proofs.ReportLaws.{times, times-filter}
@@ -21,11 +22,11 @@ module _ (s : Numbers) (cone workers : ℕ) (traces : List (List ℕ)) (history 
   -- what adds up over lists is of all events what it is of the parts
   pub of_events : (f : List ℕ → ℕ) → f [] ≡ 0 → ((xs ys : List ℕ) → f (xs ++ ys) ≡ f xs + f ys) → f (events_of history) ≡ sum_by (λ keys. f (part_of s cone keys)) traces
   of_events f none joins =
-      joined f none joins (λ (p : Packet). p.keys) history
-      ∙ (by_trace (λ p. f p.keys) (IsBrought s workers (length traces)) (length traces) named history woven.each
-      ∙ sym (by_place (λ keys. f (part_of s cone keys)) (λ trace. sum_by (λ (p : Packet). f p.keys) (of_trace history trace)) traces 0 (λ k keys is.
-      ap (λ trace. sum_by (λ (p : Packet). f p.keys) (of_trace history trace)) (let same : 0 + k ≡ k = omega arith in same)
-      ∙ (sym (joined f none joins (λ (p : Packet). p.keys) (of_trace history k)) ∙ ap f (woven.joined k keys is)))))
+      joined f none joins (λ (p : Packet). (keys_of p)) history
+      ∙ (by_trace (λ p. f (keys_of p)) (IsBrought s workers (length traces)) (length traces) named history woven.each
+      ∙ sym (by_place (λ keys. f (part_of s cone keys)) (λ trace. sum_by (λ (p : Packet). f (keys_of p)) (of_trace history trace)) traces 0 (λ k keys is.
+      ap (λ trace. sum_by (λ (p : Packet). f (keys_of p)) (of_trace history trace)) (let same : 0 + k ≡ k = omega arith in same)
+      ∙ (sym (joined f none joins (λ (p : Packet). (keys_of p)) (of_trace history k)) ∙ ap f (woven.joined k keys is)))))
 
   pub woven_length : length (events_of history) ≡ part_length s cone traces
   woven_length = of_events length refl length-append

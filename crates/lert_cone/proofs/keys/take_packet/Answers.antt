@@ -1,3 +1,4 @@
+use Rattle.lert_spec.proofs.ItemLaws.{length-keys_in}
 use Rattle.lert_bay.specs.Kept.{seen_by}
 use Rattle.std.proofs.Common.{◌+◌, ℕ, ap, subst, sym, arith}
 use Rattle.lert_gatelog.specs.Gated.{IsClosed}
@@ -12,6 +13,9 @@ lawful g = record { as_read = g.met.B.Bay.as_read; since_now = g.met.B.Bay.since
 pub append_entry-requires-clause-some : goal.append_entry-requires-clause-some
 append_entry-requires-clause-some g c = c.requires.journaled.some
 
+pub append_entry-requires-clause-weighed : goal.append_entry-requires-clause-weighed
+append_entry-requires-clause-weighed g c = c.requires.journaled.weighed
+
 pub append_entry-requires-clause-few : goal.append_entry-requires-clause-few
 append_entry-requires-clause-few g c = omega (arith, c.requires.most, c.requires.journaled.few)
 
@@ -19,7 +23,7 @@ pub append_entry-requires-clause-room : goal.append_entry-requires-clause-room
 append_entry-requires-clause-room g c = c.requires.roomy
 
 pub append_entry-requires-clause-reach : goal.append_entry-requires-clause-reach
-append_entry-requires-clause-reach g c = c.requires.reach
+append_entry-requires-clause-reach g c = omega (arith, c.requires.reach, length-keys_in c.args.entry.now.keys.items)
 
 pub append_entry-requires-clause-closed : goal.append_entry-requires-clause-closed
 append_entry-requires-clause-closed g c = λ seen told image may.

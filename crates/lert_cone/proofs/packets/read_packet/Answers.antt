@@ -1,3 +1,5 @@
+use Rattle.lert_levels.specs.OnDisk.{written}
+use Rattle.lert_base.specs.Packet.{keys_of}
 use Rattle.lert_bay.specs.Kept.{Bays, seen_by}
 use Rattle.std.proofs.{Common.{◌≡◌, ◌∙◌, ℕ, ◌+◌, ◌*◌, ◌<◌, ◌≤◌, ◌^◌, All, Bool, List, true, false, ap, arith, inl, inr, length, Err, IsErrOf, subst, sym}, lemmas.Bool.{false≢true, true≢false}}
 use Rattle.std.proofs.lemmas.Result.{err_from_is_err_and}
@@ -24,32 +26,32 @@ lawful g = record {
 }
 
 -- what was read is a packet that stands in the journal
-held_at : (s : Numbers) (cone most file gate : ℕ) (seen : Files) (packet : Packet) → file ≡ 0 → most ≡ most_payload s → IsOpen most (seen file) gate (payload_of packet) →
-    IsJournaled s cone packet → All (λ key. key < 2 ^ 64) packet.keys →
-    HoldsPacket s cone (most_payload s) (seen 0) gate packet
+held_at : (s : Numbers) (cone most file gate : ℕ) (seen : Files) (packet : Packet) → file ≡ 0 → most ≡ most_payload s → IsOpen most (seen file) gate (payload_of written packet) →
+    IsJournaled written s cone packet → All (λ key. key < 2 ^ 64) (keys_of packet) →
+    HoldsPacket written s cone (most_payload s) (seen 0) gate packet
 held_at s cone most file gate seen packet file_is most_is opened journaled fits = record {
-  stands = subst (λ (m : ℕ). IsOpen m (seen 0) gate (payload_of packet)) most_is (subst (λ (f : ℕ). IsOpen most (seen f) gate (payload_of packet)) file_is opened);
+  stands = subst (λ (m : ℕ). IsOpen m (seen 0) gate (payload_of written packet)) most_is (subst (λ (f : ℕ). IsOpen most (seen f) gate (payload_of written packet)) file_is opened);
   journaled = journaled;
   fits = fits;
 }
 
 -- said of the tally's own settings and cone
-journaled_of : {s t : Numbers} {cone other : ℕ} {packet : Packet} → s ≡ t → cone ≡ other → IsJournaled s cone packet → IsJournaled t other packet
+journaled_of : {s t : Numbers} {cone other : ℕ} {packet : Packet} → s ≡ t → cone ≡ other → IsJournaled written s cone packet → IsJournaled written t other packet
 journaled_of {t = t} {cone = cone} {packet = packet} same is journaled =
-    subst (λ (n : ℕ). IsJournaled t n packet) is (subst (λ (v : Numbers). IsJournaled v cone packet) same journaled)
+    subst (λ (n : ℕ). IsJournaled written t n packet) is (subst (λ (v : Numbers). IsJournaled written v cone packet) same journaled)
 
 left_of : {s t : Numbers} {cone other most file gate at : ℕ} (seen : Files) → s ≡ t → cone ≡ other → most ≡ most_payload t →
-    file ≡ 0 → LeavesAt s cone most (seen file) gate at → LeavesAt t other (most_payload t) (seen 0) gate at
+    file ≡ 0 → LeavesAt written s cone most (seen file) gate at → LeavesAt written t other (most_payload t) (seen 0) gate at
 left_of {s = s} {t = t} {cone = cone} {other = other} {most = most} {file = file} {gate = gate} {at = at} seen same is most_is file_is left =
-    subst (λ (f : ℕ). LeavesAt t other (most_payload t) (seen f) gate at) file_is
-    (subst (λ (m : ℕ). LeavesAt t other m (seen file) gate at) most_is
-    (subst (λ (n : ℕ). LeavesAt t n most (seen file) gate at) is
-    (subst (λ (v : Numbers). LeavesAt v cone most (seen file) gate at) same left)))
+    subst (λ (f : ℕ). LeavesAt written t other (most_payload t) (seen f) gate at) file_is
+    (subst (λ (m : ℕ). LeavesAt written t other m (seen file) gate at) most_is
+    (subst (λ (n : ℕ). LeavesAt written t n most (seen file) gate at) is
+    (subst (λ (v : Numbers). LeavesAt written v cone most (seen file) gate at) same left)))
 
-follows_of : {s t : Numbers} {n0 n m : ℕ} {closed : Bool} {keys : List ℕ} {packet : Packet} → s ≡ t → n ≡ m → keys ≡ packet.keys →
+follows_of : {s t : Numbers} {n0 n m : ℕ} {closed : Bool} {keys : List ℕ} {packet : Packet} → s ≡ t → n ≡ m → keys ≡ (keys_of packet) →
     (n + length keys ≤ capacity s) × (closed ≡ true → n + length keys ≤ n0) → MayFollow t n0 closed m packet
 follows_of {s = s} {t = t} {n0 = n0} {n = n} {m = m} {keys = keys} {packet = packet} same n_is keys_are may =
-    let sum : n + length keys ≡ m + length packet.keys = λ i. n_is i + length (keys_are i) in
+    let sum : n + length keys ≡ m + length (keys_of packet) = λ i. n_is i + length (keys_are i) in
     record {
       within = subst (λ (k : ℕ). k ≤ capacity t) sum (subst (λ (v : Numbers). n + length keys ≤ capacity v) same may.0);
       before_closing = λ is_closed. subst (λ (k : ℕ). k ≤ n0) sum (may.1 is_closed);
@@ -64,6 +66,7 @@ no_failure same = (let never : ⊥ = cc in never)
 
 pub read_entry-requires : goal.read_entry-requires
 read_entry-requires g c = record {
+  version = (omega arith, omega arith);
   most = c.requires.most ∙ ap most_payload (sym c.settings-settings.ensures);
   entry = subst (λ (s : Numbers). 4 * s.packet ≤ c.args.entry.now.keys.room) (sym c.settings-settings.ensures) c.requires.entry;
   room = c.requires.room;

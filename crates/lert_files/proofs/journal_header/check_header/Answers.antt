@@ -7,21 +7,21 @@ returns-clause-told c file end_is is =
     let whole = c.in_default.ensures.whole in
     let head_is = read_whole c.args.count c.args.head.now file c.told-head c.requires is whole.0 in
     headed_there c.args.settings.now c.args.cone c.args.head.now file c.in-Some-read_header.kept (λ k. c.fits-head k) c.told-head head_is
-    c.in-Some-read_header.ensures.0 (omega (arith, end_is, c.if-end.false)) c.in-Some-read_header.ensures.1 (c.if-not-is_own.ensures.own refl)
+    (front_read c.args.count c.args.head.now whole.0 ∙ whole.1) (omega (arith, end_is, c.if-end.false)) c.in-Some-read_header.ensures.2 (c.if-not-is_own.ensures.own refl)
 
 pub returns-then-not-is_own-clause-told : goal.returns-then-not-is_own-clause-told
 returns-then-not-is_own-clause-told c file end_is is =
     let whole = c.in_default.ensures.whole in
     let head_is = read_whole c.args.count c.args.head.now file c.told-head c.requires is whole.0 in
     fault_there c.args.settings.now c.args.cone c.args.head.now file c.in-Some-read_header.kept head_is
-    c.in-Some-read_header.ensures.0 (whole_file c.args.count c.args.head.now file is whole.0) c.in-Some-read_header.ensures.1 (c.if-not-is_own.ensures.other refl)
+    (front_read c.args.count c.args.head.now whole.0 ∙ whole.1) (whole_file c.args.count c.args.head.now file is whole.0) c.in-Some-read_header.ensures.2 (c.if-not-is_own.ensures.other refl)
 
 pub returns-then-end-clause-told : goal.returns-then-end-clause-told
 returns-then-end-clause-told c file end_is is =
     let whole = c.in_default.ensures.whole in
     let head_is = read_whole c.args.count c.args.head.now file c.told-head c.requires is whole.0 in
     gateless_there c.args.settings.now c.args.cone c.args.end c.args.head.now file c.in-Some-read_header.kept head_is
-    c.in-Some-read_header.ensures.0 (whole_file c.args.count c.args.head.now file is whole.0) end_is (omega (arith, c.if-end.true)) c.in-Some-read_header.ensures.1 (c.if-not-is_own.ensures.own refl)
+    (front_read c.args.count c.args.head.now whole.0 ∙ whole.1) (whole_file c.args.count c.args.head.now file is whole.0) end_is (omega (arith, c.if-end.true)) c.in-Some-read_header.ensures.2 (c.if-not-is_own.ensures.own refl)
 
 pub returns-in-Some-clause-told : goal.returns-in-Some-clause-told
 returns-in-Some-clause-told c file end_is is =
@@ -30,4 +30,4 @@ returns-in-Some-clause-told c file end_is is =
 pub unreachable-requires : goal.unreachable-requires
 unreachable-requires c =
     let whole = c.in_default.ensures.whole in
-    absurd (c.in_default-read_header.ensures (front_read c.args.count c.args.head.now whole.0 ∙ whole.1))
+    absurd (c.in_default-read_header.ensures 1 (omega arith, omega arith) (front_read c.args.count c.args.head.now whole.0 ∙ whole.1))

@@ -1,4 +1,4 @@
-use Rattle.std.proofs.{Common.{arith, ap, sym, ◌∙◌, ◌≡◌, ◌<◌, ◌≤◌, ◌^◌, ◌-◌, true}, lemmas.Bool.false≢true}
+use Rattle.std.proofs.{Common.{arith, ap, sym, ◌∙◌, ◌≡◌, ◌<◌, ◌≤◌, ◌^◌, true}, lemmas.Bool.false≢true}
 use Rattle.lert_spec.specs.Edges.{tail_bits}
 use Rattle.lert_spec.specs.Look.{is_listed}
 use Rattle.lert_spec.proofs.TailLaws.{key_with}

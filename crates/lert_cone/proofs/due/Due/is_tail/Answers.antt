@@ -1,4 +1,4 @@
-use Rattle.std.proofs.Common.{arith, ap, ◌∙◌, ◌≡◌, ◌+◌, ◌^◌, ◌-◌, ◌/◌, leb-true, le-leb}
+use Rattle.std.proofs.Common.{arith, ap, ◌∙◌, ◌≡◌, ◌+◌, ◌^◌, ◌/◌, leb-true, le-leb}
 use Rattle.lert_frames.proofs.PlaceLaws.{limit_is}
 use Rattle.lert_spec.specs.Edges.{tail_bits}
 use Rattle.lert_spec.specs.declared.numbers.Numbers.{Numbers}

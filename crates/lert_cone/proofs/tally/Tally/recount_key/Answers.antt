@@ -1,4 +1,4 @@
-use Rattle.std.proofs.Common.{◌≡◌, ◌∙◌, ℕ, ◌+◌, ◌-◌, ◌^◌, ◌<◌, List, suc, length, ap, sym, subst, arith, cond, ltb, refl, [], ◌∷◌, ◌++◌, append_assoc, length-append}
+use Rattle.std.proofs.Common.{◌≡◌, ◌∙◌, ℕ, ◌+◌, ◌^◌, ◌<◌, List, suc, length, ap, sym, subst, arith, cond, ltb, refl, [], ◌∷◌, ◌++◌, append_assoc, length-append}
 use Rattle.lert_spec.specs.{declared.numbers.Numbers.Numbers, Edges.{edge, tail_bits}, Mix.cone_of}
 use Rattle.lert_levels.specs.rows.Young.{IsNextPosition, with_event}
 use Rattle.lert_cone.specs.Tally.{Tallied, IsRecounted, due_in}

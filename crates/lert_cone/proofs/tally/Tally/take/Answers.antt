@@ -1,4 +1,4 @@
-use Rattle.std.proofs.Common.{◌≡◌, ◌+◌, ◌-◌, ◌^◌, ◌<◌, ◌≤◌, ◌++◌, ◌∷◌, [], suc, false, length, ap, sym, ◌∙◌, refl, subst, arith, append_assoc, length-append}
+use Rattle.std.proofs.Common.{◌≡◌, ◌+◌, ◌^◌, ◌<◌, ◌≤◌, ◌++◌, ◌∷◌, [], suc, false, length, ap, sym, ◌∙◌, refl, subst, arith, append_assoc, length-append}
 use Rattle.lert_spec.specs.{declared.numbers.Numbers.Numbers, Edges.{capacity, tail_bits}, Limits.IsValid, Mix.cone_of}
 use Rattle.lert_cone.specs.Tally.{Tallied, IsCounted, due_in}
 use Rattle.lert_cone.proofs.{KeyCounted.{not_counted, no_room, key_counted}, NextFlush.{flush_next, next_flushes, next_stays}, TakeLaws.{rows_before, to_take}, TallyLaws.next_position}

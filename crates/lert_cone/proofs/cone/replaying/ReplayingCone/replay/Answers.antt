@@ -1,4 +1,6 @@
 use Rattle.std.proofs.Common.{◌≡◌, ◌∙◌, ℕ, ◌+◌, ◌*◌, ◌<◌, ◌++◌, ◌∷◌, [], All, List, length, max, None, Some, Err, Ok, IsFalse, ◌≤◌, le_refl, refl, sym, ap, subst, arith}
+use Rattle.lert_spec.specs.Items.{keys_in}
+use Rattle.lert_levels.specs.OnDisk.{written}
 use Rattle.lert_base.specs.{Entries.packet_of, Packet.events_of}
 use Rattle.lert_bay.specs.Files.{Files}
 use Rattle.lert_bay.proofs.KeptLaws.{calls_as}
@@ -151,10 +153,10 @@ returns-in_default g c =
     rw (← c.self.view_is) (record {
       taken = let taking : c.self.inside.stopped ≡ None = subst (λ (v : Replaying g.row.B.Denot). v.stopped ≡ None) (sym c.self.view_is) c.requires.taking in
           let was = c.self.invariant.taking taking in
-          let listing_is = listing_more c.self.inside.tally.listing c.replay_keys.new.tally.listing c.read_packet.new.entry.keys.keys c.keys_of.result.now
+          let listing_is = listing_more c.self.inside.tally.listing c.replay_keys.new.tally.listing (keys_in c.read_packet.new.entry.keys.items) c.keys_of.result.now
           c.replay_keys.ensures.listing c.in_default.ensures.taken c.keys_of.ensures.value in
-          let moved = moved_on (payload_of (packet_of c.read_packet.new.entry)) (c.in-Ok-true.ensures.moved c.in-Ok-true.field-0-test) c.at_gate-self-inside.ensures in
-          let events_is = length_more c.self.inside.tally.listing c.replay_keys.new.tally.listing c.read_packet.new.entry.keys.keys c.self.inside.events c.len-self-inside.result
+          let moved = moved_on (payload_of written (packet_of c.read_packet.new.entry)) (c.in-Ok-true.ensures.moved c.in-Ok-true.field-0-test) c.at_gate-self-inside.ensures in
+          let events_is = length_more c.self.inside.tally.listing c.replay_keys.new.tally.listing (keys_in c.read_packet.new.entry.keys.items) c.self.inside.events c.len-self-inside.result
           listing_is was.counted c.len-self-inside.ensures in
           record {
             packet = (packet_of c.read_packet.new.entry);
@@ -171,9 +173,9 @@ returns-in_default g c =
       ended = tt;
       refused = tt;
       broke = tt;
-      replays = let listing_is = listing_more c.self.inside.tally.listing c.replay_keys.new.tally.listing c.read_packet.new.entry.keys.keys c.keys_of.result.now
+      replays = let listing_is = listing_more c.self.inside.tally.listing c.replay_keys.new.tally.listing (keys_in c.read_packet.new.entry.keys.items) c.keys_of.result.now
           c.replay_keys.ensures.listing c.in_default.ensures.taken c.keys_of.ensures.value in
-          let moved = moved_on (payload_of (packet_of c.read_packet.new.entry)) (c.in-Ok-true.ensures.moved c.in-Ok-true.field-0-test) c.at_gate-self-inside.ensures in
+          let moved = moved_on (payload_of written (packet_of c.read_packet.new.entry)) (c.in-Ok-true.ensures.moved c.in-Ok-true.field-0-test) c.at_gate-self-inside.ensures in
           λ seen told h done way gate_same.
           let past : IsPast h done c.self.inside.tally.listing.events c.args.gate = subst (λ g. IsPast h done c.self.inside.tally.listing.events g) (sym gate_same) way.past in
           with_keys (bays g) (lawful g) c.read_packet.ensures.keeps c.self.inside.tally c.self.inside.log c.self.inside.last seen told h done c.args.gate way gate_same
@@ -183,7 +185,7 @@ returns-in_default g c =
             record {
               taking = way.taking;
               past = subst (λ (l : Listing). IsPast h (done ++ (packet_of c.read_packet.new.entry) ∷ []) l.events c.read_packet.new.journal.gate) (sym listing_is)
-                  (subst (λ g. IsPast h (done ++ (packet_of c.read_packet.new.entry) ∷ []) (c.self.inside.tally.listing.events ++ c.read_packet.new.entry.keys.keys) g) (sym moved)
+                  (subst (λ g. IsPast h (done ++ (packet_of c.read_packet.new.entry) ∷ []) (c.self.inside.tally.listing.events ++ (keys_in c.read_packet.new.entry.keys.items)) g) (sym moved)
                   (past_more h done c.self.inside.tally.listing.events c.args.gate (packet_of c.read_packet.new.entry) past next));
               on_way = c.in_default.ensures.on_way seen told_read h (events_of next.rest) is
                   (next_holds h done c.self.inside.tally.listing.events c.args.gate (packet_of c.read_packet.new.entry) c.keys_of.result.now _ past next c.keys_of.ensures.value refl
@@ -215,7 +217,7 @@ returns-in_default g c =
       kept = calls_behind (bays g) (lawful g) c.read_packet.ensures.keeps c.replay_keys.new.bay _ _ (λ same. absurd (no_fault same)) c.replay_keys.ensures.keeps.kept;
       handed = taken_read c.self.inside.tally.listing.settings (packet_of c.read_packet.new.entry) _ _ (g.B.Bay.handed_out c.replay_keys.new.bay) c.replay_keys.ensures.keeps.kept.journal
           c.in-Ok-true.field-0 c.args.gate c.gate.result c.in-Ok-true.ensures.handed c.in-Ok-true.field-0-test
-          (c.gate.ensures.value ∙ moved_on (payload_of (packet_of c.read_packet.new.entry)) (c.in-Ok-true.ensures.moved c.in-Ok-true.field-0-test) c.at_gate-self-inside.ensures);
+          (c.gate.ensures.value ∙ moved_on (payload_of written (packet_of c.read_packet.new.entry)) (c.in-Ok-true.ensures.moved c.in-Ok-true.field-0-test) c.at_gate-self-inside.ensures);
     })
 
 pub invariant_of-self-in-Ok-false : goal.invariant_of-self-in-Ok-false

@@ -1,4 +1,7 @@
 -- What a replay of one record keeps of its cone, at each of its exits.
+use Rattle.lert_cone.proofs.SoundLaws.{some_keys_of}
+use Rattle.lert_spec.specs.Items.{keys_in}
+use Rattle.lert_levels.specs.OnDisk.{written}
 use Rattle.lert_bay.specs.Kept.{Bays, seen_by}
 use Rattle.std.proofs.Common.{◌≡◌, ◌∙◌, ◌*◌, ◌++◌, length, take, drop, None, refl, sym, ap, subst, arith}
 use Rattle.lert_base.specs.Entries.{packet_of}
@@ -35,10 +38,10 @@ taken_kept g c =
     let taking : c.self.inside.stopped ≡ None = subst (λ (v : Replaying g.row.B.Denot). v.stopped ≡ None) (sym c.self.view_is) c.requires.taking in
     let was = c.self.invariant.taking taking in
     let len_is : c.self.inside.buffer.len ≡ length c.self.inside.buffer.items = omega (arith, c.self.inside.buffer.ok) in
-    let listing_is = listing_more c.self.inside.tally.listing c.replay_keys.new.tally.listing c.read_packet.new.entry.keys.keys c.keys_of.result.now
+    let listing_is = listing_more c.self.inside.tally.listing c.replay_keys.new.tally.listing (keys_in c.read_packet.new.entry.keys.items) c.keys_of.result.now
     c.replay_keys.ensures.listing c.in_default.ensures.taken c.keys_of.ensures.value in
-    let moved = moved_on (payload_of (packet_of c.read_packet.new.entry)) (c.in-Ok-true.ensures.moved c.in-Ok-true.field-0-test) c.at_gate-self-inside.ensures in
-    let events_is = length_more c.self.inside.tally.listing c.replay_keys.new.tally.listing c.read_packet.new.entry.keys.keys c.self.inside.events c.len-self-inside.result
+    let moved = moved_on (payload_of written (packet_of c.read_packet.new.entry)) (c.in-Ok-true.ensures.moved c.in-Ok-true.field-0-test) c.at_gate-self-inside.ensures in
+    let events_is = length_more c.self.inside.tally.listing c.replay_keys.new.tally.listing (keys_in c.read_packet.new.entry.keys.items) c.self.inside.events c.len-self-inside.result
     listing_is was.counted c.len-self-inside.ensures in
     let settings_are : c.replay_keys.new.tally.listing.settings ≡ c.self.inside.tally.listing.settings = ap (λ (l : Listing). l.settings) listing_is in
     let journaled = c.in-Ok-true.ensures.journaled c.in-Ok-true.field-0-test in
@@ -60,7 +63,7 @@ taken_kept g c =
         counted = sym c.len-self-inside.ensures;
         recounted = c.in_default.ensures.recounted;
         closed = ap (λ (l : Listing). l.closed) listing_is ∙ was.closed;
-        near = near_then c.args.gate c.read_packet.new.journal.gate c.self.inside.events c.len-self-inside.result (packet_of c.read_packet.new.entry) c.requires.reach moved journaled.some
+        near = near_then c.args.gate c.read_packet.new.journal.gate c.self.inside.events c.len-self-inside.result (packet_of c.read_packet.new.entry) c.requires.reach moved (some_keys_of _ _ _ journaled)
             events_is;
         journal_settled = settled_then c.replay_keys.ensures.keeps.journal (read_settled c.read_packet.ensures.keeps.reads.seen c.read_packet.ensures.keeps.reads.images was.journal_settled);
         logging = subst (λ n. IsLogging c.replay_keys.new.tally c.replay_keys.new.log n) long c.in_default.ensures.can_log.logging;
