@@ -5,7 +5,7 @@ ghost use Rattle.lert_base.specs.Keys.{Keys};
 
 use crate::transfer::{drain, refill};
 use circular_buffer::HeapCircularBuffer;
-use lert_base::Entry;
+use lert_base::{Entry, Item};
 use lert_io::OutOfMemory;
 use std::alloc::Global;
 use std::marker::Model;
@@ -21,11 +21,11 @@ pub enum Fill {
     MustGo,
 }
 
-/// A ring of keys for each cone, each with a room of four packets. Seen as the size of a packet and the
-/// list of keys of each cone.
+/// A ring of keys and their weights for each cone, each with a room of four packets. Seen as the size of a
+/// packet and the list of items of each cone.
 #[derive(Drop)]
 pub struct Buffers {
-    rings: Vec<HeapCircularBuffer<u64>>,
+    rings: Vec<HeapCircularBuffer<Item>>,
     packet: usize,
 }
 
@@ -80,22 +80,23 @@ impl Buffers {
         Ok(Buffers { rings, packet })
     }
 
-    /// Puts a key behind those of its cone.
-    pub fn push(&mut self, cone: u32, key: u64) -> Fill
+    /// Puts a key and its weight, 1 to 255, behind those of its cone.
+    pub fn push(&mut self, cone: u32, key: u64, weight: u8) -> Fill
         requires cone { cone < length self.old.rings }
         requires room { length (ring_of self.old cone) < 4 * self.old.packet }
+        requires some { 1 ≤ weight }
         ensures fill { result ≡ fill_of self.old.packet (length (ring_of self.old cone) + 1) }
-        ensures rings { self.new ≡ with_ring self.old cone (ring_of self.old cone ++ key ∷ []) }
+        ensures rings { self.new ≡ with_ring self.old cone (ring_of self.old cone ++ record { key = key; weight = weight } ∷ []) }
     {
         let ring = &mut self.rings[cone as usize];
-        let _ = ring.push_back(key);
+        let _ = ring.push_back(Item { key, weight });
         Fill::of(self.packet, ring.len())
     }
 
-    /// Moves a cone's keys into an entry without keys, whose room is that of the ring.
+    /// Moves a cone's keys and their weights into an entry without keys, whose room is that of the ring.
     pub fn take(&mut self, cone: u32, entry: &mut Entry)
         requires cone { cone < length self.old.rings }
-        requires empty { entry.old.keys.keys ≡ [] }
+        requires empty { entry.old.keys.items ≡ [] }
         requires room { entry.old.keys.room ≡ 4 * self.old.packet }
         ensures entry { entry.new ≡ with_keys entry.old (ring_of self.old cone) }
         ensures rings { self.new ≡ with_ring self.old cone [] }
@@ -103,13 +104,13 @@ impl Buffers {
         drain(&mut self.rings[cone as usize], &mut entry.keys);
     }
 
-    /// Moves an entry's keys back into the empty ring of a cone.
+    /// Moves an entry's keys and their weights back into the empty ring of a cone.
     pub fn give_back(&mut self, cone: u32, entry: &mut Entry)
         requires cone { cone < length self.old.rings }
         requires empty { ring_of self.old cone ≡ [] }
-        requires room { length entry.old.keys.keys ≤ 4 * self.old.packet }
+        requires room { length entry.old.keys.items ≤ 4 * self.old.packet }
         ensures entry { entry.new ≡ with_keys entry.old [] }
-        ensures rings { self.new ≡ with_ring self.old cone entry.old.keys.keys }
+        ensures rings { self.new ≡ with_ring self.old cone entry.old.keys.items }
     {
         refill(&mut self.rings[cone as usize], &mut entry.keys);
     }

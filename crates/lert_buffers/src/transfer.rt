@@ -1,28 +1,38 @@
-//! Keys that move between a ring and a key list.
+//! Keys and their weights that move between a ring and a key list.
 
 ghost use Rattle.std.specs.Prelude.{◌≡◌, ◌+◌, ◌≤◌, [], ◌++◌, length};
 ghost use Rattle.circular_buffer.specs.Buffer.{buffer};
+ghost use Rattle.lert_buffers.specs.Rings.{AreWeighed};
 
 use circular_buffer::HeapCircularBuffer;
-use lert_base::KeyList;
+use lert_base::{Item, KeyList};
 
-/// Moves a ring's keys behind those of a list, which has room for them.
-pub(crate) fn drain(ring: &mut HeapCircularBuffer<u64>, keys: &mut KeyList)
-    requires { length keys.old.keys + length ring.old.items ≤ keys.old.room }
-    ensures keys { keys.new ≡ record keys.old { keys = keys.old.keys ++ ring.old.items } }
+/// Moves a ring's items behind those of a list, which has room for them.
+pub(crate) fn drain(ring: &mut HeapCircularBuffer<Item>, keys: &mut KeyList)
+    requires room { length keys.old.items + length ring.old.items ≤ keys.old.room }
+    requires some { AreWeighed ring.old.items }
+    ensures keys { keys.new ≡ record keys.old { items = keys.old.items ++ ring.old.items } }
     ensures ring { ring.new ≡ buffer [] ring.old.capacity }
 {
-    while let Some(key) = ring.pop_front() {
-        keys.push(key);
+    while let Some(item) = ring.pop_front() {
+        keys.push(item.key, item.weight);
     }
 }
 
-/// Moves a list's keys behind those of a ring, which has room for them.
-pub(crate) fn refill(ring: &mut HeapCircularBuffer<u64>, keys: &mut KeyList)
-    requires { length ring.old.items + length keys.old.keys ≤ ring.old.capacity }
-    ensures keys { keys.new ≡ record keys.old { keys = [] } }
-    ensures ring { ring.new ≡ buffer (ring.old.items ++ keys.old.keys) ring.old.capacity }
+/// Moves a list's items behind those of a ring, which has room for them.
+pub(crate) fn refill(ring: &mut HeapCircularBuffer<Item>, keys: &mut KeyList)
+    requires { length ring.old.items + length keys.old.items ≤ ring.old.capacity }
+    ensures keys { keys.new ≡ record keys.old { items = [] } }
+    ensures ring { ring.new ≡ buffer (ring.old.items ++ keys.old.items) ring.old.capacity }
+    ensures some { AreWeighed keys.old.items }
 {
-    ring.fill_from_slice(keys.as_slice());
+    let names = keys.as_slice();
+    let weights = keys.weights();
+    for place in 0..names.len() {
+        let _ = ring.push_back(Item {
+            key: names[place],
+            weight: weights[place],
+        });
+    }
     keys.clear();
 }

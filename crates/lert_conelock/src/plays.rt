@@ -20,7 +20,7 @@ pub trait Naming {
 }
 
 impl Naming for Brand {
-    ghost packet = { record { by = 0; trace = 0; keys = [] } };
+    ghost packet = { record { by = 0; trace = 0; items = [] } };
 }
 
 /// The refusal that a note is of, and whether the state in hand is stopped.

@@ -146,6 +146,7 @@ module _ (s : Numbers) (number cone : ℕ) (traces : List ℕ) (reads : List (Li
         few = is.few;
         by_is = is.by_is;
         of_one = subst (Contains traces) (sym is.trace_is) (place, slice_get_within traces place trace at, get_or_from_slice_get traces place trace trace at);
+        weights = is.weights;
       }) more each)
 
   own_order : IsNonDecreasing (map (λ (p : Packet). p.trace) (added ++ more))

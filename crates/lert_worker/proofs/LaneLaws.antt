@@ -3,27 +3,32 @@ use Rattle.std.proofs.Common.{◌≡◌, ◌≢◌, ℕ, zero, suc, ◌+◌, ◌
 use Rattle.std.proofs.Common.{Some, slice_get, refl, ap, sym, ◌∙◌, subst, arith, append-nil, append_assoc, length-append}
 use Rattle.std.specs.Prelude.{All, sum_by}
 use Rattle.std.proofs.lemmas.Bool.{eq-eqb, ne_eqb}
+use Rattle.std.proofs.lemmas.List.{map-append}
 use Rattle.std.proofs.lemmas.List.Concat.{flat_map-append}
 use Rattle.std.proofs.lemmas.List.Elements.{All-push, All-nil, filter-append}
 use Rattle.std.proofs.lemmas.List.Sums.{sum_by_push}
 use Rattle.std.proofs.lemmas.Option.{get_or_from_slice_get}
-use Rattle.lert_base.specs.Packet.{Packet, events_of}
+use Rattle.lert_base.specs.Packet.{Packet, events_of, keys_of}
 use Rattle.lert_base.specs.Weave.{AreCut, IsWhole}
 use Rattle.lert_conelock.specs.Sight.{Sight}
 use Rattle.lert_spec.specs.declared.numbers.Numbers.{Numbers}
-use Rattle.lert_spec.specs.Mix.{cone_of, part_of}
+use Rattle.lert_spec.specs.{declared.item.Item.Item, Items.{AreOfVersion, keys_in, unit}, Mix.{cone_of, part_of}}
 use Rattle.lert_worker.specs.Brings.{full_packets, late_tries}
-use Rattle.lert_worker.specs.Outbox.{IsSendable}
+use Rattle.lert_worker.specs.Outbox.{IsSendable, IsUnitOf}
 use Rattle.lert_worker.specs.Sending.{IsOf, Lane, WasBusy, WasTaken}
 use Rattle.lert_worker.proofs.Counts.{counts_none, counts_on, late_fits, step_back, times_least}
 
 -- the packet of a ring
-abbrev pub ringed : ℕ → ℕ → List ℕ → Packet
-ringed number trace ring = record { by = number; trace = trace; keys = ring }
+abbrev pub ringed : ℕ → ℕ → List Item → Packet
+ringed number trace ring = record { by = number; trace = trace; items = ring }
 
-pub events_push : (packets : List Packet) (packet : Packet) → events_of (packets ++ packet ∷ []) ≡ events_of packets ++ packet.keys
+-- the items of a ring weigh 1
+pub weigh_one : (s : Numbers) (cone : ℕ) (ring : List Item) → All (IsUnitOf s cone) ring → AreOfVersion 1 ring
+weigh_one s cone ring of_cone = λ place d within. let one = (of_cone place d within).1 in (omega (arith, one), omega (arith, one))
+
+pub events_push : (packets : List Packet) (packet : Packet) → events_of (packets ++ packet ∷ []) ≡ events_of packets ++ keys_of packet
 events_push packets packet =
-    flat_map-append (λ (p : Packet). p.keys) packets (packet ∷ []) ∙ ap (λ keys. events_of packets ++ keys) (append-nil packet.keys)
+    flat_map-append keys_of packets (packet ∷ []) ∙ ap (λ keys. events_of packets ++ keys) (append-nil (keys_of packet))
 
 pub slice_get-first : {X : Type 0} (xs ys : List X) (i : ℕ) → i < length xs → slice_get (xs ++ ys) i ≡ slice_get xs i
 slice_get-first [] ys i within = absurd (omega arith)
@@ -54,8 +59,8 @@ cut_whole size sent whole = λ place found within is.
     subst (IsWhole size) (get_or_from_slice_get sent place found found is) (whole place found (omega (arith, within)))
 
 pub full_push : (s : Numbers) (sent : List Packet) (packet : Packet)
-    → full_packets s (sent ++ packet ∷ []) ≡ full_packets s sent + cond (eqb (length packet.keys) (4 * s.packet)) 1 0
-full_push s sent packet = sum_by_push (λ (p : Packet). cond (eqb (length p.keys) (4 * s.packet)) 1 0) sent packet
+    → full_packets s (sent ++ packet ∷ []) ≡ full_packets s sent + cond (eqb (length packet.items) (4 * s.packet)) 1 0
+full_push s sent packet = sum_by_push (λ (p : Packet). cond (eqb (length p.items) (4 * s.packet)) 1 0) sent packet
 
 pub late_push : (s : Numbers) (sent : List Packet) (packet : Packet)
     → sum_by (late_tries s) (sent ++ packet ∷ []) ≡ sum_by (late_tries s) sent + late_tries s packet
@@ -79,21 +84,22 @@ module _ {H F : Type 0} (s : Numbers) (number cone trace : ℕ) where
     counts = counts_none before;
   }
 
-  pub lane_same : (key : ℕ) (keys ring : List ℕ) (tried : ℕ) (before now : Sight H F) → cone_of s key ≡ cone
-      → Lane s number cone trace keys tried before now ring → Lane s number cone trace (keys ++ key ∷ []) tried before now (ring ++ key ∷ [])
+  pub lane_same : (key : ℕ) (keys : List ℕ) (ring : List Item) (tried : ℕ) (before now : Sight H F) → cone_of s key ≡ cone
+      → Lane s number cone trace keys tried before now ring → Lane s number cone trace (keys ++ key ∷ []) tried before now (ring ++ unit key ∷ [])
   lane_same key keys ring tried before now same lane = record {
     sent = lane.sent;
     calls_are = lane.calls_are;
     refused_are = lane.refused_are;
     each = lane.each;
     whole = lane.whole;
-    joined = sym (append_assoc (events_of lane.sent) ring (key ∷ [])) ∙ (ap (λ xs. xs ++ key ∷ []) lane.joined ∙ sym (part-push_same s cone key keys same));
+    joined = ap (λ xs. events_of lane.sent ++ xs) (map-append (λ (i : Item). i.key) ring (unit key ∷ []))
+        ∙ (sym (append_assoc (events_of lane.sent) (keys_in ring) (key ∷ [])) ∙ (ap (λ xs. xs ++ key ∷ []) lane.joined ∙ sym (part-push_same s cone key keys same)));
     waits = lane.waits;
     met = lane.met;
     counts = lane.counts;
   }
 
-  pub lane_other : (key : ℕ) (keys ring : List ℕ) (tried : ℕ) (before now : Sight H F) → cone_of s key ≢ cone
+  pub lane_other : (key : ℕ) (keys : List ℕ) (ring : List Item) (tried : ℕ) (before now : Sight H F) → cone_of s key ≢ cone
       → Lane s number cone trace keys tried before now ring → Lane s number cone trace (keys ++ key ∷ []) tried before now ring
   lane_other key keys ring tried before now other lane = record {
     sent = lane.sent;
@@ -108,7 +114,7 @@ module _ {H F : Type 0} (s : Numbers) (number cone trace : ℕ) where
   }
 
   -- the ring asked for nothing
-  pub lane_tried : (keys ring : List ℕ) (tried more : ℕ) (before now : Sight H F) → ((k : ℕ) → k * s.packet ≤ more → k * s.packet ≤ tried)
+  pub lane_tried : (keys : List ℕ) (ring : List Item) (tried more : ℕ) (before now : Sight H F) → ((k : ℕ) → k * s.packet ≤ more → k * s.packet ≤ tried)
       → Lane s number cone trace keys tried before now ring → Lane s number cone trace keys more before now ring
   lane_tried keys ring tried more before now still lane = record {
     sent = lane.sent;
@@ -122,7 +128,7 @@ module _ {H F : Type 0} (s : Numbers) (number cone trace : ℕ) where
     counts = lane.counts;
   }
 
-  module _ (some : 1 ≤ s.packet) (keys ring : List ℕ) (tried : ℕ) (before now : Sight H F)
+  module _ (some : 1 ≤ s.packet) (keys : List ℕ) (ring : List Item) (tried : ℕ) (before now : Sight H F)
       (lane : Lane s number cone trace keys tried before now ring) (last : length ring ≤ tried + 1) where
     -- the cone was held
     pub lane_stays : (after : Sight H F) → WasBusy now after → Lane s number cone trace keys (length ring) before after ring
@@ -144,7 +150,7 @@ module _ {H F : Type 0} (s : Numbers) (number cone trace : ℕ) where
 
     module _ (may : IsSendable s cone ring) where
       pub own_packet : IsOf s number trace (ringed number trace ring)
-      own_packet = record { some = may.some; few = may.few; by_is = refl; trace_is = refl }
+      own_packet = record { some = may.some; few = may.few; by_is = refl; trace_is = refl; weights = weigh_one s cone ring may.of_cone }
 
       pub joined_more : events_of (lane.sent ++ ringed number trace ring ∷ []) ≡ part_of s cone keys
       joined_more = events_push lane.sent (ringed number trace ring) ∙ lane.joined

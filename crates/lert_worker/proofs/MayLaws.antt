@@ -1,20 +1,20 @@
 -- Rings that may still go to the cones, after a step.
 use Rattle.std.proofs.Common.{◌≡◌, ℕ, ◌*◌, ◌^◌, ◌<◌, ◌≤◌, List, [], length, Some, slice_get, refl, ap, sym, ◌∙◌, subst, length-set}
+use Rattle.std.proofs.lemmas.List.Elements.{All-map}
 use Rattle.lert_base.specs.{declared.cone_fault.ConeFault.ConeFault, declared.entry.Entry.Entry, declared.held.Held.Ghosts as HeldOf, Keys.Keys, Packet.Packet}
 use Rattle.lert_buffers.specs.Rings.{Rings, ring_of, with_keys, with_ring}
 use Rattle.lert_conelock.specs.Sight.{LockSight}
 use Rattle.lert_fleet.specs.Cones.{ChangesOnly, FleetPassSight, FleetSight, IsPassOf}
-use Rattle.lert_journal.specs.Payload.{IsJournaled}
-use Rattle.lert_spec.specs.declared.numbers.Numbers.{Numbers}
-use Rattle.lert_worker.specs.{Outbox.{IsIdle, IsResting, IsSame, IsSameOutbox, IsSendable, MaySend}, Ran.{MayRun, Working}, Sending.packet_with, declared.outbox.Outbox.Outbox}
-use Rattle.lert_worker.proofs.TakeLaws.{ring_here}
+use Rattle.lert_spec.specs.{declared.item.Item.Item, declared.numbers.Numbers.Numbers, Mix.cone_of}
+use Rattle.lert_worker.specs.{Brings.MayBring, Outbox.{IsIdle, IsResting, IsSame, IsSameOutbox, IsSendable, MaySend}, Ran.{MayRun, Working}, Sending.packet_with, declared.outbox.Outbox.Outbox}
+use Rattle.lert_worker.proofs.{LaneLaws.weigh_one, TakeLaws.ring_here}
 
 -- as many rings, for packets of the same size
 pub record AreAlike (old new : Rings) : Type 0 where
   pub packet_is : new.packet ≡ old.packet
   pub as_many : length new.rings ≡ length old.rings
 
-pub alike_with : (old new : Rings) (cone : ℕ) (keys : List ℕ) → new ≡ with_ring old cone keys → AreAlike old new
+pub alike_with : (old new : Rings) (cone : ℕ) (keys : List Item) → new ≡ with_ring old cone keys → AreAlike old new
 alike_with old new cone keys is = record {
   packet_is = ap (λ (r : Rings). r.packet) is;
   as_many = ap (λ (r : Rings). length r.rings) is ∙ length-set old.rings cone keys;
@@ -28,27 +28,27 @@ pub record IsEmptied (old new : Entry) : Type 0 where
   pub by_is : new.by ≡ old.by
   pub trace_is : new.trace ≡ old.trace
   pub room_is : new.keys.room ≡ old.keys.room
-  pub empty : new.keys.keys ≡ []
+  pub empty : new.keys.items ≡ []
 
-pub emptied_same : (entry : Entry) → entry.keys.keys ≡ [] → IsEmptied entry entry
+pub emptied_same : (entry : Entry) → entry.keys.items ≡ [] → IsEmptied entry entry
 emptied_same entry empty = record { by_is = refl; trace_is = refl; room_is = refl; empty = empty }
 
 -- it got keys, and was cleared
-pub emptied_by : (old mid : Entry) (keys : List ℕ) (list : Keys) → mid ≡ with_keys old keys → list ≡ record mid.keys { keys = [] } → IsEmptied old (record mid { keys = list })
+pub emptied_by : (old mid : Entry) (keys : List Item) (list : Keys) → mid ≡ with_keys old keys → list ≡ record mid.keys { items = [] } → IsEmptied old (record mid { keys = list })
 emptied_by old mid keys list mid_is list_is = record {
   by_is = ap (λ (e : Entry). e.by) mid_is;
   trace_is = ap (λ (e : Entry). e.trace) mid_is;
   room_is = ap (λ (k : Keys). k.room) list_is ∙ ap (λ (e : Entry). e.keys.room) mid_is;
-  empty = ap (λ (k : Keys). k.keys) list_is;
+  empty = ap (λ (k : Keys). k.items) list_is;
 }
 
 -- or handed them on
-pub emptied_back : (old mid new : Entry) (keys : List ℕ) → mid ≡ with_keys old keys → new ≡ with_keys mid [] → IsEmptied old new
+pub emptied_back : (old mid new : Entry) (keys : List Item) → mid ≡ with_keys old keys → new ≡ with_keys mid [] → IsEmptied old new
 emptied_back old mid new keys mid_is new_is = record {
   by_is = ap (λ (e : Entry). e.by) new_is ∙ ap (λ (e : Entry). e.by) mid_is;
   trace_is = ap (λ (e : Entry). e.trace) new_is ∙ ap (λ (e : Entry). e.trace) mid_is;
   room_is = ap (λ (e : Entry). e.keys.room) new_is ∙ ap (λ (e : Entry). e.keys.room) mid_is;
-  empty = ap (λ (e : Entry). e.keys.keys) new_is;
+  empty = ap (λ (e : Entry). e.keys.items) new_is;
 }
 
 pub idle_on : (outbox : Outbox) (rings : Rings) (entry : Entry) → IsIdle outbox → AreAlike outbox.rings rings → IsEmptied outbox.entry entry
@@ -122,7 +122,7 @@ module _ {H T R F : Type 0} (held : HeldOf H T R F) (fleet : FleetSight H) (pass
     by_is = same.by_is ∙ may.by_is;
     by_most = subst (λ n. n ≤ 63) (sym same.by_is) may.by_most;
     cones = may.cones ∙ ap (λ (s : Numbers). 2 ^ s.cone_bits) (sym same.settings_is);
-    fits = λ cone lock found packet journaled. may.fits cone lock found packet (subst (λ (s : Numbers). IsJournaled s cone packet) same.settings_is journaled);
+    fits = λ cone lock found packet brought. may.fits cone lock found packet (subst (λ (s : Numbers). MayBring s cone packet) same.settings_is brought);
   }
 
   -- the packet of a ring fits its cone
@@ -134,7 +134,8 @@ module _ {H T R F : Type 0} (held : HeldOf H T R F) (fleet : FleetSight H) (pass
         few = keys.few;
         by_most = may.by_most;
         trace_most = may.idle.trace_most;
-        of_cone = keys.of_cone;
+        of_cone = All-map (λ key. cone_of outbox.settings key ≡ cone) (λ (i : Item). i.key) (ring_of outbox.rings cone) (λ place d within. (keys.of_cone place d within).0);
+        weights = weigh_one outbox.settings cone (ring_of outbox.rings cone) keys.of_cone;
       }))
 
 pub resting_named : (outbox : Outbox) (trace : ℕ) → trace ≤ 1023 → IsResting outbox → IsResting (record outbox { entry = record outbox.entry { trace = trace } })
@@ -159,10 +160,10 @@ module _ (rings taken : Rings) (cone : ℕ) (is : taken ≡ with_ring rings cone
   still_empty = ap (λ r. ring_of r cone) is ∙ ring_here rings cone [] within
 
 pub room_back : (outbox : Outbox) (taken : Rings) (entry : Entry) (cone : ℕ) → outbox.rings.packet ≡ outbox.settings.packet → taken ≡ with_ring outbox.rings cone []
-    → entry ≡ with_keys outbox.entry (ring_of outbox.rings cone) → IsSendable outbox.settings cone (ring_of outbox.rings cone) → length entry.keys.keys ≤ 4 * taken.packet
+    → entry ≡ with_keys outbox.entry (ring_of outbox.rings cone) → IsSendable outbox.settings cone (ring_of outbox.rings cone) → length entry.keys.items ≤ 4 * taken.packet
 room_back outbox taken entry cone packet_is taken_is entry_is keys =
-    subst (λ (r : Rings). length entry.keys.keys ≤ 4 * r.packet) (sym taken_is)
-    (subst (λ (e : Entry). length e.keys.keys ≤ 4 * outbox.rings.packet) (sym entry_is)
+    subst (λ (r : Rings). length entry.keys.items ≤ 4 * r.packet) (sym taken_is)
+    (subst (λ (e : Entry). length e.keys.items ≤ 4 * outbox.rings.packet) (sym entry_is)
     (subst (λ n. length (ring_of outbox.rings cone) ≤ 4 * n) (sym packet_is) keys.few))
 
 -- a worker that may run
@@ -174,5 +175,5 @@ may_send_of held fleet worker outbox may idle number settings = record {
   by_is = sym number ∙ sym may.lo_is;
   by_most = subst (λ n. n ≤ 63) number may.number_most;
   cones = may.cones ∙ ap (λ (s : Numbers). 2 ^ s.cone_bits) settings;
-  fits = λ cone lock found packet journaled. may.fits cone lock found packet (subst (λ (s : Numbers). IsJournaled s cone packet) (sym settings) journaled);
+  fits = λ cone lock found packet brought. may.fits cone lock found packet (subst (λ (s : Numbers). MayBring s cone packet) (sym settings) brought);
 }

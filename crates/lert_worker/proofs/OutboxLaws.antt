@@ -1,10 +1,11 @@
 -- What a call of the fleet tells of the cone that it names.
-use Rattle.std.proofs.{Common.{Result, Ok, Err, OnOk, IfErr, MatchResult, ◌≡◌, ◌+◌, ℕ, ◌<◌, List, [], length, set, ap, sym, ◌∙◌, subst}, lemmas.List.{set-set, set-get_or}}
+use Rattle.std.proofs.{Common.{Result, Ok, Err, OnOk, IfErr, MatchResult, ◌≡◌, ℕ, ◌<◌, List, [], length, set, ap, sym, ◌∙◌, subst}, lemmas.List.{set-set, set-get_or}}
 use Rattle.lert_base.specs.{declared.held.Held.Ghosts as HeldOf, Packet.Packet}
 use Rattle.lert_conelock.specs.Sight.{Sight, Keeps, Loses, Acted, Declined}
 use Rattle.lert_fleet.specs.Cones.{FleetSight, FleetPassSight, AtCone}
 use Rattle.lert_buffers.specs.{Rings.{Rings, ring_of, with_ring}, declared.buffers.Fill.Fill}
 use Rattle.lert_fleet.proofs.Places.{some_at}
+use Rattle.lert_spec.specs.declared.item.Item.{Item}
 use Rattle.lert_worker.specs.Sending.{AtOwn, IsBrought, WasBusy, WasTaken, WasTurned, waits_at}
 
 module _ {H T R F : Type 0} (held : HeldOf H T R F) (fleet : FleetSight H) (cone : ℕ) (within : cone < length fleet)
@@ -44,12 +45,12 @@ busy_at fleet cone within old new at kept = λ before after was found.
     }
 
 -- keys that came out of a ring, and back into it
-pub given_back : (rings taken after : Rings) (cone : ℕ) (keys : List ℕ)
+pub given_back : (rings taken after : Rings) (cone : ℕ) (keys : List Item)
     → taken ≡ with_ring rings cone [] → keys ≡ ring_of rings cone → after ≡ with_ring taken cone keys → after ≡ rings
 given_back rings taken after cone keys taken_is keys_are is =
     is
     ∙ (ap (λ r. with_ring r cone keys) taken_is
-    ∙ ap (λ (r : List (List ℕ)). record rings { rings = r })
+    ∙ ap (λ (r : List (List Item)). record rings { rings = r })
     (set-set rings.rings cone [] keys ∙ (ap (set rings.rings cone) keys_are ∙ set-get_or rings.rings cone [])))
 
 -- what comes of a ring that asks for this

@@ -5,7 +5,7 @@ use Rattle.lert_buffers.specs.Rings.{Rings, ring_of, with_ring}
 use Rattle.lert_conelock.specs.Sight.{Sight}
 use Rattle.lert_fleet.specs.Cones.{FleetPassSight, ChangesOnly}
 use Rattle.lert_fleet.proofs.Places.{some_at}
-use Rattle.lert_spec.specs.declared.numbers.Numbers.{Numbers}
+use Rattle.lert_spec.specs.{declared.item.Item.Item, declared.numbers.Numbers.Numbers}
 use Rattle.lert_base.specs.declared.cone_fault.ConeFault.{ConeFault}
 use Rattle.lert_worker.specs.{Outbox.{HasRoom, HaveRoom, IsSendable}, Sending.{AreSent, AtOwn, Goes, Lane, Lanes, SentIn, WasTurned}, declared.end.WorkerEnd.TheVariants.{Ran, Cone}}
 use Rattle.lert_worker.proofs.{LaneLaws.ringed, TakeLaws.{ring_else, room_none, room_with}, SentLaws.{lane_empty, lane_rest, lane_stopped, lane_turned, rested_stopped}}
@@ -17,7 +17,7 @@ nil_is (x ∷ xs) is = absurd (omega (arith, is))
 -- a ring without keys is as if it was emptied
 pub ring_empty : (rings : Rings) (cone : ℕ) → length (ring_of rings cone) ≡ 0 → rings ≡ with_ring rings cone []
 ring_empty rings cone none =
-    ap (λ (r : List (List ℕ)). record rings { rings = r })
+    ap (λ (r : List (List Item)). record rings { rings = r })
     (sym (ap (set rings.rings cone) (sym (nil_is (ring_of rings cone) none)) ∙ set-get_or rings.rings cone []))
 
 -- rings with room, one of which was emptied
@@ -45,7 +45,7 @@ lanes_rested s number trace at keys start now next rings after only is lanes = r
 }
 
 -- some keys of a ring with room may go
-pub may_go : (s : Numbers) (cone : ℕ) (ring : List ℕ) → HasRoom s cone ring → length ring ≢ 0 → IsSendable s cone ring
+pub may_go : (s : Numbers) (cone : ℕ) (ring : List Item) → HasRoom s cone ring → length ring ≢ 0 → IsSendable s cone ring
 may_go s cone ring room some = record { some = omega (arith, some); few = omega (arith, room.short); of_cone = room.of_cone }
 
 below_or : (a b : ℕ) → a ≢ b → (a < b) ⊎ (b < a)

@@ -66,7 +66,7 @@ module _ {H : Type 0} (s : Numbers) (number cone : ℕ) (traces : List ℕ) (rea
 
   module _ (end : WorkerEnd) (sent : SentIn s number cone trace keys end before after) where
     full_more : full_packets s (brought.added ++ sent.sent) ≡ full_packets s brought.added + full_packets s sent.sent
-    full_more = sum_by-append (λ (p : Packet). cond (eqb (length p.keys) (4 * s.packet)) 1 0) brought.added sent.sent
+    full_more = sum_by-append (λ (p : Packet). cond (eqb (length p.items) (4 * s.packet)) 1 0) brought.added sent.sent
 
     calls_more : after.calls ≡ old.calls ++ (brought.added ++ sent.sent)
     calls_more = sent.calls_are ∙ (ap (λ xs. xs ++ sent.sent) brought.calls_are ∙ append_assoc old.calls brought.added sent.sent)

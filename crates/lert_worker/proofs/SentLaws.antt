@@ -3,7 +3,7 @@ use Rattle.std.proofs.{Common.{◌≡◌, ◌≢◌, ℕ, ◌+◌, ◌<◌, ◌�
 use Rattle.std.specs.Prelude.{All, sum_by}
 use Rattle.lert_base.specs.{Beginning.BeginsWith, Packet.{Packet, events_of}, Weave.AreCut, declared.cone_fault.ConeFault.ConeFault}
 use Rattle.lert_conelock.specs.Sight.{Sight}
-use Rattle.lert_spec.specs.{declared.numbers.Numbers.Numbers, Mix.part_of}
+use Rattle.lert_spec.specs.{declared.item.Item.Item, declared.numbers.Numbers.Numbers, Items.keys_in, Mix.part_of}
 use Rattle.lert_worker.specs.{Brings.late_tries, Outbox.IsSendable, Ran.IsTurned, Sending.{IsOf, Lane, SentIn, WasTaken, WasTurned}, declared.end.WorkerEnd.WorkerEnd}
 use Rattle.lert_worker.specs.declared.end.WorkerEnd.TheVariants.{Ran, Cone}
 use Rattle.lert_worker.proofs.{Counts.counts_on, LaneLaws.{cut_push, cut_whole, full_push, joined_more, met_more, own_packet, ringed, with_none}}
@@ -28,7 +28,7 @@ module _ {H : Type 0} (s : Numbers) (number cone trace : ℕ) where
     counts = rested.counts;
   }
 
-  module _ (some : 1 ≤ s.packet) (keys ring : List ℕ) (tried : ℕ) (before now : Sight H ConeFault)
+  module _ (some : 1 ≤ s.packet) (keys : List ℕ) (ring : List Item) (tried : ℕ) (before now : Sight H ConeFault)
       (lane : Lane s number cone trace keys tried before now ring) where
     met_kept : before.met + sum_by (late_tries s) lane.sent ≤ now.met
     met_kept = let old = lane.met 0 (omega arith) in omega (arith, old)
@@ -43,7 +43,7 @@ module _ {H : Type 0} (s : Numbers) (number cone trace : ℕ) where
       turned_is = none;
       each = with_none (All (IsOf s number trace)) lane.sent lane.each;
       cut = with_none (AreCut s.packet) lane.sent (cut_whole s.packet lane.sent lane.whole);
-      part = with_none (λ packets. BeginsWith (part_of s cone keys) (events_of packets)) lane.sent (ring, lane.joined);
+      part = with_none (λ packets. BeginsWith (part_of s cone keys) (events_of packets)) lane.sent (keys_in ring, lane.joined);
       all = λ ran. absurd (other ran);
       no_rest = λ _. lane.whole;
       waits = omega (arith, lane.waits);
@@ -55,7 +55,7 @@ module _ {H : Type 0} (s : Numbers) (number cone trace : ℕ) where
     pub lane_empty : ring ≡ [] → SentIn s number cone trace keys Ran before now
     lane_empty none =
         let joined : events_of lane.sent ≡ part_of s cone keys =
-        sym (append-nil (events_of lane.sent)) ∙ (ap (λ xs. events_of lane.sent ++ xs) (sym none) ∙ lane.joined) in
+        sym (append-nil (events_of lane.sent)) ∙ (ap (λ xs. events_of lane.sent ++ keys_in xs) (sym none) ∙ lane.joined) in
         record {
           sent = lane.sent;
           turned = [];

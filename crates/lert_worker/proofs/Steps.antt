@@ -3,7 +3,7 @@ use Rattle.std.proofs.{Common.{◌≡◌, ◌≢◌, ℕ, ◌+◌, ◌^◌, ◌<
 use Rattle.lert_buffers.specs.Rings.{Rings, ring_of, with_ring}
 use Rattle.lert_conelock.specs.Sight.{Sight}
 use Rattle.lert_fleet.specs.Cones.{FleetPassSight}
-use Rattle.lert_spec.specs.declared.numbers.Numbers.{Numbers}
+use Rattle.lert_spec.specs.{declared.item.Item.Item, declared.numbers.Numbers.Numbers}
 use Rattle.lert_base.specs.declared.cone_fault.ConeFault.{ConeFault}
 use Rattle.lert_worker.specs.{Outbox.{AreDrained, HasRoom, HaveRoom, IsResting, IsSame, IsSameOutbox}, Ran.IsTurned, Sending.{AreSent, Lane, Lanes}, declared.end.WorkerEnd.WorkerEnd}
 use Rattle.lert_worker.specs.{declared.end.WorkerEnd.TheVariants.Ran, declared.outbox.Outbox.Outbox}
@@ -65,7 +65,7 @@ module _ {H : Type 0} (s : Numbers) (some : 1 ≤ s.packet) (number trace : ℕ)
         let none = drained cone (omega (arith, slice_get_within pass.cones cone before was, many)) in
         let same : before ≡ after = same_Some before after (sym was ∙ is) in
         subst (λ (x : Sight H ConeFault). Lane s number cone trace [] (length (ring_of rings cone)) before x (ring_of rings cone)) same
-        (subst (λ (r : List ℕ). Lane s number cone trace [] (length r) before before r) (sym none) (lane_start s number cone trace some before));
+        (subst (λ (r : List Item). Lane s number cone trace [] (length r) before before r) (sym none) (lane_start s number cone trace some before));
   }
 
   -- and stops with keys in them

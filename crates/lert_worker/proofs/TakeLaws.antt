@@ -7,14 +7,14 @@ use Rattle.lert_buffers.specs.{Rings.{Rings, fill_of, ring_of, with_ring}, decla
 use Rattle.lert_conelock.specs.Sight.{Sight}
 use Rattle.lert_fleet.specs.Cones.{FleetPassSight, ChangesOnly}
 use Rattle.lert_fleet.proofs.Places.{some_at}
-use Rattle.lert_spec.specs.{declared.numbers.Numbers.Numbers, Mix.cone_of}
-use Rattle.lert_worker.specs.{Outbox.{HasRoom, HaveRoom, IsSendable}, Sending.{AreSent, AtOwn, Goes, IsBrought, Lane, Lanes, SentIn, Stays, WasTaken, WasTurned, waits_at}}
+use Rattle.lert_spec.specs.{declared.item.Item.Item, declared.numbers.Numbers.Numbers, Items.unit, Mix.cone_of}
+use Rattle.lert_worker.specs.{Outbox.{HasRoom, HaveRoom, IsSendable, IsUnitOf}, Sending.{AreSent, AtOwn, Goes, IsBrought, Lane, Lanes, SentIn, Stays, WasTaken, WasTurned, waits_at}}
 use Rattle.lert_worker.specs.declared.end.WorkerEnd.TheVariants.{Cone}
 use Rattle.lert_worker.proofs.{Counts.{AreWhole, low_short, low_still, must_whole, one_of, ready_short, ready_whole}, LaneLaws.{lane_other, lane_same, lane_stays, lane_taken, lane_tried, ringed}}
 use Rattle.lert_worker.proofs.SentLaws.{lane_stopped, lane_turned}
 
 -- rings, one of which has other keys
-module _ (rings : Rings) (at : ℕ) (keys : List ℕ) where
+module _ (rings : Rings) (at : ℕ) (keys : List Item) where
   pub ring_here : at < length rings.rings → ring_of (with_ring rings at keys) at ≡ keys
   ring_here within = get_or-set_same rings.rings at keys [] within
 
@@ -22,7 +22,7 @@ module _ (rings : Rings) (at : ℕ) (keys : List ℕ) where
   ring_else cone other = get_or-set_other rings.rings at cone keys [] other
 
 -- rings with room, one of which has other keys
-pub room_with : (s : Numbers) (rings : Rings) (at : ℕ) (keys : List ℕ) → length rings.rings ≡ 2 ^ s.cone_bits → HaveRoom s rings → HasRoom s at keys
+pub room_with : (s : Numbers) (rings : Rings) (at : ℕ) (keys : List Item) → length rings.rings ≡ 2 ^ s.cone_bits → HaveRoom s rings → HasRoom s at keys
     → HaveRoom s (with_ring rings at keys)
 room_with s rings at keys number room here = λ cone named.
     elim (cases_eq cone at) [
@@ -33,7 +33,7 @@ room_with s rings at keys number room here = λ cone named.
     ]
 
 pub room_none : (s : Numbers) (cone : ℕ) → 1 ≤ s.packet → HasRoom s cone []
-room_none s cone some = record { short = omega (arith, some); of_cone = All-nil (λ key. cone_of s key ≡ cone) }
+room_none s cone some = record { short = omega (arith, some); of_cone = All-nil (IsUnitOf s cone) }
 
 pub waits_few : (fill : Fill) → waits_at fill ≤ 1
 waits_few Low = omega arith
@@ -41,23 +41,23 @@ waits_few Ready = omega arith
 waits_few MustGo = omega arith
 
 -- a ring that got keys and was emptied is empty, and the others are as they were
-pub room_emptied : (s : Numbers) (rings mid after : Rings) (at : ℕ) (keys : List ℕ) → 1 ≤ s.packet → length rings.rings ≡ 2 ^ s.cone_bits → HaveRoom s rings
+pub room_emptied : (s : Numbers) (rings mid after : Rings) (at : ℕ) (keys : List Item) → 1 ≤ s.packet → length rings.rings ≡ 2 ^ s.cone_bits → HaveRoom s rings
     → mid ≡ with_ring rings at keys → after ≡ with_ring mid at [] → HaveRoom s after
 room_emptied s rings mid after at keys some number room mid_is is =
     let all : after ≡ with_ring rings at [] =
-    is ∙ (ap (λ r. with_ring r at []) mid_is ∙ ap (λ (r : List (List ℕ)). record rings { rings = r }) (set-set rings.rings at keys [])) in
+    is ∙ (ap (λ r. with_ring r at []) mid_is ∙ ap (λ (r : List (List Item)). record rings { rings = r }) (set-set rings.rings at keys [])) in
     subst (HaveRoom s) (sym all) (room_with s rings at [] number room (room_none s at some))
 
 module _ (s : Numbers) (some : 1 ≤ s.packet) (rings : Rings) (key at : ℕ) (of_it : at ≡ cone_of s key) (within : at < length rings.rings)
     (room : HasRoom s at (ring_of rings at)) where
-  abbrev pub pushed : List ℕ
-  pushed = ring_of rings at ++ key ∷ []
+  abbrev pub pushed : List Item
+  pushed = ring_of rings at ++ unit key ∷ []
 
   length_pushed : length pushed ≡ length (ring_of rings at) + 1
-  length_pushed = length-append (ring_of rings at) (key ∷ [])
+  length_pushed = length-append (ring_of rings at) (unit key ∷ [])
 
-  of_cone_pushed : All (λ k. cone_of s k ≡ at) pushed
-  of_cone_pushed = All-push (λ k. cone_of s k ≡ at) (ring_of rings at) key room.of_cone (sym of_it)
+  of_cone_pushed : All (IsUnitOf s at) pushed
+  of_cone_pushed = All-push (IsUnitOf s at) (ring_of rings at) (unit key) room.of_cone (sym of_it, refl)
 
   -- the ring may go
   pub may_send : IsSendable s at (ring_of (with_ring rings at pushed) at)
@@ -93,7 +93,7 @@ module _ (s : Numbers) (some : 1 ≤ s.packet) (rings : Rings) (key at : ℕ) (o
   room_brought MustGo mid after packet pass next number all mid_is is brought = room_emptied s rings mid after at pushed some number all mid_is brought.rings_are
 
   whole_ring : (number trace : ℕ) → AreWhole s.packet (length (ring_of rings at) + 1) → IsWhole s.packet (ringed number trace pushed)
-  whole_ring number trace whole = record { times = whole.times; least = whole.least; most = whole.most; keys_are = length_pushed ∙ whole.is }
+  whole_ring number trace whole = record { times = whole.times; least = whole.least; most = whole.most; items_are = length_pushed ∙ whole.is }
 
   module _ {H F : Type 0} (number trace : ℕ) (keys : List ℕ) (start pass : FleetPassSight H F) (lanes : Lanes s number trace 0 keys start pass rings) where
     -- the ring of the key, before it may go
@@ -104,7 +104,7 @@ module _ (s : Numbers) (some : 1 ≤ s.packet) (rings : Rings) (key at : ℕ) (o
         (lanes.each at before now (omega arith) was is)
 
     -- a step that changes this cone alone
-    step : (next : FleetPassSight H F) (after : Rings) (ring : List ℕ) → ChangesOnly at pass next → ring_of after at ≡ ring
+    step : (next : FleetPassSight H F) (after : Rings) (ring : List Item) → ChangesOnly at pass next → ring_of after at ≡ ring
         → ((cone : ℕ) → cone ≢ at → ring_of after cone ≡ ring_of rings cone)
         → ((before now then : Sight H F) → slice_get start.cones at ≡ Some before → slice_get pass.cones at ≡ Some now → slice_get next.cones at ≡ Some then
         → Lane s number at trace (keys ++ key ∷ []) (length ring) before then ring)

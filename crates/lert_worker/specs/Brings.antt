@@ -1,14 +1,26 @@
 -- What a worker brings to a cone: packets of its traces, one trace after the other.
 use Rattle.std.specs.{Prelude.{◌≡◌, ℕ, ◌+◌, ◌-◌, ◌*◌, ◌/◌, ◌==◌, ◌≤◌, List, length, map, count_by, All, Contains, Some, slice_get}, List.Sorted.IsNonDecreasing}
-use Rattle.lert_base.specs.{Beginning.BeginsWith, Packet.{Packet, events_of, of_trace}, Weave.{AreCut, IsWhole}}
-use Rattle.lert_spec.specs.{declared.numbers.Numbers.Numbers, Mix.part_of}
+use Rattle.lert_base.specs.{Beginning.BeginsWith, Packet.{Packet, events_of, keys_of, of_trace}, Weave.{AreCut, IsWhole}}
+use Rattle.lert_spec.specs.{declared.numbers.Numbers.Numbers, Items.AreOfVersion, Mix.{cone_of, part_of}}
 
--- a packet has some keys, at most four times as many as the settings name, of one of the worker's traces, under its number
+-- a packet that a worker may bring to a cone: some keys of this cone, at most four times as many as the settings name, each
+-- of which weighs 1
+pub record MayBring (s : Numbers) (cone : ℕ) (packet : Packet) : Type 0 where
+  pub some : 1 ≤ length packet.items
+  pub few : length packet.items ≤ 4 * s.packet
+  pub by_most : packet.by ≤ 63
+  pub trace_most : packet.trace ≤ 1023
+  pub of_cone : All (λ key. cone_of s key ≡ cone) (keys_of packet)
+  pub weights : AreOfVersion 1 packet.items
+
+-- a packet has some keys, at most four times as many as the settings name, each of which weighs 1, of one of the worker's
+-- traces, under its number
 pub record IsOwn (s : Numbers) (number : ℕ) (traces : List ℕ) (packet : Packet) : Type 0 where
-  pub some : 1 ≤ length packet.keys
-  pub few : length packet.keys ≤ 4 * s.packet
+  pub some : 1 ≤ length packet.items
+  pub few : length packet.items ≤ 4 * s.packet
   pub by_is : packet.by ≡ number
   pub of_one : Contains traces packet.trace
+  pub weights : AreOfVersion 1 packet.items
 
 -- Packets of a worker to a cone, trace after trace: those of a trace join to the cone's part of the keys that were read of
 -- it, and each of them but the last is whole. The traces are given by their numbers, and beside them by what was read.
@@ -33,8 +45,8 @@ HasNoRest s trace packets = All (IsWhole s.packet) (of_trace packets trace)
 
 -- how many packets have as many keys as a ring holds
 abbrev pub full_packets : Numbers → List Packet → ℕ
-full_packets s packets = count_by (λ packet. length packet.keys == 4 * s.packet) packets
+full_packets s packets = count_by (λ packet. length packet.items == 4 * s.packet) packets
 
 -- how many tries a packet was late for: it might have gone with each whole packet of keys before its last
 abbrev pub late_tries : Numbers → Packet → ℕ
-late_tries s packet = (length packet.keys + s.packet - 1) / s.packet - 1
+late_tries s packet = (length packet.items + s.packet - 1) / s.packet - 1

@@ -4,16 +4,15 @@ use Rattle.lert_base.specs.{declared.held.Held.Ghosts as HeldOf, Packet.Packet}
 use Rattle.lert_buffers.specs.Rings.{Rings, ring_of}
 use Rattle.lert_conelock.specs.Sight.{LockSight}
 use Rattle.lert_fleet.specs.Cones.{FleetSight, FleetPassSight, IsPassOf}
-use Rattle.lert_journal.specs.Payload.{IsJournaled}
-use Rattle.lert_spec.specs.{declared.numbers.Numbers.Numbers, Limits.IsValid, Mix.cone_of}
-use Rattle.lert_worker.specs.declared.outbox.Outbox.{Outbox}
+use Rattle.lert_spec.specs.{declared.item.Item.Item, declared.numbers.Numbers.Numbers, Limits.IsValid, Mix.cone_of}
+use Rattle.lert_worker.specs.{Brings.MayBring, declared.outbox.Outbox.Outbox}
 
 -- there is a ring for each cone of the settings, and the entry has no keys, and room for those of a ring
 pub record IsIdle (outbox : Outbox) : Type 0 where
   pub valid : IsValid outbox.settings
   pub packet_is : outbox.rings.packet ≡ outbox.settings.packet
   pub rings_are : length outbox.rings.rings ≡ 2 ^ outbox.settings.cone_bits
-  pub empty : outbox.entry.keys.keys ≡ []
+  pub empty : outbox.entry.keys.items ≡ []
   pub room : outbox.entry.keys.room ≡ 4 * outbox.settings.packet
   pub trace_most : outbox.entry.trace ≤ 1023
 
@@ -26,19 +25,23 @@ pub record IsResting (outbox : Outbox) : Type 0 where
   pub idle : IsIdle outbox
   pub drained : AreDrained (2 ^ outbox.settings.cone_bits) outbox.rings
 
+-- an item is of a cone, and weighs 1: a trace gives keys without weights
+abbrev pub IsUnitOf : Numbers → ℕ → Item → Type 0
+IsUnitOf s cone item = (cone_of s item.key ≡ cone) × (item.weight ≡ 1)
+
 -- each ring has keys of its cone alone, and room for one more
-pub record HasRoom (s : Numbers) (cone : ℕ) (ring : List ℕ) : Type 0 where
+pub record HasRoom (s : Numbers) (cone : ℕ) (ring : List Item) : Type 0 where
   pub short : length ring < 4 * s.packet
-  pub of_cone : All (λ key. cone_of s key ≡ cone) ring
+  pub of_cone : All (IsUnitOf s cone) ring
 
 abbrev pub HaveRoom : Numbers → Rings → Type 0
 HaveRoom s rings = (cone : ℕ) → cone < 2 ^ s.cone_bits → HasRoom s cone (ring_of rings cone)
 
 -- the keys of a ring may go to its cone as a packet
-pub record IsSendable (s : Numbers) (cone : ℕ) (ring : List ℕ) : Type 0 where
+pub record IsSendable (s : Numbers) (cone : ℕ) (ring : List Item) : Type 0 where
   pub some : 1 ≤ length ring
   pub few : length ring ≤ 4 * s.packet
-  pub of_cone : All (λ key. cone_of s key ≡ cone) ring
+  pub of_cone : All (IsUnitOf s cone) ring
 
 -- a step leaves the settings, and what its packets come under
 pub record IsSameOutbox (old new : Outbox) : Type 0 where
@@ -51,7 +54,7 @@ pub record IsSame {H F : Type 0} (old new : Outbox) (before after : FleetPassSig
   pub outbox : IsSameOutbox old new
   pub hi_is : after.hi ≡ before.hi
 
--- the rings may go to the cones of a fleet, through a pass: each packet that a cone's journal may hold fits that cone's state
+-- the rings may go to the cones of a fleet, through a pass: each packet that a worker may bring to a cone fits its state
 pub record MaySend {H T R F : Type 0} (held : HeldOf H T R F) (fleet : FleetSight H) (pass : FleetPassSight H F) (outbox : Outbox) : Type 0 where
   pub idle : IsIdle outbox
   pub belongs : IsPassOf pass fleet
@@ -59,4 +62,4 @@ pub record MaySend {H T R F : Type 0} (held : HeldOf H T R F) (fleet : FleetSigh
   pub by_most : outbox.entry.by ≤ 63
   pub cones : length fleet ≡ 2 ^ outbox.settings.cone_bits
   pub fits : (cone : ℕ) (lock : LockSight H) → slice_get fleet cone ≡ Some lock
-      → (packet : Packet) → IsJournaled outbox.settings cone packet → held.fits (held.terms lock.first) packet
+      → (packet : Packet) → MayBring outbox.settings cone packet → held.fits (held.terms lock.first) packet

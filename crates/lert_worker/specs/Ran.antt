@@ -3,10 +3,9 @@ use Rattle.std.specs.{Prelude.{◌≡◌, ◌≢◌, ℕ, ◌+◌, ◌^◌, ◌<
 use Rattle.lert_base.specs.{declared.held.Held.Ghosts as HeldOf, Packet.Packet, declared.cone_fault.ConeFault.ConeFault}
 use Rattle.lert_conelock.specs.Sight.{Sight, LockSight, Counts}
 use Rattle.lert_fleet.specs.{Cones.{FleetSight, FleetPassSight, IsPassOf}, Each.EachThree}
-use Rattle.lert_journal.specs.Payload.{IsJournaled}
 use Rattle.lert_spec.specs.declared.numbers.Numbers.{Numbers}
 use Rattle.lert_trace.specs.Reader.{Reading}
-use Rattle.lert_worker.specs.{Brings.{Brings, BringsPart, HasNoRest, full_packets, late_tries}, Ends.{Stopped, WasRead}, declared.end.WorkerEnd.WorkerEnd}
+use Rattle.lert_worker.specs.{Brings.{Brings, BringsPart, HasNoRest, MayBring, full_packets, late_tries}, Ends.{Stopped, WasRead}, declared.end.WorkerEnd.WorkerEnd}
 use Rattle.lert_worker.specs.declared.end.WorkerEnd.TheVariants.{Ran, Trace, Cone}
 
 -- A worker over readers and a pass of any kind: its number, its settings, the numbers of its traces and their readers, its
@@ -36,7 +35,7 @@ pub record IsGivenBack {T P : Type 0} (trace : ℕ) (reader : T) (old new : Work
   pub others_are : new ≡ record old { traces = new.traces; readers = new.readers }
 
 -- a worker may run over a fleet: its pass is one of the fleet with its number alone, there is a cone for each of its settings,
--- and each packet that a cone's journal may hold fits that cone's state
+-- and each packet that it may bring to a cone fits that cone's state
 pub record MayRun {S H T R : Type 0} (held : HeldOf H T R ConeFault) (fleet : FleetSight H) (worker : Working S H) : Type 0 where
   pub belongs : IsPassOf worker.pass fleet
   pub lo_is : worker.pass.lo ≡ worker.number
@@ -44,7 +43,7 @@ pub record MayRun {S H T R : Type 0} (held : HeldOf H T R ConeFault) (fleet : Fl
   pub number_most : worker.number ≤ 63
   pub cones : length fleet ≡ 2 ^ worker.settings.cone_bits
   pub fits : (cone : ℕ) (lock : LockSight H) → slice_get fleet cone ≡ Some lock
-      → (packet : Packet) → IsJournaled worker.settings cone packet → held.fits (held.terms lock.first) packet
+      → (packet : Packet) → MayBring worker.settings cone packet → held.fits (held.terms lock.first) packet
 
 -- In each cone a worker waited at most once for each packet of a whole ring, once for each of its traces, and once more; and
 -- each packet that might have gone earlier lost that many takes. Each lost take was one that another caller had

@@ -4,12 +4,12 @@ use Rattle.lert_base.specs.{Beginning.BeginsWith, Packet.{Packet, events_of}, We
 use Rattle.lert_buffers.specs.{Rings.{Rings, ring_of, with_ring}, declared.buffers.Fill.Fill, declared.buffers.Fill.TheVariants.{Low, MustGo, Ready}}
 use Rattle.lert_conelock.specs.Sight.{Sight, Counts, Loses}
 use Rattle.lert_fleet.specs.Cones.{FleetPassSight}
-use Rattle.lert_spec.specs.{declared.numbers.Numbers.Numbers, Mix.part_of}
+use Rattle.lert_spec.specs.{declared.item.Item.Item, declared.numbers.Numbers.Numbers, Items.{AreOfVersion, keys_in}, Mix.part_of}
 use Rattle.lert_worker.specs.{Brings.{full_packets, late_tries}, Ran.{IsTurned, StillOpen}, declared.end.WorkerEnd.WorkerEnd, declared.end.WorkerEnd.TheVariants.Ran, declared.outbox.Outbox.Outbox}
 
--- the packet of some keys of an outbox
-abbrev pub packet_with : Outbox → List ℕ → Packet
-packet_with outbox keys = record { by = outbox.entry.by; trace = outbox.entry.trace; keys = keys }
+-- the packet of some items of an outbox
+abbrev pub packet_with : Outbox → List Item → Packet
+packet_with outbox items = record { by = outbox.entry.by; trace = outbox.entry.trace; items = items }
 
 module _ {H F : Type 0} where
   -- the cone took the packet, for which the caller waited so often
@@ -59,22 +59,23 @@ IsBrought Low packet cone rings left old new = (left ≡ rings) × (new ≡ old)
 IsBrought Ready packet cone rings left old new = Goes packet 0 cone rings left old new ⊎ Stays cone rings left old new
 IsBrought MustGo packet cone rings left old new = Goes packet 1 cone rings left old new
 
--- a packet of one trace, which may go to a cone
+-- a packet of one trace, which may go to a cone: each of its items weighs 1
 pub record IsOf (s : Numbers) (number trace : ℕ) (packet : Packet) : Type 0 where
-  pub some : 1 ≤ length packet.keys
-  pub few : length packet.keys ≤ 4 * s.packet
+  pub some : 1 ≤ length packet.items
+  pub few : length packet.items ≤ 4 * s.packet
   pub by_is : packet.by ≡ number
   pub trace_is : packet.trace ≡ trace
+  pub weights : AreOfVersion 1 packet.items
 
 -- A cone while a trace is read: the packets of the trace so far, which are whole, and behind them the keys of its ring, are the
 -- cone's part of the keys that were read. There was a take at each whole packet of the first so many keys in the ring
-pub record Lane {H F : Type 0} (s : Numbers) (number cone trace : ℕ) (keys : List ℕ) (tried : ℕ) (before now : Sight H F) (ring : List ℕ) : Type 0 where
+pub record Lane {H F : Type 0} (s : Numbers) (number cone trace : ℕ) (keys : List ℕ) (tried : ℕ) (before now : Sight H F) (ring : List Item) : Type 0 where
   pub sent : List Packet
   pub calls_are : now.calls ≡ before.calls ++ sent
   pub refused_are : now.refused ≡ before.refused
   pub each : All (IsOf s number trace) sent
   pub whole : All (IsWhole s.packet) sent
-  pub joined : events_of sent ++ ring ≡ part_of s cone keys
+  pub joined : events_of sent ++ keys_in ring ≡ part_of s cone keys
   pub waits : now.waits ≤ before.waits + full_packets s sent
   pub met : (k : ℕ) → k * s.packet ≤ tried → before.met + sum_by (late_tries s) sent + k ≤ now.met
   pub counts : Counts before now

@@ -16,7 +16,7 @@ use lert_mixer::cone_of;
 use lert_trace::TraceReader;
 use std::sync::Wait;
 
-// Puts a key into the ring of its cone, and brings the ring there where it is time. A refusal is the cone's.
+// Puts a key into the ring of its cone with the weight 1, and brings the ring there where it is time. A refusal is the cone's.
 fn take_key<H: Held<Refusal = ConeFault>, R: Wait>(
     rt: &R,
     fleet: &Fleet<H>,
@@ -39,7 +39,7 @@ fn take_key<H: Held<Refusal = ConeFault>, R: Wait>(
     ensures by_cone { IfErr result (IsByCone (2 ^ outbox.old.settings.cone_bits)) }
 {
     let cone = cone_of(&outbox.settings, key);
-    let fill = outbox.rings.push(cone, key);
+    let fill = outbox.rings.push(cone, key, 1);
     match outbox.bring(rt, fleet, pass, cone, fill) {
         Ok(()) => Ok(()),
         Err(fault) => Err(WorkerEnd::Cone { cone, fault }),

@@ -1,6 +1,6 @@
 use Rattle.std.proofs.Common.{◌+◌, ◌*◌, ◌<◌, ◌^◌, ◌++◌, ◌∷◌, [], length, refl, ap, sym, ◌∙◌, subst, arith}
 use Rattle.lert_buffers.specs.Rings.{Rings, fill_of, ring_of}
-use Rattle.lert_spec.specs.declared.numbers.Numbers.{Numbers}
+use Rattle.lert_spec.specs.{declared.numbers.Numbers.Numbers, Items.unit}
 use Rattle.lert_worker.specs.{Outbox.{HaveRoom, IsSendable}, Sending.waits_at}
 use Rattle.lert_worker.proofs.{TakeLaws.{may_send, room_brought, room_emptied, took, took_refused, waits_few}, MayLaws.{alike_with, may_with}}
 use Rattle.lert_worker.proofs.sending.take_key.Goals as goal
@@ -13,7 +13,7 @@ returns-in-Ok-clause-room g c =
     let within : at < length outbox.rings.rings = omega (arith, c.cone_of-cone.ensures.below, idle.rings_are) in
     subst (λ (s : Numbers). HaveRoom s c.bring.new.self.rings) (sym c.bring.ensures.same.outbox.settings_is)
     (room_brought outbox.settings idle.valid.limits.packet_from outbox.rings c.args.key at c.cone_of-cone.ensures.value within (c.requires.room at c.cone_of-cone.ensures.below)
-    c.push-fill.result c.push-fill.new.self c.bring.new.self.rings (record { by = outbox.entry.by; trace = outbox.entry.trace; keys = ring_of c.push-fill.new.self at })
+    c.push-fill.result c.push-fill.new.self c.bring.new.self.rings (record { by = outbox.entry.by; trace = outbox.entry.trace; items = ring_of c.push-fill.new.self at })
     c.args.pass.now c.bring.new.pass idle.rings_are c.requires.room c.push-fill.ensures.rings
     (c.push-fill.ensures.fill ∙ ap (λ p. fill_of p (length (ring_of outbox.rings at) + 1)) idle.packet_is) c.in-Ok.ensures.brought)
 
@@ -33,7 +33,7 @@ returns-in-Err-clause-room g c =
     let idle = c.requires.may.idle in
     let at = c.cone_of-cone.result in
     subst (λ (s : Numbers). HaveRoom s c.bring.new.self.rings) (sym c.bring.ensures.same.outbox.settings_is)
-    (room_emptied outbox.settings outbox.rings c.push-fill.new.self c.bring.new.self.rings at (ring_of outbox.rings at ++ c.args.key ∷ []) idle.valid.limits.packet_from
+    (room_emptied outbox.settings outbox.rings c.push-fill.new.self c.bring.new.self.rings at (ring_of outbox.rings at ++ unit c.args.key ∷ []) idle.valid.limits.packet_from
     idle.rings_are c.requires.room c.push-fill.ensures.rings c.in-Err.ensures.dropped)
 
 pub returns-in-Err-clause-refused : goal.returns-in-Err-clause-refused
@@ -59,7 +59,7 @@ bring-requires-clause-may g c =
     let outbox = c.args.outbox.now in
     let at = c.cone_of-cone.result in
     may_with g.H.Held c.args.fleet.now c.args.pass.now outbox c.push-fill.new.self c.requires.may
-    (alike_with outbox.rings c.push-fill.new.self at (ring_of outbox.rings at ++ c.args.key ∷ []) c.push-fill.ensures.rings)
+    (alike_with outbox.rings c.push-fill.new.self at (ring_of outbox.rings at ++ unit c.args.key ∷ []) c.push-fill.ensures.rings)
 
 pub bring-requires-clause-cone : goal.bring-requires-clause-cone
 bring-requires-clause-cone g c = c.cone_of-cone.ensures.below

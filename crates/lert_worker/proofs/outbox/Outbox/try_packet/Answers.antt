@@ -58,7 +58,7 @@ returns-clause-may g c =
       | in-Busy w ↦ rw w.self-is
           (on w.give_back.new.self w.give_back.new.entry c.requires.may c.try_admit.ensures.belongs c.try_admit.ensures.others
           (alike_same outbox.rings w.give_back.new.self
-          (given_back outbox.rings c.take.new.self w.give_back.new.self c.args.cone mid.keys.keys c.take.ensures.rings (ap (λ (e : Entry). e.keys.keys) c.take.ensures.entry)
+          (given_back outbox.rings c.take.new.self w.give_back.new.self c.args.cone mid.keys.items c.take.ensures.rings (ap (λ (e : Entry). e.keys.items) c.take.ensures.entry)
           w.give_back.ensures.rings))
           (emptied_back outbox.entry mid w.give_back.new.entry (ring_of outbox.rings c.args.cone) c.take.ensures.entry w.give_back.ensures.entry))
     ]
@@ -101,8 +101,8 @@ returns-clause-done g c =
       }))
       | in-Refused w ↦ rw w.result-is tt
       | in-Busy w ↦ rw (w.result-is, w.self-is) (inr (record {
-        rings_are = given_back c.args.self.now.rings c.take.new.self w.give_back.new.self c.args.cone c.take.new.entry.keys.keys c.take.ensures.rings
-            (ap (λ (e : Entry). e.keys.keys) c.take.ensures.entry) w.give_back.ensures.rings;
+        rings_are = given_back c.args.self.now.rings c.take.new.self w.give_back.new.self c.args.cone c.take.new.entry.keys.items c.take.ensures.rings
+            (ap (λ (e : Entry). e.keys.items) c.take.ensures.entry) w.give_back.ensures.rings;
         at = busy_at c.args.fleet.now c.args.cone within c.args.pass.now c.try_admit.new.pass (c.try_admit.ensures.busy w.in-Busy.is) c.try_admit.ensures.kept;
       }))
     ]
