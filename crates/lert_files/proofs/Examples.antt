@@ -33,11 +33,11 @@ no_gate = inr (record { whole = refl; own = refl; short = omega arith }, refl)
 own : IsHeaded alone 0 journal
 own = record { headed = refl; gate = omega arith }
 
-other_threshold : HasOther four 0 journal (record { cone = 0; numbers = alone })
+other_threshold : HasOther four 0 journal (record { cone = 0; version = written; numbers = alone })
 other_threshold = record { whole = refl; kept_is = refl; other = λ same. omega (arith, ap (λ (kept : Kept). kept.numbers.threshold) same) }
 
 -- also where nothing stands behind its header
-other_alone : HasOther four 0 (take 32 journal) (record { cone = 0; numbers = alone })
+other_alone : HasOther four 0 (take 32 journal) (record { cone = 0; version = written; numbers = alone })
 other_alone = record { whole = refl; kept_is = refl; other = λ same. omega (arith, ap (λ (kept : Kept). kept.numbers.threshold) same) }
 
 -- a log without a record says that the journal is to be read from its header on

@@ -2,7 +2,7 @@
 use Rattle.std.proofs.{Common.{◌≡◌, ℕ, suc, List, [], ◌∷◌, length, Option, Some, None, Ok, Err, slice_get, refl, ap, sym, ◌∙◌, subst, arith}, lemmas.List.length-map}
 use Rattle.std.proofs.lemmas.Option.{same_Some, slice_get_within}
 use Rattle.std.specs.Prelude.{IfErr, OnOk}
-use Rattle.lert_base.specs.{declared.held.Held.{Ghosts as HeldOf}, Packet.own, declared.cone_fault.ConeFault.ConeFault}
+use Rattle.lert_base.specs.{declared.held.Held.{Ghosts as HeldOf}, declared.cone_fault.ConeFault.ConeFault}
 use Rattle.lert_bay.specs.Files.{Files}
 use Rattle.lert_cone.specs.Stands.{Standing}
 use Rattle.lert_conelock.specs.Sight.{LockSight}

@@ -2,6 +2,7 @@
 use Rattle.std.proofs.Common.{◌≡◌, ◌≢◌, ℕ, ◌+◌, ◌<◌, ◌≤◌, zero, suc, Bool, cond, List, [], ◌∷◌, ◌++◌, length, Some, slice_get, refl, ap, sym, ◌∙◌, subst, inl, inr, arith, length-append}
 use Rattle.std.proofs.{lemmas.Bool.{cases_eq, eq-eqb, ne_eqb}, lemmas.List.Elements.{All-head, All-tail}, lemmas.List.Sums.sum_by-cons}
 use Rattle.std.specs.Prelude.{All, sum_by}
+use Rattle.lert_base.specs.Packet.{keys_of}
 use Rattle.lert_base.specs.{Packet.{Packet, events_of, of_trace}, Weave.{IsBrought, IsPartWoven, IsWoven}}
 use Rattle.lert_spec.specs.{declared.numbers.Numbers.Numbers, Mix.part_of}
 use Rattle.lert_ingest.specs.Traces.{part_length}
@@ -13,10 +14,10 @@ spread history from (suc count) = length (events_of (of_trace history from)) + s
 
 -- a packet in front
 here_same : (e : Packet) (history : List Packet) (trace : ℕ) → e.trace ≡ trace →
-    length (events_of (of_trace (e ∷ history) trace)) ≡ length e.keys + length (events_of (of_trace history trace))
+    length (events_of (of_trace (e ∷ history) trace)) ≡ length (keys_of e) + length (events_of (of_trace history trace))
 here_same e history trace same =
     ap (λ (b : Bool). length (events_of (cond b (e ∷ of_trace history trace) (of_trace history trace)))) (eq-eqb e.trace trace same)
-    ∙ length-append e.keys (events_of (of_trace history trace))
+    ∙ length-append (keys_of e) (events_of (of_trace history trace))
 
 here_other : (e : Packet) (history : List Packet) (trace : ℕ) → e.trace ≢ trace → length (events_of (of_trace (e ∷ history) trace)) ≡ length (events_of (of_trace history trace))
 here_other e history trace other =
@@ -29,7 +30,7 @@ spread_below e history from (suc count) below =
     let rest = spread_below e history (suc from) count (omega (arith, below)) in
     omega (arith, here, rest)
 
-spread_in : (e : Packet) (history : List Packet) (from count : ℕ) → from ≤ e.trace → e.trace < from + count → spread (e ∷ history) from count ≡ length e.keys + spread history
+spread_in : (e : Packet) (history : List Packet) (from count : ℕ) → from ≤ e.trace → e.trace < from + count → spread (e ∷ history) from count ≡ length (keys_of e) + spread history
     from count
 spread_in e history from zero low high = absurd (omega (arith, low, high))
 spread_in e history from (suc count) low high =
@@ -55,7 +56,7 @@ all_spread [] count below = sym (spread_none 0 count)
 all_spread (e ∷ history) count below =
     let here = spread_in e history 0 count (omega arith) (let head = All-head (λ p. p.trace < count) e history below in omega (arith, head)) in
     let rest = all_spread history count (All-tail (λ p. p.trace < count) e history below) in
-    let parts = length-append e.keys (events_of history) in
+    let parts = length-append (keys_of e) (events_of history) in
     omega (arith, here, rest, parts)
 
 -- as each trace has at most, or at least, so many

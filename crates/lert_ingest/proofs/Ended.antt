@@ -84,7 +84,7 @@ module _ {B R : Type 0} (files : B → Option Files) (leaves : B → Files → T
             past = rule.0;
             begins = rule.1;
             fault_is = why.0;
-            over = subst (λ (t : Terms B). capacity t.settings < length (events_of rule.0) + length e.keys) terms why.1;
+            over = subst (λ (t : Terms B). capacity t.settings < length (events_of rule.0) + length (keys_of e)) terms why.1;
           })
 
   pub is_back : IsLater files faults mark first.bay closed.bay → (is_broken closed.state ≡ false → closed.listing.closed ≡ is_finished closed.state) →

@@ -11,7 +11,7 @@ use Rattle.lert_fleet.proofs.Places.{some_at}
 use Rattle.lert_fleet.specs.Cones.{ClosesEach, FleetPassSight, FleetSight}
 use Rattle.lert_journal.specs.Payload.{IsJournaled}
 use Rattle.lert_spec.specs.declared.numbers.Numbers.{Numbers}
-use Rattle.lert_worker.specs.Ran.{MayRun, Working}
+use Rattle.lert_worker.specs.{Brings.MayBring, Ran.{MayRun, Working}}
 use Rattle.lert_ingest.specs.{Back.AreSeen, Cones.AreNew, Crew.{AllQuiet, Brought, EachShows, IsPassFrom, IsQuiet, Shows, Turned}, Crews.fresh_reader}
 use Rattle.lert_ingest.specs.{Faults.{earlier, earliest, end_fault, end_of, fault_at}, Ingest.{AreReady, HasCrewRun, HasIngested, answer_of, firsts_of}, Sharing.{AreManned, WereTaken}}
 use Rattle.lert_ingest.specs.declared.status.Status.{Status}
@@ -74,10 +74,21 @@ module _ {S B R : Type 0} (remaining : S → Option (List ℕ)) (s_faults s_mark
         hi_is = (let h = one.pass_is.hi_is in let n = one.number_is in omega (arith, h, n));
         number_most = (let n = one.number_is in omega (arith, n, below, size, most));
         cones = cones_are ∙ ap (λ (t : Numbers). 2 ^ t.cone_bits) (sym one.settings_is);
-        fits = λ cone lock lock_is packet journaled. fits (held.terms lock.first) packet
-            (fit cone lock lock_is packet (subst (λ (t : Numbers). IsJournaled written t cone packet) one.settings_is journaled));
+        fits = λ cone lock lock_is packet may. fits (held.terms lock.first) packet
+            (fit cone lock lock_is packet (subst (λ (t : Numbers). IsJournaled written t cone packet) one.settings_is (journaled_of _ cone packet may)));
       }
     where
+      -- what a worker may bring may stand in the journal
+      journaled_of : (t : Numbers) (cone : ℕ) (packet : Packet) → MayBring t cone packet → IsJournaled written t cone packet
+      journaled_of t cone packet may = record {
+        some = may.some;
+        few = may.few;
+        by_most = may.by_most;
+        trace_most = may.trace_most;
+        of_cone = may.of_cone;
+        weighed = may.weights;
+      }
+
       fit : (cone : ℕ) (lock : LockSight (Standing B)) → slice_get fleet cone ≡ Some lock → (packet : Packet) → IsJournaled written s cone packet →
           IsJournaled written (held.terms lock.first).settings (held.terms lock.first).cone packet
       fit cone lock lock_is packet journaled =

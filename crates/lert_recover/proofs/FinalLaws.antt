@@ -2,6 +2,7 @@
 -- is right of an answer is right the other way round.
 use Rattle.std.proofs.{Common.{ℕ, ◌≡◌, ◌-◌, ◌<◌, ◌^◌, Bool, Option, Some, Result, Ok, Err, List, length, refl, ap, sym, ◌∙◌, subst, arith, inl, inr, ◌⊎◌}, lemmas.Option.same_Some}
 use Rattle.std.specs.Prelude.{All, MatchResult, IfErr, IfOk, IsErrAnd}
+use Rattle.lert_cone.proofs.SoundLaws.{some_keys_of}
 use Rattle.lert_base.specs.Packet.{keys_of}
 use Rattle.lert_base.specs.{declared.kept.Kept.Kept, Packet.{Packet, events_of}}
 use Rattle.lert_bay.specs.{declared.bay.TheConstants.{JOURNAL, LOG}, Files.Files}
@@ -214,7 +215,7 @@ module _ (s : Numbers) (cone : ℕ) (valid : IsValid s) (named : cone < 2 ^ s.co
     module _ (told_in : Option Files) (told_is : told_in ≡ Some seen) (counts : K → ℕ) (stands_in : K → List Packet → Type 0) (finishes : K → Bool → Type 0)
         (history : List Packet) (sound : IsSound s cone history seen) where
       some_keys : All (λ packet. 0 < length (keys_of packet)) history
-      some_keys k d within = (sound.journal.journaled k d within).some
+      some_keys k d within = some_keys_of s cone _ (sound.journal.journaled k d within)
 
       pub sound_told : (result : Result K E) → Told result → IfErr result (λ refused. (h : List Packet) → IsSound s cone h seen → IsOutside (fault_in refused)) →
           IfOk result (λ now. (h : List Packet) → All (λ packet. 0 < length (keys_of packet)) h → length (events_of h) ≡ counts now →

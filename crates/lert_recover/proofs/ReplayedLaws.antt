@@ -201,5 +201,5 @@ module _ (s : Numbers) (cone n0 : ℕ) (closed : Bool) (bytes : List ℕ) where
     all_keys done rest before events first gate is before_is first_is has shut =
         has.events_are
         ∙ (ap (λ keys. keys ++ events_of has.packets) before_is
-        ∙ (sym (flat_map-append (λ (p : Packet). p.keys) done has.packets)
+        ∙ (sym (flat_map-append (λ (p : Packet). keys_of p) done has.packets)
         ∙ ap events_of (follows has.packets done rest (length before) first gate is first_is has.stand shut)))

@@ -1,5 +1,6 @@
 -- A cone that replays one packet more, or stops.
 use Rattle.std.proofs.Common.{ℕ, ◌≡◌, ◌+◌, ◌-◌, ◌*◌, ◌^◌, ◌<◌, ◌≤◌, Some, Option, List, ◌++◌, length, max, refl, ap, sym, ◌∙◌, subst, arith, length-append}
+use Rattle.lert_cone.proofs.SoundLaws.{some_keys_of}
 use Rattle.lert_levels.specs.OnDisk.{written}
 use Rattle.lert_base.specs.Packet.{keys_of}
 use Rattle.lert_base.specs.Packet.{Packet}
@@ -133,8 +134,9 @@ pub has_grown : {B : Type 0} (files : B → Option Files) (start old new : Repla
     gate ≤ 2 ^ 46 + 65536 * length old.listing.events → HasTaken files old new gate next → next ≤ gate + 65536 → HasGrown start old new next
 has_grown {B = B} files start old new gate next same counted near took forward =
     let n = length old.listing.events in
-    let keys = took.packet.keys in
+    let keys = keys_of took.packet in
     let count : length new.listing.events ≡ n + length keys = ap (λ (k : Replaying B). length k.listing.events) took.is ∙ length-append old.listing.events keys in
+    let some : 0 < length keys = some_keys_of old.listing.settings old.listing.cone took.packet took.journaled in
     let within : n + length keys ≤ capacity start.listing.settings = subst (λ (s : Numbers). n + length keys ≤ capacity s) same.settings took.follows.within in
     record {
       taking = ap (λ (k : Replaying B). k.stopped) took.is;
@@ -142,9 +144,9 @@ has_grown {B = B} files start old new gate next same counted near took forward =
       gate_is = ap (λ (k : Replaying B). k.gate) took.is;
       counted = omega (arith, ap (λ (k : Replaying B). k.events) took.is, counted, count);
       within = omega (arith, within, count);
-      near = omega (arith, near, forward, took.journaled.some, count);
+      near = omega (arith, near, forward, some, count);
       fewer = subst (λ (m : ℕ). capacity start.listing.settings - m < capacity start.listing.settings - n) (sym count)
-          (fewer_left (capacity start.listing.settings) n (length keys) took.journaled.some within);
+          (fewer_left (capacity start.listing.settings) n (length keys) some within);
     }
 
 -- what is told of soundness in the words of the cone as it is, in those of the cone as it was

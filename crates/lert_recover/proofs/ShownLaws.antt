@@ -21,11 +21,11 @@ keys_joined [] others fit rest = rest
 keys_joined (key ∷ keys) others fit rest =
     (All-head (λ key. key < 2 ^ 64) key keys fit, keys_joined keys others (All-tail (λ key. key < 2 ^ 64) key keys fit) rest)
 
-keys_of : (history : List Packet) → KeysFit history → AreKeys (events_of history)
-keys_of [] fit = tt
-keys_of (packet ∷ rest) fit =
+are_keys : (history : List Packet) → KeysFit history → AreKeys (events_of history)
+are_keys [] fit = tt
+are_keys (packet ∷ rest) fit =
     keys_joined (keys_of packet) (events_of rest) (All-head (λ (p : Packet). All (λ key. key < 2 ^ 64) (keys_of p)) packet rest fit)
-    (keys_of rest (All-tail (λ (p : Packet). All (λ key. key < 2 ^ 64) (keys_of p)) packet rest fit))
+    (are_keys rest (All-tail (λ (p : Packet). All (λ key. key < 2 ^ 64) (keys_of p)) packet rest fit))
 
 keys_split : (keys others : List ℕ) → AreKeys (keys ++ others) → AreKeys keys × AreKeys others
 keys_split [] others fit = (tt, fit)
@@ -50,8 +50,8 @@ first_shown s first more closed positive fit =
 pub shown_in : (s : Numbers) (cone : ℕ) (seen : Files) (history more : List Packet) (closed : Bool) (reports : List Report) → IsValid s → IsSound s cone (history ++ more) seen →
     reports ≡ reports_for s (history ++ more) closed → (rest : List Report) × (reports ≡ look s (events_of history) ++ rest)
 shown_in s cone seen history more closed reports valid sound is =
-    let joined : events_of (history ++ more) ≡ events_of history ++ events_of more = flat_map-append (λ (p : Packet). p.keys) history more in
-    let fit : AreKeys (events_of history ++ events_of more) = subst AreKeys joined (keys_of (history ++ more) sound.journal.fit) in
+    let joined : events_of (history ++ more) ≡ events_of history ++ events_of more = flat_map-append (λ (p : Packet). keys_of p) history more in
+    let fit : AreKeys (events_of history ++ events_of more) = subst AreKeys joined (are_keys (history ++ more) sound.journal.fit) in
     let begun = first_shown s (events_of history) (events_of more) closed valid.limits.threshold_from fit in
     (begun.more, is ∙ (ap (λ (events : List ℕ). if closed then closing s events else look s events) joined ∙ begun.is))
 

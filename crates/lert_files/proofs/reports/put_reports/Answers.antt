@@ -1,4 +1,4 @@
-use Rattle.std.proofs.Common.{◌+◌, ◌++◌, [], ◌∷◌, length, ap, ap₂, sym, ◌∙◌, arith, length-append}
+use Rattle.std.proofs.Common.{◌++◌, [], ◌∷◌, length, ap, ap₂, sym, ◌∙◌, arith, length-append}
 use Rattle.lert_spec.specs.{declared.numbers.Numbers.Numbers, declared.report.Report.Report, Look.is_listed}
 use Rattle.lert_reports.specs.Stored.{Stored}
 use Rattle.lert_files.specs.Repeated.{reports_from, IsNewThere}
