@@ -23,7 +23,7 @@ pub struct Routing {
     entry: Entry,
     ghost cones: { length rings.rings ≡ 2 ^ settings.cone_bits },
     ghost short: { (cone : ℕ) → cone < 2 ^ settings.cone_bits → length (ring_of rings cone) < rings.packet },
-    ghost empty: { entry.keys.keys ≡ [] },
+    ghost empty: { entry.keys.items ≡ [] },
     ghost room: { entry.keys.room ≡ 4 * rings.packet },
 }
 
@@ -50,7 +50,7 @@ impl Routing {
     // Puts a key into the ring of its cone. Where that holds a packet then, it is emptied into the sum.
     fn route(&mut self, key: u64, sum: u64) -> u64 {
         let cone = cone_of(&self.settings, key);
-        match self.rings.push(cone, key) {
+        match self.rings.push(cone, key, 1) {
             Fill::Low => sum,
             Fill::Ready | Fill::MustGo => {
                 self.rings.take(cone, &mut self.entry);

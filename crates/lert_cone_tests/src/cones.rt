@@ -28,12 +28,12 @@ pub const SMALL: Numbers = Numbers {
 pub fn entry(rt: &impl Abort, alloc: Global, settings: &Settings, keys: &[u64]) -> Entry
     requires some { 0 < length keys.now }
     requires few { length keys.now ≤ 4 * settings.now.packet }
-    ensures { IsJournaled settings.now 0 (packet_of result) }
+    ensures { IsJournaled 1 settings.now 0 (packet_of result) }
 {
     let mut list = KeyList::with_room(alloc, keys.len()).expect(rt, "memory");
     for key in keys {
         assert!(rt; cone_of(settings, *key) == 0);
-        list.push(*key);
+        list.push(*key, 1);
     }
     Entry::new(0, 0, list)
 }

@@ -33,11 +33,13 @@ fn answer_to(
 
 const OWN: Kept = Kept {
     cone: 0,
+    version: 1,
     numbers: SMALL,
 };
 
 const SECOND: Kept = Kept {
     cone: 1,
+    version: 1,
     numbers: SMALL,
 };
 

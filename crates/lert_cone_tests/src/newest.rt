@@ -84,7 +84,7 @@ fn reports_of(keys: Keys) -> (&'static [Report], &'static [Report]) {
 
 // The packet of a key of the only cone.
 fn packet(rt: &impl Abort, alloc: Global, key: u64) -> Entry
-    ensures { IsJournaled LONG 0 (packet_of result) }
+    ensures { IsJournaled 1 LONG 0 (packet_of result) }
 {
     let settings = settings_of(rt, LONG);
     assert!(rt; cone_of(&settings, key) == 0);

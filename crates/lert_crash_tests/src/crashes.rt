@@ -63,13 +63,13 @@ pub(crate) fn settings(rt: &impl Abort) -> Settings
 fn packet(rt: &impl Abort, alloc: Global, keys: &[u64]) -> Entry
     requires some { 0 < length keys.now }
     requires few { length keys.now ≤ 8 }
-    ensures { IsJournaled SMALL 0 (packet_of result) }
+    ensures { IsJournaled 1 SMALL 0 (packet_of result) }
 {
     let settings = settings(rt);
     let mut list = KeyList::with_room(alloc, keys.len()).expect(rt, "memory");
     for key in keys {
         assert_eq!(rt; cone_of(&settings, *key), 0);
-        list.push(*key);
+        list.push(*key, 1);
     }
     Entry::new(0, 0, list)
 }
