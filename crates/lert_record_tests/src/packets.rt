@@ -143,7 +143,7 @@ fn count_packets(settings: &Settings, bay: &mut MemBay, entry: &mut Entry) -> Co
     Ok(2)
 }
 
-// The journal of a version in which one packet of three keys 7 was put, and its gate.
+// A journal of a version behind the append of one packet of three keys, and its gate.
 fn appended(
     rt: &impl Abort,
     alloc: Global,

@@ -9,7 +9,7 @@ use crate::same::assert_same;
 use lert_base::{Entry, Numbers, Settings};
 use lert_bay::{JOURNAL, MemBay};
 use lert_gatelog::{GateLog, LogFault};
-use lert_journal::{HEADER_LEN, read_entry};
+use lert_journal::{HEADER_LEN, place_left, read_entry};
 use std::alloc::Global;
 use std::process::Abort;
 
@@ -186,4 +186,18 @@ fn a_record_with_weights_leaves_the_format_at_a_place(rt: HostRuntime) {
         let answer = first_answer(&rt, rt.alloc(), &settings, 2, bytes);
         assert_same(&rt, &answer, &Err(LogFault::Malformed { at }), why);
     }
+}
+
+#[test]
+fn a_payload_has_at_most_four_times_as_many_items_as_the_settings_name(rt: HostRuntime) {
+    let settings = settings_of(&rt, HALVES);
+    let found = [
+        place_left(&settings, 0, &[0; 40], 1),
+        place_left(&settings, 0, &[0; 48], 1),
+        place_left(&settings, 0, &[0; 44], 2),
+        place_left(&settings, 0, &[0; 53], 2),
+    ];
+    // Four keys 0 of the first version are a packet. With the second one they weigh nothing.
+    let want = [None, Some(0), Some(20), Some(0)];
+    assert_same(&rt, &found, &want, "four and five keys 0");
 }
