@@ -24,11 +24,7 @@ fn a_header_is_written_and_read(rt: HostRuntime) {
     let mut bytes = [255; HEADER_LEN];
     write_header(&settings, 0, &mut bytes);
     assert_same(&rt, &bytes, &TEXT, "a header");
-    let kept = Kept {
-        cone: 0,
-        numbers: NUMBERS,
-    };
-    assert_same(&rt, &read_header(&TEXT), &Some(kept), "what is read of it");
+    assert_same(&rt, &read_of(1), &Some(kept_of(1)), "what is read of it");
 }
 
 #[test]
@@ -37,6 +33,7 @@ fn numbers_are_read_as_they_stand(rt: HostRuntime) {
         *b"LERTJ\x01\0\0\x01\x02\0\0\x03\0\x04\0\x05\0\0\x06\xff\xff\xff\xff\x07\x08\x09\x0a\x0b\x0c\0\0";
     let kept = Kept {
         cone: 0x0c0b,
+        version: 1,
         numbers: Numbers {
             threshold: 0x0201,
             bins: 7,
@@ -49,6 +46,28 @@ fn numbers_are_read_as_they_stand(rt: HostRuntime) {
         },
     };
     assert_same(&rt, &read_header(&bytes), &Some(kept), "numbers");
+}
+
+// What is read of the header with another version.
+fn read_of(version: u8) -> Option<Kept> {
+    let mut bytes = TEXT;
+    bytes[5] = version;
+    read_header(&bytes)
+}
+
+fn kept_of(version: u8) -> Kept {
+    Kept {
+        cone: 0,
+        version,
+        numbers: NUMBERS,
+    }
+}
+
+#[test]
+fn two_versions_are_read(rt: HostRuntime) {
+    let want = [None, Some(kept_of(1)), Some(kept_of(2)), None];
+    let found = [read_of(0), read_of(1), read_of(2), read_of(3)];
+    assert_same(&rt, &found, &want, "versions 0 to 3");
 }
 
 #[test]

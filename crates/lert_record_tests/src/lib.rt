@@ -14,6 +14,8 @@ mod logs;
 #[cfg(test)]
 mod packets;
 #[cfg(test)]
+mod places;
+#[cfg(test)]
 mod same;
 #[cfg(test)]
 mod statuses;

@@ -1,7 +1,8 @@
-//! The bytes of a journal of one packet, what a stop at each call of an append leaves of its packets, and each
-//! place at which a record leaves the format.
+//! The bytes of a journal of one packet of each version, and what a stop at each call of an append leaves of its packets.
 
-ghost use Rattle.std.specs.Prelude.{◌≡◌, length};
+ghost use Rattle.std.specs.Prelude.{◌≡◌, ◌+◌, ◌*◌, ◌≤◌, [], ◌∷◌, length};
+ghost use Rattle.lert_journal.specs.Payload.{item_len};
+ghost use Rattle.lert_spec.specs.Items.{IsVersion, AreOfVersion};
 
 use crate::same::assert_same;
 use lert_base::{Entry, KeyList, Numbers, Settings};
@@ -12,7 +13,7 @@ use std::alloc::Global;
 use std::process::Abort;
 
 // One cone, with at most 32 keys in a packet.
-const ALONE: Numbers = Numbers {
+pub(crate) const ALONE: Numbers = Numbers {
     threshold: 3,
     bins: 3,
     ratio: 2,
@@ -23,45 +24,61 @@ const ALONE: Numbers = Numbers {
     packet: 8,
 };
 
-// The greatest payload of its journal.
+// The greatest payload of its journal, and of one of the second version.
 const MOST: u32 = 264;
 
-// Two cones, with at most four keys in a packet. Key 0 is of cone 0, and key 1 of cone 1.
-const HALVES: Numbers = Numbers {
-    cone_bits: 1,
-    packet: 1,
-    ..ALONE
-};
-
-// The greatest payload of their journals.
-const MOST_OF_HALVES: u32 = 40;
+const MOST_WEIGHED: u32 = 296;
 
 // The journal of one packet of three keys 7.
 const TEXT: [u8; 70] =
     *b"LERTJ\x01\0\0\x03\0\0\0\x20\0\0\0\x04\0\0\0\x08\0\0\0\x03\x02\x02\0\0\0\0\0\x01\x20\0\0\0\0\0\0\0\0\0\0\0\x07\0\0\0\0\0\0\0\x07\0\0\0\0\0\0\0\x07\0\0\0\0\0\0\0\0";
 
-fn settings_of(rt: &impl Abort, numbers: Numbers) -> Settings
+// The journal of one packet of three keys 7 that weigh 1, 2 and 255.
+const WEIGHED: [u8; 73] =
+    *b"LERTJ\x02\0\0\x03\0\0\0\x20\0\0\0\x04\0\0\0\x08\0\0\0\x03\x02\x02\0\0\0\0\0\x01\x23\0\0\0\0\0\0\0\0\0\0\0\x07\0\0\0\0\0\0\0\x01\x07\0\0\0\0\0\0\0\x02\x07\0\0\0\0\0\0\0\xff\0";
+
+pub(crate) fn settings_of(rt: &impl Abort, numbers: Numbers) -> Settings
     ensures { result ≡ numbers }
 {
     Settings::new(numbers).expect(rt, "settings")
 }
 
-// An entry of three keys 7.
-fn sevens(rt: &impl Abort, alloc: Global) -> Entry
-    ensures { length result.keys.keys ≡ 3 }
+// The greatest payload where a packet has at most 32 keys.
+fn most_of(version: u8) -> u32
+    requires { IsVersion version }
+    ensures value { result ≡ 8 + 32 * item_len version }
+    ensures most { result ≤ 296 }
+{
+    if version == 1 { MOST } else { MOST_WEIGHED }
+}
+
+// An entry of three keys 7 that weigh 1, and as much as it is told.
+fn sevens(rt: &impl Abort, alloc: Global, second: u8, third: u8) -> Entry
+    requires second { 1 ≤ second }
+    requires third { 1 ≤ third }
+    ensures some { length result.keys.items ≡ 3 }
+    ensures items { result.keys.items ≡ record { key = 7; weight = 1 } ∷ record { key = 7; weight = second } ∷ record { key = 7; weight = third } ∷ [] }
 {
     let mut keys = KeyList::with_room(alloc, 3).expect(rt, "memory");
-    keys.push(7);
-    keys.push(7);
-    keys.push(7);
+    keys.push(7, 1);
+    keys.push(7, second);
+    keys.push(7, third);
     Entry::new(0, 0, keys)
 }
 
 // An entry of no keys, to read into.
-fn blank(rt: &impl Abort, alloc: Global, room: usize) -> Entry
+pub(crate) fn blank(rt: &impl Abort, alloc: Global, room: usize) -> Entry
     ensures { result.keys.room ≡ room }
 {
     Entry::new(9, 9, KeyList::with_room(alloc, room).expect(rt, "memory"))
+}
+
+// The header of cone 0 in a journal of a version.
+pub(crate) fn header_of(settings: &Settings, version: u8) -> [u8; HEADER_LEN] {
+    let mut header = [0; HEADER_LEN];
+    write_header(settings, 0, &mut header);
+    header[5] = version;
+    header
 }
 
 // What a crash leaves of a journal with one packet, where the append of a second one is stopped at a call.
@@ -70,11 +87,11 @@ fn stopped(rt: &impl Abort, alloc: Global, settings: &Settings, call: u64, pick:
     write_header(settings, 0, &mut header);
     let mut bay = MemBay::new(alloc).expect(rt, "memory");
     let mut log = GateLog::create(&mut bay, JOURNAL, &header, MOST).expect(rt, "no fault");
-    let entry = sevens(rt, alloc);
+    let entry = sevens(rt, alloc, 1, 1);
     let mut buffer = [255; MOST as usize + 5];
-    append_entry(&mut log, &mut bay, &entry, &mut buffer).expect(rt, "no fault");
+    append_entry(&mut log, &mut bay, &entry, &mut buffer, 1).expect(rt, "no fault");
     bay.stop_at(call);
-    let _ = append_entry(&mut log, &mut bay, &entry, &mut buffer);
+    let _ = append_entry(&mut log, &mut bay, &entry, &mut buffer, 1);
     bay.crashed(pick).expect(rt, "memory")
 }
 
@@ -117,56 +134,39 @@ fn count_packets(settings: &Settings, bay: &mut MemBay, entry: &mut Entry) -> Co
 {
     let mut log = GateLog::at_gate(JOURNAL, HEADER_LEN as u64, MOST);
     let mut buffer = [0; MOST as usize];
-    if !read_entry(&mut log, bay, settings, 0, entry, &mut buffer)? {
+    if !read_entry(&mut log, bay, settings, 0, entry, &mut buffer, 1)? {
         return Ok(0);
     }
-    if !read_entry(&mut log, bay, settings, 0, entry, &mut buffer)? {
+    if !read_entry(&mut log, bay, settings, 0, entry, &mut buffer, 1)? {
         return Ok(1);
     }
     Ok(2)
 }
 
-// What is answered at the first gate of a journal of cone 0 of two with these bytes behind its header.
-fn first_answer(
+// A journal of a version behind the append of one packet of three keys, and its gate.
+fn appended(
     rt: &impl Abort,
     alloc: Global,
     settings: &Settings,
-    bytes: &[u8],
-) -> Result<bool, LogFault>
-    requires { settings.now.packet ≡ 1 }
+    version: u8,
+    entry: &Entry,
+) -> (MemBay, u64)
+    requires version { IsVersion version }
+    requires some { length entry.now.keys.items ≡ 3 }
+    requires weighed { AreOfVersion version entry.now.keys.items }
 {
-    let text = text_of(rt, alloc, settings, bytes);
-    let mut bay = loaded(rt, alloc, text.as_slice());
-    let mut entry = blank(rt, alloc, 4);
-    read_first(settings, &mut bay, &mut entry)
-}
-
-// The header of cone 0, and these bytes behind it.
-fn text_of(rt: &impl Abort, alloc: Global, settings: &Settings, bytes: &[u8]) -> Vec<u8> {
-    let mut header = [0; HEADER_LEN];
-    write_header(settings, 0, &mut header);
-    let mut text = Vec::from_slice(alloc, &header).expect(rt, "memory");
-    text.extend_from_slice(bytes).expect(rt, "memory");
-    text
-}
-
-fn loaded(rt: &impl Abort, alloc: Global, text: &[u8]) -> MemBay {
+    let header = header_of(settings, version);
     let mut bay = MemBay::new(alloc).expect(rt, "memory");
-    bay.load(JOURNAL, text).expect(rt, "memory");
-    bay
+    let mut log = GateLog::create(&mut bay, JOURNAL, &header, most_of(version)).expect(
+        rt, "no fault",
+    );
+    let mut buffer = [255; MOST_WEIGHED as usize + 5];
+    append_entry(&mut log, &mut bay, entry, &mut buffer, version).expect(rt, "no fault");
+    (bay, log.gate())
 }
 
-fn read_first(settings: &Settings, bay: &mut MemBay, entry: &mut Entry) -> Result<bool, LogFault>
-    requires packet { settings.now.packet ≡ 1 }
-    requires room { entry.old.keys.room ≡ 4 }
-{
-    let mut log = GateLog::at_gate(JOURNAL, HEADER_LEN as u64, MOST_OF_HALVES);
-    let mut buffer = [0; MOST_OF_HALVES as usize];
-    read_entry(&mut log, bay, settings, 0, entry, &mut buffer)
-}
-
-// Asserts that an entry is of caller 0 and trace 0, with three keys 7.
-fn assert_is_sevens(rt: &impl Abort, entry: &Entry) {
+// Asserts that an entry is of caller 0 and trace 0, with three keys 7 of these weights.
+fn assert_is_sevens(rt: &impl Abort, entry: &Entry, weights: &[u8; 3]) {
     assert_same(rt, &(entry.by, entry.trace), &(0, 0), "whose it is");
     assert_same(
         rt,
@@ -174,35 +174,55 @@ fn assert_is_sevens(rt: &impl Abort, entry: &Entry) {
         &[7, 7, 7].as_slice(),
         "its keys",
     );
+    assert_same(
+        rt,
+        &entry.keys.weights(),
+        &weights.as_slice(),
+        "its weights",
+    );
 }
 
-// Asserts that a journal has one packet of three keys 7, and its gate at 69.
-fn assert_sevens(rt: &impl Abort, alloc: Global, settings: &Settings, bay: &mut MemBay)
-    requires { settings.now.packet ≡ 8 }
+// Asserts that a journal has one packet of three keys 7 of these weights, and its gate there.
+fn assert_sevens(
+    rt: &impl Abort,
+    alloc: Global,
+    settings: &Settings,
+    version: u8,
+    bay: &mut MemBay,
+    weights: &[u8; 3],
+    gate: u64,
+)
+    requires version { IsVersion version }
+    requires packet { settings.now.packet ≡ 8 }
 {
-    let mut log = GateLog::at_gate(JOURNAL, 32, MOST);
+    let mut log = GateLog::at_gate(JOURNAL, 32, most_of(version));
     let mut read = blank(rt, alloc, 32);
-    let mut buffer = [255; MOST as usize];
-    let answer = read_entry(&mut log, bay, settings, 0, &mut read, &mut buffer);
-    assert_same(rt, &(answer, log.gate()), &(Ok(true), 69), "a packet");
-    assert_is_sevens(rt, &read);
-    let answer = read_entry(&mut log, bay, settings, 0, &mut read, &mut buffer);
+    let mut buffer = [255; MOST_WEIGHED as usize];
+    let answer = read_entry(&mut log, bay, settings, 0, &mut read, &mut buffer, version);
+    assert_same(rt, &(answer, log.gate()), &(Ok(true), gate), "a packet");
+    assert_is_sevens(rt, &read, weights);
+    let answer = read_entry(&mut log, bay, settings, 0, &mut read, &mut buffer, version);
     assert_same(rt, &answer, &Ok(false), "a packet more");
 }
 
 #[test]
 fn a_packet_is_written_and_read(rt: HostRuntime) {
     let settings = settings_of(&rt, ALONE);
-    let mut header = [0; HEADER_LEN];
-    write_header(&settings, 0, &mut header);
-    let mut bay = MemBay::new(rt.alloc()).expect(&rt, "memory");
-    let mut log = GateLog::create(&mut bay, JOURNAL, &header, MOST).expect(&rt, "no fault");
-    let entry = sevens(&rt, rt.alloc());
-    let mut buffer = [255; MOST as usize + 5];
-    append_entry(&mut log, &mut bay, &entry, &mut buffer).expect(&rt, "no fault");
+    let entry = sevens(&rt, rt.alloc(), 1, 1);
+    let (mut bay, gate) = appended(&rt, rt.alloc(), &settings, 1, &entry);
     assert_same(&rt, &bay.bytes(JOURNAL), &TEXT.as_slice(), "a journal");
-    assert_same(&rt, &log.gate(), &69, "its gate");
-    assert_sevens(&rt, rt.alloc(), &settings, &mut bay);
+    assert_same(&rt, &gate, &69, "its gate");
+    assert_sevens(&rt, rt.alloc(), &settings, 1, &mut bay, &[1, 1, 1], 69);
+}
+
+#[test]
+fn a_packet_with_weights_is_written_and_read(rt: HostRuntime) {
+    let settings = settings_of(&rt, ALONE);
+    let entry = sevens(&rt, rt.alloc(), 2, 255);
+    let (mut bay, gate) = appended(&rt, rt.alloc(), &settings, 2, &entry);
+    assert_same(&rt, &bay.bytes(JOURNAL), &WEIGHED.as_slice(), "a journal");
+    assert_same(&rt, &gate, &72, "its gate");
+    assert_sevens(&rt, rt.alloc(), &settings, 2, &mut bay, &[1, 2, 255], 72);
 }
 
 #[test]
@@ -211,53 +231,5 @@ fn a_stop_leaves_the_packet_or_not(rt: HostRuntime) {
     for (call, want) in LEFT {
         let found = left_by_each_pick(&rt, rt.alloc(), &settings, call);
         assert_same(&rt, &(call, found), &(call, want), "packets by pick");
-    }
-}
-
-// The bytes behind a header of the first of two cones, the place at which they leave the format, and why.
-const BROKEN: [(&[u8], u64, &str); 11] = [
-    (b"", 32, "no gate"),
-    (b"\x01\x10\0", 35, "a cut length"),
-    (b"\x01\0\0\0\0\0", 33, "no payload"),
-    (b"\x01\x30\0\0\0", 33, "five keys where four are the most"),
-    (b"\x01\x08\0\0\0\0\0\0\0\0\0\0\0\0", 33, "no key"),
-    (
-        b"\x01\x14\0\0\0\x40\0\0\0\0\0\0\0\0\0\0\0\0\0\0\0\0\0\0\0\0",
-        33,
-        "half a key",
-    ),
-    (
-        b"\x01\x10\0\0\0\x40\0\0\0\0\0\0\0\0\0\0\0\0\0\0",
-        52,
-        "a cut payload",
-    ),
-    (
-        b"\x01\x10\0\0\0\x40\0\0\0\0\x04\0\0\0\0\0\0\0\0\0\0\0",
-        37,
-        "a caller past the last",
-    ),
-    (
-        b"\x01\x10\0\0\0\x3f\0\0\0\0\x04\0\0\x01\0\0\0\0\0\0\0\0",
-        41,
-        "a trace past the last",
-    ),
-    (
-        b"\x01\x10\0\0\0\x3f\0\0\0\xff\x03\0\0\x01\0\0\0\0\0\0\0\0",
-        45,
-        "a key of the other cone",
-    ),
-    (
-        b"\x01\x18\0\0\0\0\0\0\0\0\0\0\0\0\0\0\0\0\0\0\0\x01\0\0\0\0\0\0\0\0",
-        53,
-        "another one behind one of this cone",
-    ),
-];
-
-#[test]
-fn a_record_leaves_the_format_at_a_place(rt: HostRuntime) {
-    let settings = settings_of(&rt, HALVES);
-    for &(bytes, at, why) in &BROKEN {
-        let answer = first_answer(&rt, rt.alloc(), &settings, bytes);
-        assert_same(&rt, &answer, &Err(LogFault::Malformed { at }), why);
     }
 }

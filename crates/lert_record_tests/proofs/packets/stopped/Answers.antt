@@ -15,12 +15,12 @@ create-requires-clause-empty g c = λ seen told.
     ap (λ (files : Files). files 0) same ∙ ap (λ (disk : Disk). seen_of disk.files 0) (IfOk-at_ok _ c.expect-bay.ensures c.new.ensures)
 
 pub append_entry-requires-clause-some : goal.append_entry-requires-clause-some
-append_entry-requires-clause-some g c = omega (arith, c.sevens-entry.ensures)
+append_entry-requires-clause-some g c = omega (arith, c.sevens-entry.ensures.some)
 
 pub append_entry-requires-clause-few : goal.append_entry-requires-clause-few
 append_entry-requires-clause-few g c =
     let made = IfOk-at_ok _ c.expect-log.ensures c.create.ensures.made in
-    few _ _ c.sevens-entry.ensures (ap (λ log. log.most) made)
+    few 8 _ _ c.sevens-entry.ensures.some (ap (λ log. log.most) made)
 
 pub append_entry-requires-clause-room : goal.append_entry-requires-clause-room
 append_entry-requires-clause-room g c =
@@ -30,7 +30,7 @@ append_entry-requires-clause-room g c =
 pub append_entry-requires-clause-reach : goal.append_entry-requires-clause-reach
 append_entry-requires-clause-reach g c =
     let made = ap (λ log. log.gate) (IfOk-at_ok _ c.expect-log.ensures c.create.ensures.made) in
-    omega (arith, made, c.sevens-entry.ensures)
+    omega (arith, made, c.sevens-entry.ensures.some)
 
 pub append_entry-requires-clause-closed : goal.append_entry-requires-clause-closed
 append_entry-requires-clause-closed g c = λ seen told image may.
@@ -39,13 +39,13 @@ append_entry-requires-clause-closed g c = λ seen told image may.
     (IfOk-at_ok _ c.expect-log.ensures (c.create.ensures.closed (seen_of c.expect-bay.result.files) refl) image may)
 
 pub append_entry-requires-2-clause-some : goal.append_entry-requires-2-clause-some
-append_entry-requires-2-clause-some g c = omega (arith, c.sevens-entry.ensures)
+append_entry-requires-2-clause-some g c = omega (arith, c.sevens-entry.ensures.some)
 
 pub append_entry-requires-2-clause-few : goal.append_entry-requires-2-clause-few
 append_entry-requires-2-clause-few g c =
     let moved = IfOk-at_ok _ c.expect.ensures c.append_entry.ensures.moved in
     let made = IfOk-at_ok _ c.expect-log.ensures c.create.ensures.made in
-    few _ _ c.sevens-entry.ensures (ap (λ log. log.most) moved ∙ ap (λ log. log.most) made)
+    few 8 _ _ c.sevens-entry.ensures.some (ap (λ log. log.most) moved ∙ ap (λ log. log.most) made)
 
 pub append_entry-requires-2-clause-room : goal.append_entry-requires-2-clause-room
 append_entry-requires-2-clause-room g c =
@@ -58,7 +58,7 @@ append_entry-requires-2-clause-reach g c =
     let packet = packet_of c.sevens-entry.result in
     let moved = ap (λ log. log.gate) (IfOk-at_ok _ c.expect.ensures c.append_entry.ensures.moved) in
     let made = ap (λ log. log.gate) (IfOk-at_ok _ c.expect-log.ensures c.create.ensures.made) in
-    omega (arith, moved, made, length_payload packet, c.sevens-entry.ensures)
+    omega (arith, moved, made, length_payload 1 packet, c.sevens-entry.ensures.some)
 
 pub append_entry-requires-2-clause-closed : goal.append_entry-requires-2-clause-closed
 append_entry-requires-2-clause-closed g c = λ seen told image may.
