@@ -89,7 +89,7 @@ fn packet(rt: &impl Abort, alloc: Global, key: u64) -> Entry
     let settings = settings_of(rt, LONG);
     assert!(rt; cone_of(&settings, key) == 0);
     let mut list = KeyList::with_room(alloc, 1).expect(rt, "memory");
-    list.push(key);
+    list.push(key, 1);
     Entry::new(0, 0, list)
 }
 

@@ -1,5 +1,5 @@
 -- The keys that occur often enough.
-use Rattle.std.proofs.{Common.{◌≡◌, ◌≢◌, ℕ, ◌+◌, ◌-◌, ◌*◌, ◌/◌, ◌^◌, ◌<◌, ◌≤◌, zero, suc, Bool, cond, leb, List, [], ◌∷◌, length, get_or, lit<, ap, sym, ◌∙◌, inl, inr, arith, refl}, Math.Nat.mod-lt}
+use Rattle.std.proofs.{Common.{◌≡◌, ◌≢◌, ℕ, ◌+◌, ◌*◌, ◌/◌, ◌^◌, ◌<◌, ◌≤◌, zero, suc, Bool, cond, leb, List, [], ◌∷◌, length, get_or, lit<, ap, sym, ◌∙◌, inl, inr, arith, refl}, Math.Nat.mod-lt}
 use Rattle.std.proofs.{lemmas.Bool.{cases_lt, cases_eq, lt-leb, le-leb}, lemmas.Bool.Decides.nat_tests, lemmas.Nat.{xor_lt, shr_le, shr_below}}
 use Rattle.std.specs.Prelude.{Contains}
 use Rattle.lert_spec.specs.Edges.{tail_bits}

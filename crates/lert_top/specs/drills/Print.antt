@@ -1,6 +1,5 @@
 -- What is printed of cones by a drill.
 use Rattle.std.specs.Prelude.{ℕ, List, map}
-use Rattle.lert_base.specs.Packet.{keys_of}
 use Rattle.lert_cone.specs.Stands.{Standing}
 use Rattle.lert_spec.specs.declared.report.Report.{Report}
 use Rattle.lert_text.specs.Drill.{Drilled}
