@@ -1,6 +1,7 @@
 //! Cones over small settings, and packets for them.
 
 ghost use Rattle.std.specs.Prelude.{◌≡◌, ◌*◌, ◌<◌, ◌≤◌, length};
+ghost use Rattle.lert_spec.specs.Mix.{cone_of};
 ghost use Rattle.lert_base.specs.Entries.{packet_of};
 ghost use Rattle.lert_journal.specs.Payload.{IsJournaled};
 ghost use Rattle.lert_cone.specs.Room.{IsRoom};
@@ -32,10 +33,17 @@ pub fn entry(rt: &impl Abort, alloc: Global, settings: &Settings, keys: &[u64]) 
 {
     let mut list = KeyList::with_room(alloc, keys.len()).expect(rt, "memory");
     for key in keys {
-        assert!(rt; cone_of(settings, *key) == 0);
+        assert_own(rt, settings, *key);
         list.push(*key, 1);
     }
     Entry::new(0, 0, list)
+}
+
+// Asserts that a key is of the only cone.
+pub fn assert_own(rt: &impl Abort, settings: &Settings, key: u64)
+    ensures { cone_of settings.now key ≡ 0 }
+{
+    assert!(rt; cone_of(settings, key) == 0);
 }
 
 pub fn settings_of(rt: &impl Abort, numbers: Numbers) -> Settings

@@ -1,6 +1,7 @@
 //! What a stop at any call of a cone's life leaves, and what it is opened again as.
 
 ghost use Rattle.std.specs.Prelude.{◌≡◌, ◌*◌, ◌<◌, ◌≤◌, length};
+ghost use Rattle.lert_spec.specs.Mix.{cone_of};
 ghost use Rattle.lert_base.specs.Entries.{packet_of};
 ghost use Rattle.lert_journal.specs.Payload.{IsJournaled};
 
@@ -68,10 +69,17 @@ fn packet(rt: &impl Abort, alloc: Global, keys: &[u64]) -> Entry
     let settings = settings(rt);
     let mut list = KeyList::with_room(alloc, keys.len()).expect(rt, "memory");
     for key in keys {
-        assert_eq!(rt; cone_of(&settings, *key), 0);
+        assert_own(rt, &settings, *key);
         list.push(*key, 1);
     }
     Entry::new(0, 0, list)
+}
+
+// Asserts that a key is of the only cone.
+fn assert_own(rt: &impl Abort, settings: &Settings, key: u64)
+    ensures { cone_of settings.now key ≡ 0 }
+{
+    assert!(rt; cone_of(settings, key) == 0);
 }
 
 // Gives the packets from one on to the only cone, until it refuses one, and answers how many it has then.
