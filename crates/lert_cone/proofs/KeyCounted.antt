@@ -162,7 +162,7 @@ module _ {B : Type 0} {bays : Bays B} (lawful : IsLawful bays) {t : Tallied} {ls
           images = λ seen told held each after_files told_after.
               let each_now : InEach (bays.leaves bay) 2 (HoldsBins ls written (t.listing.events ++ key ∷ []) t.rows) =
               λ image may. subst (λ (v : Numbers). HoldsBins v written (t.listing.events ++ key ∷ []) t.rows (image 2)) (sym taking.levels_are)
-                (frames_more t.listing.settings taking.valid t.listing.events
+              (frames_more t.listing.settings taking.valid t.listing.events
               (key ∷ []) t.rows (image 2) taking.counted.rows (each image may)) in
               let stay = gives.images (t.listing.events ++ key ∷ []) long now_young seen told (now_frames seen held) each_now in
               subst (λ (keys : List ℕ). InEach (bays.leaves bay_after) 2 (HoldsBins t.listing.settings written keys levels_after.rows)) (sym events_are)

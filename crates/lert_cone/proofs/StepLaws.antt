@@ -58,8 +58,13 @@ text_fits : (s : Numbers) (events : List ℕ) (level : ℕ) (bin : BinAt) → Is
     length (frame_text s level (tallied_in s events bin)) ≤ frame_len s written level
 text_fits s events level bin valid last narrow =
     let keys = slice_range events bin.from bin.to in
-    text_within s written level (tallied s keys) valid last (IsTable-tallied s keys) (omega (arith, costs-first (tallied s keys), total-tallied s keys,
-      length-take (bin.to - bin.from) (drop bin.from events), narrow))
+    text_within s written level (tallied s keys) valid last (IsTable-tallied s keys) (omega (
+      arith,
+      costs-first (tallied s keys),
+      total-tallied s keys,
+      length-take (bin.to - bin.from) (drop bin.from events),
+      narrow,
+    ))
 
 -- the frames that rows name hold their bins in each image since, where what is settled in them stays so
 pub frames_since : (leaves since : Files → Type 0) (seen : Files) (s : Numbers) (events : List ℕ) (rows : List (List BinAt)) → IsValid s → AreRows s rows → leaves seen →

@@ -38,6 +38,5 @@ pub struct FrameReader {
     // Where the frame leaves its text, once that was found.
     pub(crate) fault: Option<u64>,
     pub(crate) gave: Seen<Piece>,
-    ghost reading: { IsReading settings version level place wide sum decoder pieces.items (vec_capacity pieces) given gave }
-        by { reading_prop settings version level place wide sum decoder pieces.items (vec_capacity pieces) given gave },
+    ghost reading: { IsReading settings version level place wide sum decoder pieces.items (vec_capacity pieces) given gave } by { reading_prop settings version level place wide sum decoder pieces.items (vec_capacity pieces) given gave },
 }

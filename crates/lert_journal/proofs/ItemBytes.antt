@@ -72,9 +72,9 @@ laid_of version (item ∷ rest) keys are =
     (All-head (λ key. key < 2 ^ 64) item.key (keys_in rest) keys, λ first. one item.weight (version == 1) first here.0 here.1)
     (laid_of version rest (All-tail (λ key. key < 2 ^ 64) item.key (keys_in rest) keys) (All-tail (λ i. (1 ≤ i.weight) × (i.weight ≤ most_weight version)) item rest are))
   where
-  one : (weight : ℕ) (plain : Bool) → plain ≡ true → 1 ≤ weight → weight ≤ (if plain then 1 else 255) → weight ≡ 1
-  one weight true first some few = omega (arith, some, few)
-  one weight false first some few = absurd (true≢false (sym first))
+    one : (weight : ℕ) (plain : Bool) → plain ≡ true → 1 ≤ weight → weight ≤ (if plain then 1 else 255) → weight ≡ 1
+    one weight true first some few = omega (arith, some, few)
+    one weight false first some few = absurd (true≢false (sym first))
 
 weight_back : (plain : Bool) (item : Item) (front rest : List ℕ) (k : ℕ) → length front ≡ 8 + len_of plain * k → (plain ≡ true → item.weight ≡ 1) →
     (item_by plain (front ++ (bytes_of plain item ++ rest)) k).weight ≡ item.weight
@@ -101,11 +101,11 @@ items_back plain (item ∷ rest) front k long are =
     let weight = weight_back plain item front behind k long here.1 in
     let first : item_by plain (front ++ (bytes_of plain item ++ behind)) k ≡ item = λ i. record { key = key i; weight = weight i } in
     let longer : length (front ++ bytes_of plain item) ≡ 8 + len_of plain * (k + 1) =
-      length-append front (bytes_of plain item) ∙ (ap (λ n. length front + n) (length_bytes plain item) ∙ next_item plain (length front) k long) in
+    length-append front (bytes_of plain item) ∙ (ap (λ n. length front + n) (length_bytes plain item) ∙ next_item plain (length front) k long) in
     let others : map (item_by plain ((front ++ bytes_of plain item) ++ behind)) (range_with_len (k + 1) (length rest)) ≡ rest =
-      items_back plain rest (front ++ bytes_of plain item) (k + 1) longer (All-tail (λ i. (i.key < 2 ^ 64) × (plain ≡ true → i.weight ≡ 1)) item rest are) in
+    items_back plain rest (front ++ bytes_of plain item) (k + 1) longer (All-tail (λ i. (i.key < 2 ^ 64) × (plain ≡ true → i.weight ≡ 1)) item rest are) in
     ap₂ (λ x xs. x ∷ xs) first (ap (λ bytes. map (item_by plain bytes) (range_with_len (k + 1) (length rest)))
-      (sym (append_assoc front (bytes_of plain item) behind)) ∙ others)
+    (sym (append_assoc front (bytes_of plain item) behind)) ∙ others)
 
 -- ---- bytes are those of the items in them
 
@@ -127,23 +127,25 @@ pub items_there : (plain : Bool) (m k : ℕ) (payload : List ℕ) → ((k : ℕ)
     flat_map (bytes_of plain) (map (item_by plain payload) (range_with_len k m)) ≡ drop (8 + len_of plain * k) payload
 items_there plain zero k payload small long = sym (drop_all (8 + len_of plain * k) payload (ends plain k (length payload) long))
   where
-  ends : (plain : Bool) (k n : ℕ) → n ≡ 8 + len_of plain * (k + 0) → n ≤ 8 + len_of plain * k
-  ends true k n is = omega (arith, is)
-  ends false k n is = omega (arith, is)
+    ends : (plain : Bool) (k n : ℕ) → n ≡ 8 + len_of plain * (k + 0) → n ≤ 8 + len_of plain * k
+    ends true k n is = omega (arith, is)
+    ends false k n is = omega (arith, is)
 items_there plain (suc m) k payload small long =
     let behind = drop (8 + len_of plain * k) payload in
     let first = item_there plain k payload small (room plain k m (length payload) long) in
     let others : flat_map (bytes_of plain) (map (item_by plain payload) (range_with_len (k + 1) m)) ≡ drop (len_of plain) behind =
-      items_there plain m (k + 1) payload small (moved plain k m (length payload) long)
-      ∙ (ap (λ n. drop n payload) (ahead plain k) ∙ sym (drop-drop (len_of plain) (8 + len_of plain * k) payload)) in
+    items_there plain m (k + 1) payload small (moved plain k m (length payload) long)
+    ∙ (ap (λ n. drop n payload) (ahead plain k) ∙ sym (drop-drop (len_of plain) (8 + len_of plain * k) payload)) in
     ap₂ (λ xs ys. xs ++ ys) first others ∙ take-append-drop (len_of plain) behind
   where
-  room : (plain : Bool) (k m n : ℕ) → n ≡ 8 + len_of plain * (k + suc m) → 8 + len_of plain * k + len_of plain ≤ n
-  room true k m n is = omega (arith, is)
-  room false k m n is = omega (arith, is)
-  moved : (plain : Bool) (k m n : ℕ) → n ≡ 8 + len_of plain * (k + suc m) → n ≡ 8 + len_of plain * (k + 1 + m)
-  moved true k m n is = omega (arith, is)
-  moved false k m n is = omega (arith, is)
-  ahead : (plain : Bool) (k : ℕ) → 8 + len_of plain * (k + 1) ≡ 8 + len_of plain * k + len_of plain
-  ahead true k = omega arith
-  ahead false k = omega arith
+    room : (plain : Bool) (k m n : ℕ) → n ≡ 8 + len_of plain * (k + suc m) → 8 + len_of plain * k + len_of plain ≤ n
+    room true k m n is = omega (arith, is)
+    room false k m n is = omega (arith, is)
+
+    moved : (plain : Bool) (k m n : ℕ) → n ≡ 8 + len_of plain * (k + suc m) → n ≡ 8 + len_of plain * (k + 1 + m)
+    moved true k m n is = omega (arith, is)
+    moved false k m n is = omega (arith, is)
+
+    ahead : (plain : Bool) (k : ℕ) → 8 + len_of plain * (k + 1) ≡ 8 + len_of plain * k + len_of plain
+    ahead true k = omega arith
+    ahead false k = omega arith

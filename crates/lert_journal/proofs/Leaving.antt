@@ -51,9 +51,9 @@ counted_long version s n counted =
     let bounds = and_parts (nat_le 1 items) (nat_le items (4 * s.packet)) parts.1 in
     long (version == 1) n (leb-true 1 items bounds.0)
   where
-  long : (plain : Bool) (n : ℕ) → 1 ≤ (n - 8) / (if plain then 8 else 9) → 16 ≤ n
-  long true n some = omega (arith, some)
-  long false n some = omega (arith, some)
+    long : (plain : Bool) (n : ℕ) → 1 ≤ (n - 8) / (if plain then 8 else 9) → 16 ≤ n
+    long true n some = omega (arith, some)
+    long false n some = omega (arith, some)
 
 pub more_than : (place n : ℕ) → place ≤ 8 → 16 ≤ n → place < n + 4
 more_than place n small long = omega (arith, small, long)

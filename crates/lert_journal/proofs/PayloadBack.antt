@@ -19,17 +19,17 @@ packet_back version packet by_below trace_below keys_below weighed =
     let payload = payload_of version packet in
     let items = flat_map (item_bytes version) packet.items in
     let count : (length payload - 8) / item_len version ≡ length packet.items =
-      ap (λ n. (n - 8) / item_len version) (length_payload version packet) ∙ count_back (version == 1) (length packet.items) in
+    ap (λ n. (n - 8) / item_len version) (length_payload version packet) ∙ count_back (version == 1) (length packet.items) in
     let by_is : little_number 4 payload ≡ packet.by = little_number-reads_back 4 packet.by (little_bytes 4 packet.trace ++ items) by_below in
     let trace_is : little_number 4 (drop 4 payload) ≡ packet.trace = little_number-reads_back 4 packet.trace items trace_below in
     let items_are : map (item_in version payload) (range_with_len 0 ((length payload - 8) / item_len version)) ≡ packet.items =
-      ap (λ n. map (item_in version payload) (range_with_len 0 n)) count
-      ∙ items_back (version == 1) packet.items (little_bytes 4 packet.by ++ little_bytes 4 packet.trace) 0 (from_start (version == 1)) (laid_of version packet.items keys_below weighed) in
+    ap (λ n. map (item_in version payload) (range_with_len 0 n)) count
+    ∙ items_back (version == 1) packet.items (little_bytes 4 packet.by ++ little_bytes 4 packet.trace) 0 (from_start (version == 1)) (laid_of version packet.items keys_below weighed) in
     λ i. record { by = by_is i; trace = trace_is i; items = items_are i }
   where
-  from_start : (plain : Bool) → 8 ≡ 8 + len_of plain * 0
-  from_start true = refl
-  from_start false = refl
+    from_start : (plain : Bool) → 8 ≡ 8 + len_of plain * 0
+    from_start true = refl
+    from_start false = refl
 
 -- ---- a packet that a journal may hold leaves the format nowhere
 
@@ -42,7 +42,7 @@ no_stray version s cone k (item ∷ rest) all are =
     let own : is_own s cone item ≡ true = ap₂ (λ x y. x && y) of_cone (le-leb 1 item.weight here.0) in
     ap (λ b. cond (not b) (Some k) (position_from (λ x. not (is_own s cone x)) (k + 1) rest)) own
     ∙ no_stray version s cone (k + 1) rest (All-tail (λ key. cone_of s key ≡ cone) item.key (keys_in rest) all)
-      (All-tail (λ i. (1 ≤ i.weight) × (i.weight ≤ most_weight version)) item rest are)
+    (All-tail (λ i. (1 ≤ i.weight) × (i.weight ≤ most_weight version)) item rest are)
 
 counted : (version : ℕ) (s : Numbers) (n : ℕ) → 0 < n → n ≤ 4 * s.packet → is_counted version s (8 + item_len version * n) ≡ true
 counted version s n some few =

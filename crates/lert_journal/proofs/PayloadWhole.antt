@@ -23,15 +23,15 @@ payload_back version payload small whole long =
     let trace_there : little_bytes 4 (packet_in version payload).trace ≡ take 4 behind =
     bytes_back 0 4 behind (λ j. subst (λ (b : ℕ). b < 256) (sym (get_or-drop 4 payload j 0)) (small (4 + j))) (omega (arith, long, length-drop 4 payload)) in
     let all_items : flat_map (item_bytes version) (packet_in version payload).items ≡ drop 4 behind =
-      items_there (version == 1) ((length payload - 8) / item_len version) 0 payload small (whole_len (version == 1) (length payload) whole long)
-      ∙ (ap (λ n. drop n payload) (at_start (version == 1)) ∙ sym (drop-drop 4 4 payload)) in
+    items_there (version == 1) ((length payload - 8) / item_len version) 0 payload small (whole_len (version == 1) (length payload) whole long)
+    ∙ (ap (λ n. drop n payload) (at_start (version == 1)) ∙ sym (drop-drop 4 4 payload)) in
     ap₂ (λ xs ys. xs ++ ys) (ap₂ (λ xs ys. xs ++ ys) by_there trace_there) all_items
     ∙ (append_assoc (take 4 payload) (take 4 behind) (drop 4 behind)
     ∙ (ap (λ ys. take 4 payload ++ ys) (take-append-drop 4 behind) ∙ take-append-drop 4 payload))
   where
-  at_start : (plain : Bool) → 8 + (if plain then 8 else 9) * 0 ≡ 8
-  at_start true = refl
-  at_start false = refl
+    at_start : (plain : Bool) → 8 + (if plain then 8 else 9) * 0 ≡ 8
+    at_start true = refl
+    at_start false = refl
 
 -- ---- no rule is broken
 
@@ -64,19 +64,19 @@ all_own s cone k (item ∷ rest) none =
 weight_most : (version : ℕ) (payload : List ℕ) → ((k : ℕ) → slice_index payload k < 256) → (n : ℕ) → (item_in version payload n).weight ≤ most_weight version
 weight_most version payload small n = most (version == 1)
   where
-  most : (plain : Bool) → (if plain then 1 else slice_index payload (16 + item_len version * n)) ≤ (if plain then 1 else 255)
-  most true = omega arith
-  most false = omega (arith, small (16 + item_len version * n))
+    most : (plain : Bool) → (if plain then 1 else slice_index payload (16 + item_len version * n)) ≤ (if plain then 1 else 255)
+    most true = omega arith
+    most false = omega (arith, small (16 + item_len version * n))
 
 all_most : (version : ℕ) (payload : List ℕ) → ((k : ℕ) → slice_index payload k < 256) → (m k : ℕ) →
     All (λ item. 1 ≤ item.weight) (map (item_in version payload) (range_with_len k m)) → AreOfVersion version (map (item_in version payload) (range_with_len k m))
 all_most version payload small m k some = λ j d below. (some j d below, weights m k j d below)
   where
-  weights : (m k j : ℕ) (d : Item) → j < length (map (item_in version payload) (range_with_len k m)) →
-      (slice_index_or (map (item_in version payload) (range_with_len k m)) j d).weight ≤ most_weight version
-  weights zero k j d below = absurd (omega (arith, below))
-  weights (suc m) k zero d below = weight_most version payload small k
-  weights (suc m) k (suc j) d below = weights m (k + 1) j d (omega (arith, below))
+    weights : (m k j : ℕ) (d : Item) → j < length (map (item_in version payload) (range_with_len k m)) →
+        (slice_index_or (map (item_in version payload) (range_with_len k m)) j d).weight ≤ most_weight version
+    weights zero k j d below = absurd (omega (arith, below))
+    weights (suc m) k zero d below = weight_most version payload small k
+    weights (suc m) k (suc j) d below = weights m (k + 1) j d (omega (arith, below))
 
 -- where they weigh what the version allows, each weighs something
 weighs_from : (version : ℕ) (payload : List ℕ) (m k j : ℕ) → AreOfVersion version (map (item_in version payload) (range_with_len k m)) → j < m →
@@ -112,14 +112,14 @@ whole_packet version s cone payload small none =
     let few : items ≤ 4 * s.packet = leb-true items (4 * s.packet) bounds.1 in
     let long : length packet.items ≡ items = length-map-range_with_len (item_in version payload) 0 items in
     let own = all_own s cone 0 packet.items (none_of (stray_place version s cone payload) stray trace.1) in
-      record {
-        some = omega (arith, some, long);
-        few = omega (arith, few, long);
-        by_most = ltb-false 63 packet.by by.0;
-        trace_most = ltb-false 1023 packet.trace trace.0;
-        of_cone = own.0;
-        weighed = all_most version payload small items 0 own.1;
-      }
+    record {
+      some = omega (arith, some, long);
+      few = omega (arith, few, long);
+      by_most = ltb-false 63 packet.by by.0;
+      trace_most = ltb-false 1023 packet.trace trace.0;
+      of_cone = own.0;
+      weighed = all_most version payload small items 0 own.1;
+    }
 
 -- its length is that of whole items
 pub whole_items : (version : ℕ) (s : Numbers) (cone : ℕ) (payload : List ℕ) → left version s cone payload ≡ None →
@@ -135,6 +135,6 @@ whole_items version s cone payload none =
     let bounds = and_parts (nat_le 1 items) (nat_le items (4 * s.packet)) counted.1 in
     (eqb-true ((length payload - 8) % item_len version) 0 counted.0, over_eight (version == 1) (length payload) (leb-true 1 items bounds.0))
   where
-  over_eight : (plain : Bool) (n : ℕ) → 1 ≤ (n - 8) / (if plain then 8 else 9) → 8 ≤ n
-  over_eight true n some = omega (arith, some)
-  over_eight false n some = omega (arith, some)
+    over_eight : (plain : Bool) (n : ℕ) → 1 ≤ (n - 8) / (if plain then 8 else 9) → 8 ≤ n
+    over_eight true n some = omega (arith, some)
+    over_eight false n some = omega (arith, some)

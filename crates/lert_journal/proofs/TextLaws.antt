@@ -39,5 +39,5 @@ weighed_more (key ∷ keys) [] n below same = absurd (omega (arith, same))
 weighed_more (key ∷ keys) (weight ∷ weights) zero below same = refl
 weighed_more (key ∷ keys) (weight ∷ weights) (suc n) below same =
     append_assoc (item_bytes 2 (record { key = key; weight = weight })) (flat_map (item_bytes 2) (items_of (take n keys) (take n weights)))
-      (little_bytes 8 (get_or keys n 0) ++ get_or weights n 0 ∷ [])
+    (little_bytes 8 (get_or keys n 0) ++ get_or weights n 0 ∷ [])
     ∙ ap (λ rest. item_bytes 2 (record { key = key; weight = weight }) ++ rest) (weighed_more keys weights n (omega (arith, below)) (omega (arith, same)))

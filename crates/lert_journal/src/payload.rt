@@ -98,7 +98,11 @@ fn stray_spot(settings: &Settings, cone: u32, item: Item, version: u8) -> usize
     ensures value { result ≡ stray_spot version settings.now cone item }
     ensures within { result < item_len version }
 {
-    if cone_of(settings, item.key) == cone { item_len(version) - 1 } else { 0 }
+    if cone_of(settings, item.key) == cone {
+        item_len(version) - 1
+    } else {
+        0
+    }
 }
 
 // The item with a number, from 0.

@@ -32,7 +32,7 @@ oldest_at h first rows young k e len below some =
 
 -- one of some bins
 bins_at : (version limit : ℕ) (widths : List ℕ) (lists : List (List Piece)) (k : ℕ) → AreBins version limit widths lists → k < length lists →
-  Fills version limit (get_or widths k 0) (get_or lists k [])
+    Fills version limit (get_or widths k 0) (get_or lists k [])
 bins_at version limit [] [] k are below = absurd (omega arith)
 bins_at version limit [] (list ∷ lists) k are below = absurd are
 bins_at version limit (width ∷ widths) [] k are below = absurd are

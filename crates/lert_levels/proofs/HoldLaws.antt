@@ -96,8 +96,13 @@ text_fits : (s : Numbers) (version : ℕ) (events : List ℕ) (level : ℕ) (bin
     length (frame_text s level (tallied_in s events bin)) ≤ frame_len s version level
 text_fits s version events level bin valid last narrow =
     let keys = slice_range events bin.from bin.to in
-    text_within s version level (tallied s keys) valid last (IsTable-tallied s keys) (omega (arith, narrow, costs_to version (tallied s keys),
-      total-tallied s keys, length-take (bin.to - bin.from) (drop bin.from events)))
+    text_within s version level (tallied s keys) valid last (IsTable-tallied s keys) (omega (
+      arith,
+      narrow,
+      costs_to version (tallied s keys),
+      total-tallied s keys,
+      length-take (bin.to - bin.from) (drop bin.from events),
+    ))
 
 -- after a flush the frames hold the bins of the rows as they are then
 pub holds_moved : (s : Numbers) (version : ℕ) (m : ℕ) (events : List ℕ) (rows : List (List BinAt)) (made : List (List Piece)) (old new : Files) → IsValid s → length rows ≡ s.levels →

@@ -40,7 +40,7 @@ begun_wide s version young rows bins k begun =
 -- ---- what a merge took
 
 module _ (s : Numbers) (version : ℕ) (valid : IsValid s) (young : List Bin) (rows : List (List BinAt)) (are : AreFirst s rows) (bins : List Stream)
-  (begun : AreBegun s version (sources young rows) bins)
+    (begun : AreBegun s version (sources young rows) bins)
     (took : List Piece → Type 0) (before : Option Files) (lists : List (List Piece)) (len : length lists ≡ length bins)
     (given : (k : ℕ) → k < length bins → AreGiven (limit_at limit_of bins k) (get_or lists k []))
     (fits : (k : ℕ) → k < length bins → costs (limit_at (version_of version) bins k) (get_or lists k []) ≤ limit_at (wide_of version) bins k) (totals_are : took (sums_of lists))

@@ -69,7 +69,7 @@ any_named P young rows any = in_rows P 1 rows (⊎_elim (λ never. absurd (no_yo
 -- ---- where one leaves its format
 
 begun_leaves : (s : Numbers) (version : ℕ) (some : List Source) (bins : List Stream) (k at : ℕ) (told : Option Files) (seen : Files) → told ≡ Some seen →
-  AreBegun s version some bins → LeavesIn told bins k at →
+    AreBegun s version some bins → LeavesIn told bins k at →
     AnyOf (λ p. frame_left s version p.level p.bin.frame (width_of p.bin) (seen FRAMES) ≡ Some at) some
 begun_leaves s version some [] k at told seen told_is are leaves = absurd leaves
 begun_leaves s version (of_bin p ∷ some) (of_frame r ∷ bins) zero at told seen told_is are leaves = inl (sym (are.0.left (seen FRAMES)) ∙ leaves seen told_is)
@@ -104,7 +104,7 @@ abbrev pub StandsAt : Numbers → ℕ → ℕ → ℕ → Placed → Type 0
 StandsAt s version from to p = (frame_place s version p.level p.bin.frame ≤ from) × (to ≤ frame_place s version p.level p.bin.frame + frame_len s version p.level)
 
 reader_end : (s : Numbers) (version : ℕ) (p : Placed) (r : FrameReader) → IsReaderOf s version p r →
-  r.place + frame_len r.settings r.version r.level ≡ frame_place s version p.level p.bin.frame + frame_len s version p.level
+    r.place + frame_len r.settings r.version r.level ≡ frame_place s version p.level p.bin.frame + frame_len s version p.level
 reader_end s version p r is = λ i. is.place i + frame_len (is.of_settings i) (is.of_version i) (is.of_level i)
 
 begun_stands : (s : Numbers) (version : ℕ) (some : List Source) (bins : List Stream) (from to : ℕ) → AreBegun s version some bins → Reads bins from to → AnyOf (StandsAt s version from to) some
@@ -192,11 +192,11 @@ begun_sure_of s version file (x ∷ some) [] are secure = absurd are
 
 -- secure frames are sure
 pub begun_sure : (s : Numbers) (version : ℕ) (file : List ℕ) (young : List Bin) (rows : List (List BinAt)) (bins : List Stream) →
-  AreBegun s version (sources young rows) bins → AreSecure s version file 1 rows →
+    AreBegun s version (sources young rows) bins → AreSecure s version file 1 rows →
     AreSure bins file
 begun_sure s version file young rows bins are secure =
     begun_sure_of s version file (sources young rows) bins are (all_append (IsSecure s version file) (map of_young young) (map of_bin (placed 1 rows))
-      (all_young (IsSecure s version file) young) secure)
+    (all_young (IsSecure s version file) young) secure)
 
 -- ---- row by row
 
@@ -253,7 +253,7 @@ begins_reader s version old new level frame width bin settings version_is frame_
 
 -- one more of a row
 pub begun_bin : (s : Numbers) (version : ℕ) (before : List Source) (row : List BinAt) (i : ℕ) (d : BinAt) (old new : BinSet) (level frame width : ℕ) →
-  i < length row → old.settings ≡ s → old.version ≡ version →
+    i < length row → old.settings ≡ s → old.version ≡ version →
     frame ≡ (get_or row i d).frame → width ≡ width_of (get_or row i d) → Begins old new level frame width →
     AreBegun s version (before ++ map of_bin (map (placed_at level) (take i row))) old.bins → AreBegun s version (before ++ map of_bin (map (placed_at level) (take (i + 1) row))) new.bins
 begun_bin s version before row i d old new level frame width below settings version_is frame_is width_is begins so_far =
@@ -271,7 +271,7 @@ begun_bin s version before row i d old new level frame width below settings vers
 -- one level more
 pub begun_row : (s : Numbers) (version : ℕ) (before : List Source) (rows : List (List BinAt)) (i : ℕ) (now : List BinAt) (bins : List Stream) → get_or rows i [] ≡ now → i < length rows →
     AreBegun s version ((before ++ map of_bin (placed 1 (take i rows))) ++ map of_bin (map (placed_at (i + 1)) now)) bins →
-      AreBegun s version (before ++ map of_bin (placed 1 (take (i + 1) rows))) bins
+    AreBegun s version (before ++ map of_bin (placed 1 (take (i + 1) rows))) bins
 begun_row s version before rows i now bins here below are =
     subst (λ (xs : List Source). AreBegun s version xs bins)
     (append_assoc before (map of_bin (placed 1 (take i rows))) (map of_bin (map (placed_at (i + 1)) now)) ∙ ap (λ xs. before ++ xs) (sym (placed_row rows i now here below))) are

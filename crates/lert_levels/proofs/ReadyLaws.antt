@@ -82,9 +82,9 @@ pub stand_all : {B : Type 0} (bays : Bays B) (old new : List Landing) (before mi
     map home new ≡ map home old → AreLandings s version old → KeepsRest bays (IsOutside old) before middle → KeepsRest bays (IsOutside new) middle after →
     IfTold (bays.files before) (λ seen. AreLanding old (seen FRAMES)) →
     ((s : Numbers) (version : ℕ) → AreLandings s version old → IfTold (bays.files before) (λ seen. AreLanding old (seen FRAMES) →
-      IfTold (bays.files middle) (λ after. AreLanding new (after FRAMES)))) →
+    IfTold (bays.files middle) (λ after. AreLanding new (after FRAMES)))) →
     ((s : Numbers) (version : ℕ) → AreLandings s version new → IfTold (bays.files middle) (λ seen. AreLanding new (seen FRAMES) →
-      IfTold (bays.files after) (λ after. HaveEnded s version new (after FRAMES)))) →
+    IfTold (bays.files after) (λ after. HaveEnded s version new (after FRAMES)))) →
     ((k : ℕ) (d : Landing) → k < length new → taken (get_or new k d) ≡ sums_of (picked parts k lists)) → bays.files after ≡ Some seen →
     (k : ℕ) (d : Landing) → k < length old → HoldsFrame s version (k + 1) (get_or old k d).frame (seen FRAMES) (sums_of (picked parts k lists))
 stand_all bays old new before middle after s version parts lists seen homes are rest_one rest_two landing merged ended took told k d below =
@@ -105,7 +105,7 @@ first_landings s n landings are k d below =
     subst (IsOfLevel s (k + 1)) (sym (get_or-take n landings k d reached)) (are k d (omega (arith, below, length-take n landings)))
 
 pub first_started : (s : Numbers) (version : ℕ) (m : ℕ) (rows : List (List BinAt)) (n : ℕ) (landings : List Landing) → length rows ≤ n →
-  AreStarted s version m rows landings → AreStarted s version m rows (take n landings)
+    AreStarted s version m rows landings → AreStarted s version m rows (take n landings)
 first_started s version m rows n landings few started = record {
   frame = λ k d below. ap (λ (l : Landing). l.frame) (get_or-take n landings k d (omega (arith, below, few))) ∙ started.frame k d below;
   of_version = λ k d below. ap (λ (l : Landing). l.writer.version) (get_or-take n landings k d (omega (arith, below, few))) ∙ started.of_version k d below;

@@ -17,7 +17,7 @@ use Rattle.lert_spec.specs.{Bins.Bin, Edges.{span, tail_bits}, Limits.IsValid, T
 -- ---- the sources
 
 pub begun_more : (s : Numbers) (version : ℕ) (some more : List Source) (bins others : List Stream) → AreBegun s version some bins → AreBegun s version more others →
-  AreBegun s version (some ++ more) (bins ++ others)
+    AreBegun s version (some ++ more) (bins ++ others)
 begun_more s version [] more [] others one two = two
 begun_more s version (x ∷ some) more (b ∷ bins) others one two = (one.0, begun_more s version some more bins others one.1 two)
 begun_more s version [] more (b ∷ bins) others one two = absurd one
@@ -248,7 +248,7 @@ young_begun s version bits pieces (t ∷ tables) (bin ∷ young) same rooms widt
 
 -- and behind them the rows
 pub all_begun : {T : Type 0} (s t : Numbers) (version : ℕ) (bits : T → ℕ) (pieces : T → List Piece) (tables : List T) (young : List Bin)
-  (rows : List (List BinAt)) (first after : List Stream) → t ≡ s →
+    (rows : List (List BinAt)) (first after : List Stream) → t ≡ s →
     map pieces tables ≡ map (λ (bin : Bin). bin.pieces) young → All (λ table. bits table ≡ tail_bits s) tables → AreLight version young →
     first ≡ map of_table (map (fresh_bin bits pieces) tables) → ((k : ℕ) (d : T) → k < length tables → to_come_at None first k ≡ Some (pieces (get_or tables k d))) →
     ((before : List Source) → AreBegun t version before first → AreBegun t version (before ++ map of_bin (placed 1 rows)) after) → AreBegun s version (sources young rows) after

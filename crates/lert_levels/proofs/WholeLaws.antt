@@ -17,7 +17,7 @@ whole_by (Some at) pieces told = absurd (told refl)
 
 -- one of which something is to come
 one_whole : (s : Numbers) (version : ℕ) (p : Placed) (r : FrameReader) (told : Option Files) (seen : Files) → told ≡ Some seen → IsReaderOf s version p r →
-  told_of told r ≢ None → IsWhole s version (seen FRAMES) p
+    told_of told r ≢ None → IsWhole s version (seen FRAMES) p
 one_whole s version p r told seen told_is reader coming =
     sym (reader.left (seen FRAMES))
     ∙ whole_by (left_of r (seen FRAMES)) (pieces_of r (seen FRAMES)) (λ none. coming (ap (λ files. told_of files r) told_is ∙ none))

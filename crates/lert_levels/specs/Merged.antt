@@ -25,7 +25,7 @@ AreBins version limit widths lists = AllZip (Fills version limit) widths lists
 -- what a merge of these streams took, from some lists: they fill bins of their widths, and are those that the frames hold, where
 -- they stand in the file. None of the frames leaves its format.
 pub record IsMade (s : Numbers) (version : ℕ) (young : List Bin) (rows : List (List BinAt)) (parts : List Part) (took : List Piece → Type 0)
-  (file_is : List ℕ → Type 0) (made : List (List Piece)) : Type 0
+    (file_is : List ℕ → Type 0) (made : List (List Piece)) : Type 0
   where
     pub lists : List (List Piece)
     pub bins : AreBins version (tail_limit s) (widths_of young rows) lists

@@ -28,5 +28,5 @@ units_of_version version [] = All-nil (λ i. (1 ≤ i.weight) × (i.weight ≤ m
 units_of_version version (key ∷ keys) =
     All-cons (λ i. (1 ≤ i.weight) × (i.weight ≤ most_weight version)) (unit key) (units keys) (omega arith, one_at_most version) (units_of_version version keys)
   where
-  one_at_most : (n : ℕ) → 1 ≤ most_weight n
-  one_at_most n = grind arith
+    one_at_most : (n : ℕ) → 1 ≤ most_weight n
+    one_at_most n = grind arith

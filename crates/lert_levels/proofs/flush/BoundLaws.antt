@@ -114,7 +114,7 @@ module _ {S C : Type 0} (members : StreamsOf S C) (version width : S → ℕ →
         )
 
     pub part_fits : (number : ℕ) → ((k : ℕ) → k < n → version first.streams k ≡ number) → (parts : List (Option ℕ)) → length parts ≡ n → (part : ℕ) →
-      is_of (get_or parts next.0 None) part ≡ true → (widths : List ℕ) → AreWide width first.streams widths n →
+        is_of (get_or parts next.0 None) part ≡ true → (widths : List ℕ) → AreWide width first.streams widths n →
         costs number (sums_of (picked parts part lists)) + cost number next.1.count ≤ sum (picked parts part widths)
     part_fits number versions parts len part own widths wide =
         let f : List Piece → ℕ = costs number in
@@ -138,7 +138,7 @@ module _ {S C : Type 0} (members : StreamsOf S C) (version width : S → ℕ →
 
     -- the landing of a part can take the piece
     pub can_take : (s : Numbers) (number : ℕ) → ((k : ℕ) → k < n → version first.streams k ≡ number) → ((k : ℕ) → k < n → members.limit first.streams k ≤ tail_limit s) →
-      (parts : List (Option ℕ)) → length parts ≡ n → (part : ℕ) →
+        (parts : List (Option ℕ)) → length parts ≡ n → (part : ℕ) →
         is_of (get_or parts next.0 None) part ≡ true → (widths : List ℕ) → AreWide width first.streams widths n → sum (picked parts part widths) ≤ span s (part + 1) →
         (l : Landing) → IsLandingOf s number (part + 1) l → taken l ≡ sums_of (picked parts part lists) → CanTake l next.1
     can_take s number versions limits parts len part own widths wide room l is taken_is =

@@ -12,7 +12,7 @@ module _ (s : Numbers) (version : ℕ) (level frame other_level other : ℕ) (fi
     (differ : other_level ≢ level) where
   -- a range in the place of the one is apart from that of the other
   pub inside_apart : (from to : ℕ) → frame_place s version other_level other ≤ from → to ≤ frame_place s version other_level other + frame_len s version other_level →
-    IsApart s version level frame from to
+      IsApart s version level frame from to
   inside_apart from to low high = elim (places_apart s version level frame other_level other first within other_first other_within (inl differ)) [
     | inl before ↦ inl (omega (arith, before, high))
     | inr behind ↦ inr (omega (arith, behind, low))
@@ -20,7 +20,7 @@ module _ (s : Numbers) (version : ℕ) (level frame other_level other : ℕ) (fi
 
   -- files that changed in the place of the one read the same in that of the other
   pub same_place : (old new : Files) → LeavesRest (IsApart s version level frame) old new →
-    SamePlace (frame_place s version other_level other) (frame_len s version other_level) (old FRAMES) (new FRAMES)
+      SamePlace (frame_place s version other_level other) (frame_len s version other_level) (old FRAMES) (new FRAMES)
   same_place old new leaves =
       let place = frame_place s version other_level other in
       let end = min (place + frame_len s version other_level) (length (old FRAMES)) in

@@ -64,7 +64,7 @@ module _ (l : Landing) (piece : Piece) (can : CanTake l piece) where
 
   -- it is taken once the writer and the sum have the table with it
   module _ (w : FrameWriter) (sum : Sum) (settings : w.settings ≡ l.writer.settings) (version : w.version ≡ l.writer.version) (level : w.level ≡ l.writer.level)
-    (all_is : whole w.put sum ≡ plus (taken l) piece.tail piece.count) where
+      (all_is : whole w.put sum ≡ plus (taken l) piece.tail piece.count) where
     pub taking_after : w.frame ≡ l.writer.frame → IsSomeAnd sum.last (λ (p : Piece). p.tail ≡ piece.tail) → Taking w l.version l.frame sum
     taking_after frame last = record {
       taking = record {

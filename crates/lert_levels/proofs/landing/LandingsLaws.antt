@@ -17,7 +17,7 @@ same_home : (old new : Landing) → SameLanding old new → home new ≡ home ol
 same_home old new same = λ i. record { settings = same.settings i; version = same.version i; level = same.level i; frame = same.frame i }
 
 leaves_turned : (s : Numbers) (version : ℕ) (level : ℕ) (l : Landing) (old new : Files) → IsLandingOf s version level l →
-  LeavesRest (IsApart l.writer.settings l.writer.version l.writer.level l.frame) old new →
+    LeavesRest (IsApart l.writer.settings l.writer.version l.writer.level l.frame) old new →
     LeavesRest (IsApart s version level l.frame) old new
 leaves_turned s version level l old new is leaves =
     subst (λ (m : Numbers). LeavesRest (IsApart m version level l.frame) old new) is.settings
@@ -88,7 +88,7 @@ module _ (s : Numbers) (version : ℕ) (landings : List Landing) (are : AreLandi
 
   half_more : (old new : Files) → LeavesRest (IsApart l.writer.settings l.writer.version l.writer.level l.frame) old new →
       HoldsFrame l.writer.settings l.writer.version l.writer.level l.frame (new FRAMES) (taken l) → AreHalfLanded s version landings i (old FRAMES) →
-        AreHalfLanded s version landings (i + 1) (new FRAMES)
+      AreHalfLanded s version landings (i + 1) (new FRAMES)
   half_more old new leaves holds half =
       let turned = leaves_turned s version (i + 1) l old new own leaves in
       let within = frame_within s version (i + 1) l own in
@@ -105,7 +105,7 @@ module _ (s : Numbers) (version : ℕ) (landings : List Landing) (are : AreLandi
               subst (λ (n : ℕ). HoldsFrame s version (n + 1) (get_or landings n d).frame (new FRAMES) (taken (get_or landings n d))) same
               (subst (λ (x : Landing). HoldsFrame s version (i + 1) x.frame (new FRAMES) (taken x)) here
               (holds_turned l.writer.settings s l.writer.version version l.writer.level (i + 1) l.frame l.frame (new FRAMES) (taken l)
-                (taken l) own.settings own.version_is own.level_is refl refl holds)))
+              (taken l) own.settings own.version_is own.level_is refl refl holds)))
         ];
         landing = λ k d past under. (
             let x = get_or landings k d in
@@ -158,5 +158,5 @@ module _ {B : Type 0} (bays : Bays B) (lawful : IsLawful bays) (landings now : L
 
 -- all of them ended
 pub ended_all : (s : Numbers) (version : ℕ) (landings : List Landing) (count : ℕ) (file : List ℕ) → length landings ≤ count → AreHalfLanded s version landings count file →
-  HaveEnded s version landings file
+    HaveEnded s version landings file
 ended_all s version landings count file all half k d below = half.landed k d (omega (arith, all, below))

@@ -49,7 +49,7 @@ bins_left-append s version file level (row ∷ rows) others =
     ap (λ left. map (bin_left s version file level) row ++ left) (bins_left-append s version file (suc level) rows others)
     ∙ sym (append_assoc (map (bin_left s version file level) row) (bins_left s version file (suc level) rows) (bins_left s version file (suc level + length rows) others))
     ∙ ap (λ l. (map (bin_left s version file level) row ++ bins_left s version file (suc level) rows) ++ bins_left s version file l others)
-      (let same : suc level + length rows ≡ level + suc (length rows) =
+    (let same : suc level + length rows ≡ level + suc (length rows) =
     omega arith in same)
 
 module _ (s : Numbers) (version : ℕ) (file : List ℕ) (rows : List (List BinAt)) (i : ℕ) (now : List BinAt) (here : get_or rows i [] ≡ now) (below : i < length rows)
@@ -96,7 +96,7 @@ rows_whole s version file level (row ∷ rows) whole =
     (whole 0 (omega arith)) in
     first_behind (map (bin_left s version file level) row) (bins_left s version file (suc level) rows) (row_whole (bin_left s version file level) row here)
     ∙ rows_whole s version file (suc level) rows (λ k below. subst (λ l. All (λ bin. bin_left s version file l bin ≡ None) (get_or rows k []))
-      (let same : level + suc k ≡ suc level + k = omega arith in
+    (let same : level + suc k ≡ suc level + k = omega arith in
     same) (whole (suc k) (omega arith)))
 
 -- bins of rows that all stand leave their format nowhere

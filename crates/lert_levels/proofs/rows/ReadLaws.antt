@@ -44,7 +44,7 @@ malformed_there (Err fault) (PieceMalformed there) at gave is = ap PieceMalforme
 -- a bin whose pieces and text the file has stands there
 pub checked_stands : {E : Type 0} (result : Result (Unit {0}) E) (s : Numbers) (version : ℕ) (level : ℕ) (bin : BinAt) (frame : ℕ) (file : List ℕ) → frame ≡ bin.frame →
     OnOk result (IsBin version (tail_limit s) (width_of bin) (frame_pieces s version level frame file)) →
-      OnOk result (HoldsFrame s version level frame file (frame_pieces s version level frame file)) →
+    OnOk result (HoldsFrame s version level frame file (frame_pieces s version level frame file)) →
     OnOk result (Stands s version level file (pieces_in s version file level) bin)
 checked_stands (Err fault) s version level bin frame file same is holds = tt
 checked_stands (Ok x) s version level bin frame file same is holds = record {

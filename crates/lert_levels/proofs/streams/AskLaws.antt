@@ -202,8 +202,12 @@ module _ {T K : Type 0} {bits : T → ℕ} {left : T → K → List Piece} {gave
       within = kept.within;
     }
 
-    pub table_asked : {spare : ℕ} {seen : BinSet} → record { settings = s; version = version; bins = all_streams (bins_at bits left gave tables cursors) frames readers;
-      spare = spare } ≡ seen → {before : Option Files} →
+    pub table_asked : {spare : ℕ} {seen : BinSet} → record {
+      settings = s;
+      version = version;
+      bins = all_streams (bins_at bits left gave tables cursors) frames readers;
+      spare = spare;
+    } ≡ seen → {before : Option Files} →
         Asked before before seen (record { settings = s; version = version; bins = all_streams (bins_at bits left gave tables (set cursors i after)) frames readers; spare = spare }) i (Ok piece)
     table_asked {spare} {seen} is {before} =
         subst (λ (bins : List TableBin). Asked before before seen (record { settings = s; version = version; bins = all_streams bins frames readers; spare = spare }) i (Ok piece)) (sym with_it)

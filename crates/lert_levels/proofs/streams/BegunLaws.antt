@@ -93,7 +93,7 @@ module _ {old new : BinSet} {level frame width : ℕ} (begins : Begins old new l
 
   -- the end of its place
   end_is : begins.reader.place + frame_len begins.reader.settings begins.reader.version begins.reader.level ≡ frame_place old.settings old.version
-    level frame + frame_len old.settings old.version level
+      level frame + frame_len old.settings old.version level
   end_is = λ i. begins.place i + frame_len (begins.of_settings i) (begins.of_version i) (begins.of_level i)
 
   pub begun_sure : (file : List ℕ) → AreSure old.bins file → (frame_place old.settings old.version level frame + frame_len old.settings old.version level ≤ length file)

@@ -42,8 +42,8 @@ first_stray-requires c = at_least 8 _ (omega arith) (counted_long c.args.version
 pub returns-in_err-stray : goal.returns-in_err-stray
 returns-in_err-stray c =
     let none = left_by_item c.args.version c.args.settings.now c.args.cone c.args.payload.now (sym c.is_counted.ensures ∙ c.if-not-is_counted.false)
-      (subst (λ n. n ≤ 63) c.read_u32.ensures c.if-read_u32-gt-MOST_BY.false)
-      (subst (λ n. n ≤ 1023) (c.read_u32-2.ensures ∙ trace_there c.args.payload.now) c.if-read_u32-gt-MOST_TRACE.false) _ c.in_err-stray.ensures.first in
+    (subst (λ n. n ≤ 63) c.read_u32.ensures c.if-read_u32-gt-MOST_BY.false)
+    (subst (λ n. n ≤ 1023) (c.read_u32-2.ensures ∙ trace_there c.args.payload.now) c.if-read_u32-gt-MOST_TRACE.false) _ c.in_err-stray.ensures.first in
     rw c.from_residual.ensures (record {
       within = tt;
       place = none;
@@ -60,7 +60,7 @@ returns c =
       holds = tt;
       place = ap₂ (λ (e : ℕ) (spot : ℕ). Some (12 + e * n + spot)) each
           (c.stray_spot.ensures.value ∙ ap (stray_spot c.args.version c.args.settings.now c.args.cone) c.item_in-item.ensures)
-        ∙ left_by_item c.args.version c.args.settings.now c.args.cone c.args.payload.now (sym c.is_counted.ensures ∙ c.if-not-is_counted.false)
+          ∙ left_by_item c.args.version c.args.settings.now c.args.cone c.args.payload.now (sym c.is_counted.ensures ∙ c.if-not-is_counted.false)
           (subst (λ n. n ≤ 63) c.read_u32.ensures c.if-read_u32-gt-MOST_BY.false)
           (subst (λ n. n ≤ 1023) (c.read_u32-2.ensures ∙ trace_there c.args.payload.now) c.if-read_u32-gt-MOST_TRACE.false) _ c.in_ok-stray.ensures.first;
     }

@@ -10,7 +10,7 @@ use Rattle.lert_levels.proofs.merger.begin_order.Goals as goal
 begun : (g : given.Over) (c : After-read_rows g) → AreBegun c.args.zero.now.settings c.args.version (sources c.args.zero.now.bins c.args.rows.now) c.read_rows.new.streams.bins
 begun g c =
     all_begun c.args.zero.now.settings c.settings-settings.result.now c.args.version (λ table. g.T.CountTable.quotient_bits table + g.T.CountTable.width table)
-      g.T.CountTable.pieces c.tables.result.now
+    g.T.CountTable.pieces c.tables.result.now
     c.args.zero.now.bins c.args.rows.now c.begin-streams.result.bins c.read_rows.new.streams.bins c.settings-settings.ensures c.tables.ensures.pieces
     (λ k d below. (c.tables.ensures.rooms k d below).1) c.requires.light c.begin-streams.ensures.bins (c.begin-streams.ensures.coming None)
     (subst (λ v. (before : List Source) → AreBegun c.settings-settings.result.now v before c.begin-streams.result.bins →

@@ -54,7 +54,7 @@ loop-lower-preserved c =
     record {
       len = length-set c.loop-lower.landings i c.start.new.self ∙ was.len;
       started = set_more (λ k (l : Landing). (l.frame ≡ landing_frame s c.args.m c.args.rows.now k) × (l.writer.version ≡ c.args.version) × (taken l ≡ [])
-        × ((file : List ℕ) → IsLanding l file)) c.loop-lower.landings i
+          × ((file : List ℕ) → IsLanding l file)) c.loop-lower.landings i
           c.start.new.self below was.started (begun.frame ∙ frame_is at.After-from (here at.After-bins), begun.version, begun.taken, begun.landing);
       landings = landings_set s c.loop-lower.landings i c.start.new.self below was.landings
           (record { settings = begun.settings ∙ is.settings; level_is = begun.level ∙ is.level_is });

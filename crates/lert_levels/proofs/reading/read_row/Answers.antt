@@ -36,7 +36,7 @@ loop-bin-preserved g c =
     let begins = c.read.ensures.begins in
     record {
       begun = λ before are. begun_bin c.args.streams.now.settings c.args.streams.now.version before c.args.row.now c.loop-bin.bin-index nothing
-        c.loop-bin.streams c.read.new.self c.args.level c.from.result _
+          c.loop-bin.streams c.read.new.self c.args.level c.from.result _
           c.loop-bin-test.true is.settings is.version c.from.ensures refl begins (is.begun before are);
       settings = begins.settings ∙ is.settings;
       version = begins.version ∙ is.version;

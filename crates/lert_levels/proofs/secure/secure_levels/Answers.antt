@@ -71,7 +71,7 @@ returns-in_err-secure_row g c =
         number = i;
         within = c.loop-lower-test.true;
         breaks = hand_from (λ t row. RowBreaks t c.args.version (i + 1) row (seen FRAMES) at) c.args.settings.now _ c.args.rows.now i now
-          (here g (goal.at.returns-in_err-secure_row g c).After-bins) is.room
+            (here g (goal.at.returns-in_err-secure_row g c).After-bins) is.room
             (e.malformed seen (is.only_reads.seen ∙ told) at (same_err _ _ broken));
       };
       room = e.room ∙ is.room;

@@ -48,9 +48,9 @@ loop-bin-preserved g c =
       secure = λ seen told long.
           row_more (IsSecure s c.args.version (seen FRAMES)) level c.args.row.now i no_bin c.loop-bin-test.true (is.secure seen told long)
           (subst (λ (frame : ℕ). (frame_place s c.args.version level frame + frame_len s c.args.version level ≤ length (seen FRAMES)) ⊎
-            (frame_left s c.args.version level frame (width_of bin) (seen FRAMES) ≡ None)) c.from.ensures
+          (frame_left s c.args.version level frame (width_of bin) (seen FRAMES) ≡ None)) c.from.ensures
           (subst (λ (t : Numbers). (frame_place t c.args.version level c.from.result + frame_len t c.args.version level ≤ length (seen FRAMES)) ⊎
-            (frame_left t c.args.version level c.from.result (width_of bin) (seen FRAMES) ≡ None)) is.room
+          (frame_left t c.args.version level c.from.result (width_of bin) (seen FRAMES) ≡ None)) is.room
           (e.secured seen (is.only_reads.seen ∙ told) long)));
       room = e.settings ∙ is.room;
       only_reads = reads_on (bays g) (lawful g) c.args.bay.now c.loop-bin.bay c.secure.new.bay ⊥ ⊥ is.only_reads
@@ -63,7 +63,7 @@ returns g c =
     record {
       secure = λ seen told long.
           subst (λ row. AllOf (IsSecure c.args.room.now c.args.version (seen FRAMES)) (map of_bin (map (placed_at c.args.level) row)))
-            (take_all c.loop-bin.bin-index c.args.row.now c.loop-bin-test.false)
+          (take_all c.loop-bin.bin-index c.args.row.now c.loop-bin-test.false)
           (is.secure seen told long);
       malformed = λ seen told at broken. absurd (not_err _ _ broken);
       room = is.room;

@@ -44,7 +44,7 @@ add_total-requires g c =
       omega (
         arith,
         all_fit g.S.Streams g.S.Bins.version g.S.Bins.width g.met.S.Bins.summed g.met.S.Bins.version_same g.met.S.Bins.width_same was.gathering step
-          g.met.S.Streams.same_on c.requires.room.widths c.requires.room.wide,
+            g.met.S.Streams.same_on c.requires.room.widths c.requires.room.wide,
         c.requires.room.wide.all,
       ),
     )
@@ -69,7 +69,7 @@ put_piece-requires g c =
       piece = if_some own_is (λ own. (d : Landing) → CanTake (get_or c.loop-next.landings own d) c.in-Some.next.1) (λ own is d.
           let under : own < length c.loop-next.landings = omega (arith, below own is, c.loop-next.auto.landings) in
           can_take g.S.Streams g.S.Bins.version g.S.Bins.width g.met.S.Bins.summed g.met.S.Bins.version_same g.met.S.Bins.width_same was.gathering step
-            g.met.S.Streams.same_on room.settings room.number room.of_streams room.limits parts c.requires.parts.len
+          g.met.S.Streams.same_on room.settings room.number room.of_streams room.limits parts c.requires.parts.len
           own (is_own own_is own is) room.widths room.wide (room.fits own (below own is)) (get_or c.loop-next.landings own d)
           (landings_same c.args.landings.now c.loop-next.landings was.writes.homes room.settings room.number room.landings_are own d under) (was.landed own d under));
     }
@@ -152,7 +152,7 @@ returns g c =
         lists = was.lists;
         all = taken_all was.gathering g.S.Bins.version g.S.Bins.width c.step.new.ctx c.step.new.self c.end_totals.new.totals
             (λ k below. came_fits g.S.Streams g.S.Bins.version g.S.Bins.width g.met.S.Bins.summed g.met.S.Bins.version_same g.met.S.Bins.width_same c.args.order.now c.loop-next.order k
-              (get_or was.lists k []) was.gathering.kept
+            (get_or was.lists k []) was.gathering.kept
             (omega (arith, below, was.gathering.same.streams)) (was.gathering.taken k below))
             (λ left tells. none_at c.in_ok-next.field-0 _ _ c.in_default.is (c.in_ok-next.ensures.told left tells))
             c.end_totals.ensures.took on (c.in_ok-next.ensures.over (ap Ok c.in_default.is)) c.in_ok-next.ensures.whole c.step.ensures.same c.step.ensures.untold;

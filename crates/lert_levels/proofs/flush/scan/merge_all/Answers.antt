@@ -26,7 +26,7 @@ add_total-requires g c =
       omega (
         arith,
         all_fit g.S.Streams g.S.Bins.version g.S.Bins.width g.met.S.Bins.summed g.met.S.Bins.version_same g.met.S.Bins.width_same was.gathering step
-          g.met.S.Streams.same_on c.requires.wide.0 c.requires.wide.1,
+            g.met.S.Streams.same_on c.requires.wide.0 c.requires.wide.1,
         c.requires.wide.1.all,
       ),
     )
@@ -80,7 +80,7 @@ returns g c =
         was.lists,
         taken_all was.gathering g.S.Bins.version g.S.Bins.width c.step.new.ctx c.step.new.self c.end_totals.new.totals
             (λ k below. came_fits g.S.Streams g.S.Bins.version g.S.Bins.width g.met.S.Bins.summed g.met.S.Bins.version_same g.met.S.Bins.width_same c.args.order.now c.loop-next.order k
-              (get_or was.lists k []) was.gathering.kept
+            (get_or was.lists k []) was.gathering.kept
             (omega (arith, below, was.gathering.same.streams)) (was.gathering.taken k below))
             (λ left tells. none_at c.in_ok-next.field-0 _ _ c.in_default.is (c.in_ok-next.ensures.told left tells))
             c.end_totals.ensures.took on (c.in_ok-next.ensures.over (ap Ok c.in_default.is)) c.in_ok-next.ensures.whole c.step.ensures.same c.step.ensures.untold,

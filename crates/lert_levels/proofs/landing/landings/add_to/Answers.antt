@@ -34,7 +34,7 @@ returns g c =
       landing = λ s version are seen told landing later told_later.
           landing_set xs i l new c.requires.part l_is s version are seen later
           (turns_to (LeavesRest (IsApart l.writer.settings l.writer.version l.writer.level l.frame)) (g.B.Bay.files c.args.bay.now)
-            (g.B.Bay.files c.add.new.bay) seen later e.lands.rest.seen told told_later)
+          (g.B.Bay.files c.add.new.bay) seen later e.lands.rest.seen told told_later)
           (e.lands.landing seen told (landing i c.index-landings-part.result c.requires.part) later told_later) landing;
       rest = apart_one (bays g) xs i l c.args.bay.now c.add.new.bay c.requires.part l_is e.lands.rest;
       kept = e.lands.kept;

@@ -25,7 +25,7 @@ returns g c =
     record {
       stand = λ s version are seen told landing later told_later.
           ended_all s version c.args.landings.now c.loop-landing.landing-index (later FRAMES) (omega (arith, c.loop-landing-test.false, was.len))
-            (was.stand s version are seen told landing later told_later);
+          (was.stand s version are seen told landing later told_later);
       homes = was.homes;
       rest = was.rest;
       kept = keeps_as (bays g) (lawful g) c.args.bay.now c.loop-landing.bay ⊥ _ (λ failed. false≢true failed) was.kept;

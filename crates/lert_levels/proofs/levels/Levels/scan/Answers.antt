@@ -62,7 +62,7 @@ returns g c =
       took = on_ok result _ ((list : List Piece) × took list × IsTable (tail_limit s) list) (λ is. scan_took s valid rows young [] took (IsFrames before) [] is) made;
       whole = λ seen told.
           on_ok result _ (rows_left s version (seen FRAMES) rows ≡ None) (λ is. said (λ t v rs. rows_left t v (seen FRAMES) rs ≡ None)
-            (is.whole (seen FRAMES) (record { seen = seen; told = told; is = refl })))
+          (is.whole (seen FRAMES) (record { seen = seen; told = told; is = refl })))
           e.made;
       sound = λ seen told hold stand. sound_by result (λ at is. no_break s version valid rows (seen FRAMES) hold at (all_rows s rows are) stand (malformed seen told at is));
       malformed = malformed;

@@ -18,9 +18,9 @@ returns g c =
       stand = λ seen told.
           checked_stands c.check.result s c.args.version level bin frame (seen FRAMES) c.from-frame.ensures
           (level_from (λ t l. OnOk c.check.result (IsBin c.args.version (tail_limit t) (width_of bin) (frame_pieces t c.args.version l frame (seen FRAMES))))
-            s _ level _ begun.settings begun.level (e.bin seen told))
+          s _ level _ begun.settings begun.level (e.bin seen told))
           (level_from (λ t l. OnOk c.check.result (HoldsFrame t c.args.version l frame (seen FRAMES) (frame_pieces t c.args.version l frame (seen FRAMES))))
-            s _ level _ begun.settings begun.level (e.stands seen told));
+          s _ level _ begun.settings begun.level (e.stands seen told));
       whole = λ seen told.
           subst (λ (frame : ℕ). OnOk c.check.result (frame_left s c.args.version level frame (width_of bin) (seen FRAMES) ≡ None)) c.from-frame.ensures
           (level_from (λ t l. OnOk c.check.result (frame_left t c.args.version l frame (width_of bin) (seen FRAMES) ≡ None)) s _ level _ begun.settings begun.level (e.whole seen told));

@@ -52,7 +52,7 @@ loop-lower-preserved g c =
             let same : i ≡ k = omega arith in
             subst (λ (n : ℕ). RowStands s c.args.version (seen FRAMES) (n + 1) (get_or rows n [])) same
             (hand_from (λ t row. RowStands t c.args.version (seen FRAMES) (i + 1) row) s _ rows i now (here g (goal.at.loop-lower-preserved g c).After-bins) is.reader
-              (e.stand seen (is.only_reads.seen ∙ told))))
+            (e.stand seen (is.only_reads.seen ∙ told))))
       ];
       whole = λ seen told.
           rows_more s c.args.version (seen FRAMES) rows i now (here g (goal.at.loop-lower-preserved g c).After-bins) c.loop-lower-test.true (is.whole seen told)

@@ -62,7 +62,7 @@ start-requires g c = record { version = c.args.self.now.taking.known; frame = fr
 
 pub invariant_of-self-in-Err : goal.invariant_of-self-in-Err
 invariant_of-self-in-Err g c = taking_anew c.start.new.self c.new-self.result c.start.ensures.put c.new-self.ensures c.args.self.now.version
-  c.args.self.now.frame c.args.self.now.taking.known c.start.ensures.version c.start.ensures.frame
+    c.args.self.now.frame c.args.self.now.taking.known c.start.ensures.version c.start.ensures.frame
 
 pub returns-in-Err : goal.returns-in-Err
 returns-in-Err g c =
@@ -72,7 +72,11 @@ returns-in-Err g c =
       taken = tt;
       failed = taken_none c.start.new.self c.new-self.result started.put c.new-self.ensures;
       lands = lands_wrote (bays g) c.args.self.now _ c.args.bay.now c.put.new.bay _
-          (record { settings = started.settings ∙ put.settings; version = started.version ∙ sym c.args.self.now.taking.version_is; level = started.level ∙ put.level;
-            frame = refl }) put.within put.kept
+          (record {
+            settings = started.settings ∙ put.settings;
+            version = started.version ∙ sym c.args.self.now.taking.version_is;
+            level = started.level ∙ put.level;
+            frame = refl;
+          }) put.within put.kept
           (λ seen told landing later told_later. started.writing (later FRAMES));
     }

@@ -19,7 +19,7 @@ start-requires g c = record { version = c.args.self.now.taking.known; frame = fr
 
 pub invariant_of-self : goal.invariant_of-self
 invariant_of-self g c = taking_anew c.start.new.self c.take-last.new.self c.start.ensures.put c.take-last.ensures.none c.args.self.now.version
-  c.args.self.now.frame c.args.self.now.taking.known c.start.ensures.version c.start.ensures.frame
+    c.args.self.now.frame c.args.self.now.taking.known c.start.ensures.version c.start.ensures.frame
 
 pub returns : goal.returns
 returns g c =
