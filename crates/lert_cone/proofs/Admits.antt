@@ -21,7 +21,7 @@ Admits bays packet old new result = record {
   acked : IfOk result (λ acked. acked ≡ record { from = old.events + 1; to = old.events + length (keys_of packet); reports = length new.reports });
   taken : OnOk result (new ≡ record old {
     bay = new.bay;
-    listing = record old.listing { events = old.listing.events ++ (keys_of packet) };
+    listing = record old.listing { events = old.listing.events ++ keys_of packet };
     rows = new.rows;
     reports = new.reports;
     events = old.events + length (keys_of packet);

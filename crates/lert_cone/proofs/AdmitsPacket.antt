@@ -21,7 +21,7 @@ module _ {B : Type 0} {bays : Bays B} (lawful : IsLawful bays) (packet : Packet)
     module _ {events_after reports : ℕ} (events_are : events_after ≡ events + length (keys_of packet)) (some : 0 < length (keys_of packet)) (still : tally.listing.closed ≡ false)
         (reports_are : reports ≡ length after.due.reports) (did : TakesPacket bays packet (work_at bay tally log room)
         (work_at bay_after after log_after room_after) journal journal_after (Ok tt)) where
-      is : after.listing ≡ record tally.listing { events = tally.listing.events ++ (keys_of packet) }
+      is : after.listing ≡ record tally.listing { events = tally.listing.events ++ keys_of packet }
       is = did.listing ∙ ap (λ (keys : List ℕ). record tally.listing { events = keys }) did.taken
 
       same : IsSameCone (cone_at bay made tally events state over journal.gate log last)
@@ -44,7 +44,7 @@ module _ {B : Type 0} {bays : Bays B} (lawful : IsLawful bays) (packet : Packet)
 
       new_is : ◌≡◌ {A = Standing B} (cone_at bay_after made after events_after state over journal_after.gate log_after last)
           (record (cone_at bay_after made after (events + length (keys_of packet)) state over (next_gate journal.gate (payload_of written packet)) log_after last) {
-            listing = record tally.listing { events = tally.listing.events ++ (keys_of packet) };
+            listing = record tally.listing { events = tally.listing.events ++ keys_of packet };
           })
       new_is i = record (cone_at bay_after made after (events_are i) state over ((ap (λ (j : Log). j.gate) did.moved) i) log_after last) { listing = is i }
 

@@ -42,7 +42,7 @@ but_last_more history packet = take_at history (packet ∷ []) (length (history 
 pub partway_packet : (s : Numbers) (history : List Packet) (packet : Packet) (events : List ℕ) → events ≡ events_of history → IsPartway s (history ++ packet ∷ []) events (keys_of packet)
 partway_packet s history packet events keys = record {
   rest = [];
-  is = events_more history packet ∙ ap (λ ks. ks ++ (keys_of packet)) (sym keys) ∙ ap (λ ks. events ++ ks) (sym (append-nil (keys_of packet)));
+  is = events_more history packet ∙ ap (λ ks. ks ++ keys_of packet) (sym keys) ∙ ap (λ ks. events ++ ks) (sym (append-nil (keys_of packet)));
   late = omega (arith, ap (λ ks. last_flush s (length ks)) keys, ap (λ h. last_flush s (length (events_of h))) (but_last_more history packet));
 }
 
@@ -112,7 +112,7 @@ module _ (leaves since : Files → Type 0) (seen : Files) (t : Tallied) (log : L
   partway_none : IsPartway t.listing.settings (history ++ packet ∷ []) t.listing.events []
   partway_none =
       let whole_packet = partway_packet t.listing.settings history packet t.listing.events whole.keys in
-      record { rest = (keys_of packet) ++ whole_packet.rest; is = whole_packet.is; late = whole_packet.late }
+      record { rest = keys_of packet ++ whole_packet.rest; is = whole_packet.is; late = whole_packet.late }
 
   -- the records say of the longer list what they said
   begins_more : NamesRecord t.listing.settings (history ++ packet ∷ []) (last_n0 up.logged) (last_place up.logged)
@@ -129,7 +129,8 @@ module _ (leaves since : Files → Type 0) (seen : Files) (t : Tallied) (log : L
       packet,
       refl,
       sound_of t.listing.settings t.listing.cone (history ++ packet ∷ []) t.listing.events t.rows t.listing.closed up.logged log.gate counted.valid counted.rows
-          partway_none (λ ended. absurd (false≢true (sym still ∙ ended))) up.log_of begins_more image (journal_more (next_gate gate (payload_of written packet)) refl image may more) (log_then image may)
+          partway_none (λ ended. absurd (false≢true (sym still ∙ ended))) up.log_of begins_more image (journal_more (next_gate gate (payload_of written packet)) refl image may more)
+          (log_then image may)
           (frames_then image may),
     )
   ]
@@ -164,13 +165,15 @@ when_ok (Err _) answered holds = absurd (false≢true (sym answered))
 pub appended_there : {T E : Type 0} (result : Result T E) (leaves after : Files → Type 0) (s : Numbers) (file most gate gate_after : ℕ) (packet : Packet) → file ≡ 0 →
     most ≡ most_payload s →
     is_err result ≡ false
-    → ((first : ℕ) (packets : List Packet) → InEach leaves file (λ bytes. HasPackets written most bytes first packets gate) → OnOk result (InEach after file (λ bytes. HasPackets written most bytes first
+    → ((first : ℕ) (packets : List Packet) → InEach leaves file (λ bytes. HasPackets written most bytes first packets gate) →
+    OnOk result (InEach after file (λ bytes. HasPackets written most bytes first
     (packets ++ packet ∷ []) gate_after)))
     → (packets : List Packet) → InEach leaves 0 (λ bytes. HasPackets written (most_payload s) bytes 32 packets gate) → InEach after 0 (λ bytes. HasPackets written (most_payload s) bytes 32
     (packets ++ packet ∷ []) gate_after)
 appended_there result leaves after s file most gate gate_after packet file_is most_is answered appended packets =
     subst (λ (m : ℕ). InEach leaves 0 (λ bytes. HasPackets written m bytes 32 packets gate) → InEach after 0 (λ bytes. HasPackets written m bytes 32 (packets ++ packet ∷ []) gate_after)) most_is
-    (subst (λ (f : ℕ). InEach leaves f (λ bytes. HasPackets written most bytes 32 packets gate) → InEach after f (λ bytes. HasPackets written most bytes 32 (packets ++ packet ∷ []) gate_after)) file_is
+    (subst (λ (f : ℕ). InEach leaves f (λ bytes. HasPackets written most bytes 32 packets gate) →
+    InEach after f (λ bytes. HasPackets written most bytes 32 (packets ++ packet ∷ []) gate_after)) file_is
     (λ all. when_ok result answered (appended 32 packets all)))
 
 -- what an append says of a log's file and greatest payload, said of the journal
@@ -185,7 +188,7 @@ each_there leaves since s file most gate history packet file_is most_is each =
 pub some_more : (history : List Packet) (packet : Packet) → All (λ p. 0 < length (keys_of p)) history → 0 < length (keys_of packet) → All (λ p. 0 < length (keys_of p)) (history ++ packet ∷ [])
 some_more history packet all some = All-append (λ p. 0 < length (keys_of p)) history (packet ∷ []) all (All-cons (λ p. 0 < length (keys_of p)) packet [] some (All-nil (λ p. 0 < length (keys_of p))))
 
-pub keys_more : (history : List Packet) (packet : Packet) (events : List ℕ) → events ≡ events_of history → events ++ (keys_of packet) ≡ events_of (history ++ packet ∷ [])
-keys_more history packet events keys = ap (λ ks. ks ++ (keys_of packet)) keys ∙ sym (events_more history packet)
+pub keys_more : (history : List Packet) (packet : Packet) (events : List ℕ) → events ≡ events_of history → events ++ keys_of packet ≡ events_of (history ++ packet ∷ [])
+keys_more history packet events keys = ap (λ ks. ks ++ keys_of packet) keys ∙ sym (events_more history packet)
 
 -- turns in a row

@@ -16,11 +16,11 @@ use Rattle.lert_cone.proofs.SoundLaws.{events_more, end_more}
 
 -- one packet more
 pub past_more : (history done : List Packet) (events : List ℕ) (gate : ℕ) (packet : Packet) → IsPast history done events gate → IsNext history done packet →
-    IsPast history (done ++ packet ∷ []) (events ++ (keys_of packet)) (next_gate gate (payload_of written packet))
+    IsPast history (done ++ packet ∷ []) (events ++ keys_of packet) (next_gate gate (payload_of written packet))
 past_more history done events gate packet past next = record {
   rest = next.rest;
   is = next.is ∙ sym (append_assoc done (packet ∷ []) next.rest);
-  keys = ap (λ keys. keys ++ (keys_of packet)) past.keys ∙ sym (events_more done packet);
+  keys = ap (λ keys. keys ++ keys_of packet) past.keys ∙ sym (events_more done packet);
   gate_is = ap (λ g. next_gate g (payload_of written packet)) past.gate_is ∙ end_more done packet;
 }
 

@@ -91,7 +91,7 @@ last_holds history packet place n gate_is n_is first_is = packet_holds (history 
 
 -- the packet that is read next
 pub next_holds : (history done : List Packet) (events : List ℕ) (gate : ℕ) (packet : Packet) (keys : List ℕ) (place : JournalPlace) → IsPast history done events gate → IsNext history done packet →
-    keys ≡ (keys_of packet) → place.gate ≡ gate → place.first ≡ length events + 1 → AreOfRecord history place (length events) (length events + length keys)
+    keys ≡ keys_of packet → place.gate ≡ gate → place.first ≡ length events + 1 → AreOfRecord history place (length events) (length events + length keys)
 next_holds history done events gate packet keys place past next keys_are gate_is first_is =
     subst (λ (ks : List ℕ). AreOfRecord history place (length events) (length events + length ks)) (sym keys_are)
     (packet_holds history done packet next.rest next.is place (length events) (gate_is ∙ past.gate_is) (ap length past.keys) first_is)
@@ -261,7 +261,15 @@ module _ (s : Numbers) (valid : IsValid s) where
             let front : length history ≡ length holds.done + length (holds.packet ∷ holds.rest) = ap (length {A = Packet}) holds.is ∙ length-append holds.done (holds.packet ∷ holds.rest) in
             record {
               offset_from = omega (arith, holds.gate_is);
-              offset_to = omega (arith, holds.gate_is, front, few history (λ k d below. some_keys_of s cone _ (journaled k d below)), within, capacity_to s valid, events_within history place (edge s 0 n0 + 1) holds);
+              offset_to = omega (
+                arith,
+                holds.gate_is,
+                front,
+                few history (λ k d below. some_keys_of s cone _ (journaled k d below)),
+                within,
+                capacity_to s valid,
+                events_within history place (edge s 0 n0 + 1) holds,
+              );
               first_from = omega (arith, holds.first_is);
               first_to = holds.from;
             })

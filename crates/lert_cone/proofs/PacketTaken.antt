@@ -33,7 +33,7 @@ AppendsPacket bays packet bay bay_after old new result = record {
 }
 
 module _ {B : Type 0} {bays : Bays B} (lawful : IsLawful bays) {old : Workplace B} {packet : Packet} {journal : Log} (can : CanTakePacket bays packet old journal) {keys : List ℕ}
-    (keys_are : keys ≡ (keys_of packet)) (keys_fit : All (λ key. key < 2 ^ 64) keys) (journal_after : Log) (bay : B) where
+    (keys_are : keys ≡ keys_of packet) (keys_fit : All (λ key. key < 2 ^ 64) keys) (journal_after : Log) (bay : B) where
   fit : All (λ key. key < 2 ^ 64) (keys_of packet)
   fit = subst (All (λ key. key < 2 ^ 64)) keys_are keys_fit
 

@@ -106,7 +106,7 @@ module _ {B : Type 0} (bays : Bays B) (lawful : IsLawful bays) where
         (read_logged s old (Ok tt) shut) did)
 
     -- no flush comes with its keys
-    pub keys_unwritten : (s : Numbers) (n n0 : ℕ) (packet : Packet) (keys : List ℕ) (new : B) → keys ≡ (keys_of packet) → last_flush s (n + length (keys_of packet)) ≤ max n0 n →
+    pub keys_unwritten : (s : Numbers) (n n0 : ℕ) (packet : Packet) (keys : List ℕ) (new : B) → keys ≡ keys_of packet → last_flush s (n + length (keys_of packet)) ≤ max n0 n →
         (last_flush s (n + length keys) ≤ max n0 n → new ≡ bay_read) → IsUnwritten bays bay new
     keys_unwritten s n n0 packet keys new keys_are passed unflushed =
         subst (λ (b : B). IsUnwritten bays bay b) (sym (unflushed (omega (arith, passed, ap (λ (ks : List ℕ). last_flush s (n + length ks)) keys_are)))) read_unwritten
@@ -134,7 +134,7 @@ module _ {B : Type 0} (bays : Bays B) (lawful : IsLawful bays) where
       past = subst (IsPast history done t.listing.events) (sym gate_same) way.past
 
       -- a packet that stands there is the next one, and memory and files are where they were
-      pub with_keys : (packet : Packet) → HoldsPacket written t.listing.settings t.listing.cone (most_payload t.listing.settings) (seen 0) gate packet → (keys : List ℕ) → keys ≡ (keys_of packet) →
+      pub with_keys : (packet : Packet) → HoldsPacket written t.listing.settings t.listing.cone (most_payload t.listing.settings) (seen 0) gate packet → (keys : List ℕ) → keys ≡ keys_of packet →
           {X : Type 0} → (bays.files bay_read ≡ Some seen → (next : IsNext history done packet) → events_of history ≡ t.listing.events ++ (keys ++ events_of next.rest) →
           IsOnWay (bays.leaves bay_read) seen history t.listing t.rows t.due.reports log last.n0 → X) → X
       with_keys packet holds keys keys_are goes =
@@ -167,7 +167,7 @@ module _ {B : Type 0} (bays : Bays B) (lawful : IsLawful bays) where
             (read.reads.moments image may))
 
         pub keys_stay : (packet : Packet) → HoldsPacket written t.listing.settings t.listing.cone (most_payload t.listing.settings) (seen 0) gate packet → (keys : List ℕ) →
-            keys ≡ (keys_of packet) →
+            keys ≡ keys_of packet →
             (place : JournalPlace) → place.gate ≡ gate → place.first ≡ length t.listing.events + 1 → (buffer : ℕ) (new : Workplace B) (result : Result (Unit {0}) TakeFault) →
             ReplaysKeys bays last.n0 place keys (record { bay = bay_read; counts = t; log = log; room = buffer }) new result →
             StaysSound bays t.listing.settings t.listing.cone history bay new.bay

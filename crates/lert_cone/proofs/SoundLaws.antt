@@ -28,7 +28,7 @@ turns_back {before = None} turns new told = absurd (none-some new (sym (turns.un
 -- ---- histories
 
 -- the keys of one packet more
-pub events_more : (history : List Packet) (packet : Packet) → events_of (history ++ packet ∷ []) ≡ events_of history ++ (keys_of packet)
+pub events_more : (history : List Packet) (packet : Packet) → events_of (history ++ packet ∷ []) ≡ events_of history ++ keys_of packet
 events_more history packet = flat_map-append (λ p. (keys_of p)) history (packet ∷ []) ∙ ap (λ keys. events_of history ++ keys) (append-nil (keys_of packet))
 
 pub counted_more : (history : List Packet) (packet : Packet) → length (events_of (history ++ packet ∷ [])) ≡ length (events_of history) + length (keys_of packet)

@@ -201,7 +201,7 @@ module _ {B : Type 0} {files : B → Option Files} {leaves : B → Files → Typ
   -- a packet more, and its keys
   pub more_cone : {mark : B → ℕ} {bay made last : B} {tally after : Tallied} {events events_after room room_after keys_room : ℕ} {state : ConeState} {over : Option Packet}
       {journal journal_after : Log} {log log_after : LogPlace} {point : LogPoint} (packet : Packet)
-      → state ≡ Running → after.listing ≡ record tally.listing { events = tally.listing.events ++ (keys_of packet) } → IsCounted after → events_after ≡ events + length (keys_of packet)
+      → state ≡ Running → after.listing ≡ record tally.listing { events = tally.listing.events ++ keys_of packet } → IsCounted after → events_after ≡ events + length (keys_of packet)
       → journal_after ≡ record journal { gate = next_gate journal.gate (payload_of written packet) } → room_after ≡ room → 0 < length (keys_of packet) →
       events + length (keys_of packet) ≤ capacity tally.listing.settings
       → faults bay ≤ faults last → Turns Anything (files bay) (files last) → mark last ≡ mark bay → IsShutIfTold (files last) (leaves last) 0 journal_after.gate

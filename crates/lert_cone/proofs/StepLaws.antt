@@ -33,7 +33,8 @@ pub journal_since : (since : Files → Type 0) (seen : Files) (s : Numbers) (con
     InEach since 0 (IsJournal s cone history)
 journal_since since seen s cone history journal keeps image may = record {
   headed = first_same (image 0) (seen 0) (length (seen 0)) 32 (omega (arith, journal.records.closed.within)) (keeps image may) ∙ journal.headed;
-  records = gated_behind (most_payload s) 32 (map (payload_of written) history) (end_of history) (length (image 0)) (seen 0) (image 0) journal.records (torn_behind (seen 0) (image 0) (end_of history + 1)
+  records = gated_behind (most_payload s) 32 (map (payload_of written) history) (end_of history) (length (image 0)) (seen 0) (image 0) journal.records
+      (torn_behind (seen 0) (image 0) (end_of history + 1)
       (keeps image may));
   journaled = journal.journaled;
   fit = journal.fit;

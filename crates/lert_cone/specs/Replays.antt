@@ -35,7 +35,7 @@ LeavesBehind cone bytes gate at = ReplayLeavesAt cone.listing.settings cone.list
 abbrev pub with_packet : {B : Type 0} → Replaying B → Packet → ℕ → B → List (List BinAt) → List Report → LogPlace → Replaying B
 with_packet cone packet gate bay rows reports log = record cone {
   bay = bay;
-  listing = record cone.listing { events = cone.listing.events ++ (keys_of packet) };
+  listing = record cone.listing { events = cone.listing.events ++ keys_of packet };
   rows = rows;
   reports = reports;
   events = cone.events + length (keys_of packet);

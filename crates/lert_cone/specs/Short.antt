@@ -10,7 +10,12 @@ use Rattle.lert_cone.specs.Stands.{Standing, StandsFor}
 pub few : (history : List Packet) → All (λ packet. 0 < length (keys_of packet)) history → length history ≤ length (events_of history)
 few [] some = omega arith
 few (packet ∷ history) some =
-    omega (arith, All-head (λ p. 0 < length (keys_of p)) packet history some, few history (All-tail (λ p. 0 < length (keys_of p)) packet history some), length-append (keys_of packet) (events_of history))
+    omega (
+      arith,
+      All-head (λ p. 0 < length (keys_of p)) packet history some,
+      few history (All-tail (λ p. 0 < length (keys_of p)) packet history some),
+      length-append (keys_of packet) (events_of history),
+    )
 
 -- they are short, since a cone takes only so many keys
 pub short : {B : Type 0} (files : B → Option Files) (leaves : B → Files → Type 0) (faults : B → ℕ) (cone : Standing B) (history : List Packet)

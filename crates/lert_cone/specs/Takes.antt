@@ -104,7 +104,7 @@ pub record CanTakePacket {B : Type 0} (bays : Bays B) (packet : Packet) (at : Wo
 -- after Ok they go together with memory for the list and the packet.
 pub record TakesPacket {B : Type 0} (bays : Bays B) (packet : Packet) (old new : Workplace B) (journal journal_after : Log) (result : Result (Unit {0}) TakeFault) : Type 0 where
   pub listing : new.counts.listing ≡ record old.counts.listing { events = new.counts.listing.events }
-  pub taken : OnOk result (new.counts.listing.events ≡ old.counts.listing.events ++ (keys_of packet))
+  pub taken : OnOk result (new.counts.listing.events ≡ old.counts.listing.events ++ keys_of packet)
   pub counted : OnOk result (IsCounted new.counts)
   pub can_log : OnOk result (CanLog bays new)
   pub moved : OnOk result (journal_after ≡ record journal { gate = next_gate journal.gate (payload_of written packet) })

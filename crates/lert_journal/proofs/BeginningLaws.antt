@@ -24,7 +24,8 @@ agreed_same bytes file is = sym (agreed_front (magic 1) bytes 32 (omega arith)) 
 pub front_left : (file bytes : List ℕ) → take 32 bytes ≡ take 32 file → agreed (magic 1) bytes < 8 → Some (agreed (magic 1) bytes) ≡ header_left file
 front_left file bytes is left =
     let same = agreed_same bytes file is in
-    ap Some same ∙ sym (ap (λ b. if b then Some (agreed (magic 1) file) else (if nat_lt (length file) 32 then Some (length file) else None)) (lt-ltb (agreed (magic 1) file) 8 (omega (arith, same, left))))
+    ap Some same ∙ sym (ap (λ b. if b then Some (agreed (magic 1) file) else (if nat_lt (length file) 32 then Some (length file) else None))
+    (lt-ltb (agreed (magic 1) file) 8 (omega (arith, same, left))))
 
 -- a file that ends inside the header
 pub front_short : (file bytes : List ℕ) → take 32 bytes ≡ take 32 file → 8 ≤ agreed (magic 1) bytes → length bytes < 32 → Some (length bytes) ≡ header_left file

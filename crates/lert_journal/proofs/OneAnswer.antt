@@ -40,7 +40,8 @@ some_place : (m n : ℕ) → Some m ≡ Some n → m ≡ n
 some_place m n is = cc
 
 -- one place is the first
-pub one_place_left : (version : ℕ) (s : Numbers) (cone most : ℕ) (bytes : List ℕ) (gate at other : ℕ) → LeavesAt version s cone most bytes gate at → LeavesAt version s cone most bytes gate other → at ≡ other
+pub one_place_left : (version : ℕ) (s : Numbers) (cone most : ℕ) (bytes : List ℕ) (gate at other : ℕ) → LeavesAt version s cone most bytes gate at →
+    LeavesAt version s cone most bytes gate other → at ≡ other
 one_place_left version s cone most bytes gate at other (inl broken) (inl too) = one_place most bytes gate at other broken too
 one_place_left version s cone most bytes gate at other (inl broken) (inr spoiled) = absurd (whole_or_broken most bytes gate at spoiled.payload spoiled.stands broken)
 one_place_left version s cone most bytes gate at other (inr spoiled) (inl broken) = absurd (whole_or_broken most bytes gate other spoiled.payload spoiled.stands broken)

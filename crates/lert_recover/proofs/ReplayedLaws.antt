@@ -150,11 +150,11 @@ module _ (s : Numbers) (cone n0 : ℕ) (closed : Bool) (bytes : List ℕ) where
     count_of gate events has = ap length has.events_are ∙ length-append before (events_of has.packets)
 
     pub replayed_more : (gate : ℕ) (events : List ℕ) (packet : Packet) → Has gate events → Holds gate packet → MayFollow s n0 closed (length events) packet →
-        Has (next_gate gate (payload_of written packet)) (events ++ (keys_of packet))
+        Has (next_gate gate (payload_of written packet)) (events ++ keys_of packet)
     replayed_more gate events packet has holds may = record {
       packets = has.packets ++ packet ∷ [];
       stand = more has.packets (length before) first gate packet has.stand holds (subst (λ m. MayFollow s n0 closed m packet) (count_of gate events has) may);
-      events_are = ap (λ keys. keys ++ (keys_of packet)) has.events_are
+      events_are = ap (λ keys. keys ++ keys_of packet) has.events_are
           ∙ (append_assoc before (events_of has.packets) (keys_of packet) ∙ ap (λ keys. before ++ keys) (sym (events_more has.packets packet)));
     }
 

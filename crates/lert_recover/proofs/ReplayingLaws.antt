@@ -61,7 +61,7 @@ module _ {B : Type 0} (files : B → Option Files) (start old new : Replaying B)
         × HoldsPacket written old.listing.settings old.listing.cone (most_payload old.listing.settings) (now JOURNAL) gate packet
         × MayFollow old.listing.settings old.last.n0 old.last.closed (length old.listing.events) packet
         × (next ≡ next_gate gate (payload_of written packet))
-        × (new.listing ≡ record old.listing { events = old.listing.events ++ (keys_of packet) })
+        × (new.listing ≡ record old.listing { events = old.listing.events ++ keys_of packet })
 
     pub read_on : (next : ℕ) → Read gate old.listing.events → ((now : Files) → files old.bay ≡ Some now → Takes now next) → Read next new.listing.events
     read_on next has taken =
@@ -78,7 +78,7 @@ module _ {B : Type 0} (files : B → Option Files) (start old new : Replaying B)
         subst (λ (last : LogPoint). MayFollow s last.n0 last.closed (length old.listing.events) packet) same.last
         (subst (λ (t : Numbers). MayFollow t old.last.n0 old.last.closed (length old.listing.events) packet) same.settings took.2) in
         subst (Read next) (sym (ap (λ (l : Listing). l.events) took.4))
-        (subst (λ (g : ℕ). Read g (old.listing.events ++ (keys_of packet))) (sym took.3)
+        (subst (λ (g : ℕ). Read g (old.listing.events ++ keys_of packet)) (sym took.3)
         (replayed_more s start.listing.cone start.last.n0 start.last.closed (seen JOURNAL) start.listing.events first gate old.listing.events packet has own may))
 
     -- where a call found the format left

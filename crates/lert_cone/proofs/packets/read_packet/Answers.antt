@@ -48,7 +48,7 @@ left_of {s = s} {t = t} {cone = cone} {other = other} {most = most} {file = file
     (subst (λ (n : ℕ). LeavesAt written t n most (seen file) gate at) is
     (subst (λ (v : Numbers). LeavesAt written v cone most (seen file) gate at) same left)))
 
-follows_of : {s t : Numbers} {n0 n m : ℕ} {closed : Bool} {keys : List ℕ} {packet : Packet} → s ≡ t → n ≡ m → keys ≡ (keys_of packet) →
+follows_of : {s t : Numbers} {n0 n m : ℕ} {closed : Bool} {keys : List ℕ} {packet : Packet} → s ≡ t → n ≡ m → keys ≡ keys_of packet →
     (n + length keys ≤ capacity s) × (closed ≡ true → n + length keys ≤ n0) → MayFollow t n0 closed m packet
 follows_of {s = s} {t = t} {n0 = n0} {n = n} {m = m} {keys = keys} {packet = packet} same n_is keys_are may =
     let sum : n + length keys ≡ m + length (keys_of packet) = λ i. n_is i + length (keys_are i) in

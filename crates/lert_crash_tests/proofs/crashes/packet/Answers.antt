@@ -33,6 +33,7 @@ returns g c =
       few = omega (arith, c.requires.few, length-units keys);
       by_most = omega arith;
       trace_most = omega arith;
-      of_cone = subst (All (λ key. cone_of c.settings-settings.result key ≡ 0)) (sym (keys_in-units keys)) (subst (All (λ key. cone_of c.settings-settings.result key ≡ 0)) all c.loop-key.invariant.own);
+      of_cone = subst (All (λ key. cone_of c.settings-settings.result key ≡ 0)) (sym (keys_in-units keys))
+          (subst (All (λ key. cone_of c.settings-settings.result key ≡ 0)) all c.loop-key.invariant.own);
       weighed = units_of_version 1 keys;
     }))

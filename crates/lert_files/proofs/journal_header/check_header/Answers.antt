@@ -21,7 +21,8 @@ returns-then-end-clause-told c file end_is is =
     let whole = c.in_default.ensures.whole in
     let head_is = read_whole c.args.count c.args.head.now file c.told-head c.requires is whole.0 in
     gateless_there c.args.settings.now c.args.cone c.args.end c.args.head.now file c.in-Some-read_header.kept head_is
-    (front_read c.args.count c.args.head.now whole.0 ∙ whole.1) (whole_file c.args.count c.args.head.now file is whole.0) end_is (omega (arith, c.if-end.true)) c.in-Some-read_header.ensures.2 (c.if-not-is_own.ensures.own refl)
+    (front_read c.args.count c.args.head.now whole.0 ∙ whole.1) (whole_file c.args.count c.args.head.now file is whole.0) end_is
+    (omega (arith, c.if-end.true)) c.in-Some-read_header.ensures.2 (c.if-not-is_own.ensures.own refl)
 
 pub returns-in-Some-clause-told : goal.returns-in-Some-clause-told
 returns-in-Some-clause-told c file end_is is =

@@ -21,7 +21,8 @@ pub returns-clause-moved : goal.returns-clause-moved
 returns-clause-moved g c =
     let packet = packet_of c.args.entry.now in
     let text = take c.write_text-len.result c.write_text-len.new.into in
-    let gate_is : c.args.log.now.gate + length text ≡ next_gate c.args.log.now.gate (payload_of c.args.version packet) = omega (arith, length_text c.args.version text packet c.write_text-len.ensures.text) in
+    let gate_is : c.args.log.now.gate + length text ≡ next_gate c.args.log.now.gate (payload_of c.args.version packet) = omega
+    (arith, length_text c.args.version text packet c.write_text-len.ensures.text) in
     subst (λ (gate : ℕ). OnOk c.append.result (c.append.new.self ≡ record c.args.log.now { gate = gate })) gate_is c.append.ensures.moved
 
 pub returns-clause-each_moment : goal.returns-clause-each_moment

@@ -113,7 +113,8 @@ pub returns-in-Some-place_left : goal.returns-in-Some-place_left
 returns-in-Some-place_left g c =
     let counted = rw c.in-Some.is at c.in_ok-count.ensures.counted in
     let spoiled : (seen : Files) → g.B.Bay.files c.args.bay.now ≡ Some seen →
-    LeavesAt c.args.version c.args.settings.now c.args.cone c.args.log.now.most (seen c.args.log.now.file) c.args.log.now.gate (c.gate-gate.result + 1 + c.in-Some-place_left.place) = λ seen told. inr (record {
+    LeavesAt c.args.version c.args.settings.now c.args.cone c.args.log.now.most (seen c.args.log.now.file) c.args.log.now.gate
+    (c.gate-gate.result + 1 + c.in-Some-place_left.place) = λ seen told. inr (record {
       payload = take c.in-Some.count c.next.new.into;
       place = c.in-Some-place_left.place;
       stands = rw c.in-Some.is at (c.in_ok-count.ensures.opened seen told);
@@ -177,8 +178,11 @@ returns-clause-moved g c said =
 pub returns-clause-reads_back : goal.returns-clause-reads_back
 returns-clause-reads_back g c seen told packet holds =
     let stands = rw c.in-Some.is at (c.in_ok-count.ensures.opened seen told) in
-    let same = one_payload c.args.log.now.most (seen c.args.log.now.file) c.args.log.now.gate (take c.in-Some.count c.next.new.into) (payload_of c.args.version packet) stands holds.stands in
-    (refl, c.fill.ensures.packet ∙ (ap (packet_in c.args.version) same ∙ packet_back c.args.version packet (omega (arith, holds.journaled.by_most)) (omega (arith, holds.journaled.trace_most)) holds.fits holds.journaled.weighed))
+    let same = one_payload c.args.log.now.most (seen c.args.log.now.file) c.args.log.now.gate (take c.in-Some.count c.next.new.into) (payload_of c.args.version packet) stands holds.stands in (
+      refl,
+      c.fill.ensures.packet ∙ (ap (packet_in c.args.version) same ∙ packet_back c.args.version packet (omega (arith, holds.journaled.by_most))
+          (omega (arith, holds.journaled.trace_most)) holds.fits holds.journaled.weighed),
+    )
 
 pub returns-clause-ends : goal.returns-clause-ends
 returns-clause-ends g c seen told closed =

@@ -64,7 +64,8 @@ pub returns-in-Err : goal.returns-in-Err
 returns-in-Err g c =
     let ok = subst (λ (v : Standing g.row.B.Denot). (v.state ≡ Running) × (v.events + c.len-len.result ≤ capacity v.listing.settings)) (sym c.self.view_is) c.in_ok-test.ensures.ok in
     let did = rw c.in-Err.is at c.take_packet.ensures in
-    broken_off (lawful g) (packet_of c.args.entry.now) c.self.inside.made.value c.self.inside.events (over_of c.self.inside.over) c.self.inside.last ok.0 (omega (arith, ok.1, (c.len-len.ensures ∙ sym (length-keys_in c.args.entry.now.keys.items))))
+    broken_off (lawful g) (packet_of c.args.entry.now) c.self.inside.made.value c.self.inside.events (over_of c.self.inside.over) c.self.inside.last ok.0
+    (omega (arith, ok.1, (c.len-len.ensures ∙ sym (length-keys_in c.args.entry.now.keys.items))))
     c.broken_by-self-inside.ensures (ap (λ (e : Entry). Some (packet_of e)) c.of.ensures) c.self.invariant.never_falls c.self.view_is (ap Err c.from.ensures) did
 
 -- all keys are taken
@@ -77,7 +78,8 @@ invariant_of-self-2 g c =
     let len_is : c.self.inside.buffer.len ≡ length c.self.inside.buffer.items = omega (arith, c.self.inside.buffer.ok) in
     let room_is = sym (length_refill c.self.inside.buffer.len c.self.inside.buffer.items c.take_packet.new.buffer len_is) ∙ len_is in
     let long : length c.take_packet.new.buffer ≡ length c.self.inside.buffer.items = c.take_packet.auto.buffer ∙ ap (length {A = ℕ}) c.deref_mut.ensures.value in
-    still_cone (lawful g) (packet_of c.args.entry.now) c.self.inside.made.value c.self.inside.events (over_of c.self.inside.over) c.self.inside.last ok.0 (omega (arith, ok.1, (c.len-len.ensures ∙ sym (length-keys_in c.args.entry.now.keys.items))))
+    still_cone (lawful g) (packet_of c.args.entry.now) c.self.inside.made.value c.self.inside.events (over_of c.self.inside.over) c.self.inside.last ok.0
+    (omega (arith, ok.1, (c.len-len.ensures ∙ sym (length-keys_in c.args.entry.now.keys.items))))
     did (ap (λ n. c.self.inside.events + n) (c.len-len.ensures ∙ sym (length-keys_in c.args.entry.now.keys.items))) (some_keys_of _ _ _ journaled) room_is (long ∙ sym room_is) c.self.invariant
 
 pub returns : goal.returns
@@ -86,6 +88,7 @@ returns g c =
     let did = rw c.in_default.is at c.take_packet.ensures in
     let journaled : IsJournaled written c.self.inside.tally.listing.settings c.self.inside.tally.listing.cone (packet_of c.args.entry.now) =
     subst (λ (v : Standing g.row.B.Denot). IsJournaled written v.listing.settings v.listing.cone (packet_of c.args.entry.now)) (sym c.self.view_is) c.requires.fits in
-    admitted (lawful g) (packet_of c.args.entry.now) c.self.inside.made.value c.self.inside.events (over_of c.self.inside.over) c.self.inside.last ok.0 (omega (arith, ok.1, (c.len-len.ensures ∙ sym (length-keys_in c.args.entry.now.keys.items))))
+    admitted (lawful g) (packet_of c.args.entry.now) c.self.inside.made.value c.self.inside.events (over_of c.self.inside.over) c.self.inside.last ok.0
+    (omega (arith, ok.1, (c.len-len.ensures ∙ sym (length-keys_in c.args.entry.now.keys.items))))
     (ap (λ n. c.self.inside.events + n) (c.len-len.ensures ∙ sym (length-keys_in c.args.entry.now.keys.items))) (some_keys_of _ _ _ journaled)
     (c.self.invariant.closed (ap is_broken ok.0) ∙ ap is_finished ok.0) (c.len.ensures.count ∙ ap length (ap (λ (v : Stored). v.reports) c.store.ensures)) did c.self.view_is

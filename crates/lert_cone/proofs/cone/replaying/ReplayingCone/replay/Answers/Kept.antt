@@ -63,7 +63,8 @@ taken_kept g c =
         counted = sym c.len-self-inside.ensures;
         recounted = c.in_default.ensures.recounted;
         closed = ap (λ (l : Listing). l.closed) listing_is ∙ was.closed;
-        near = near_then c.args.gate c.read_packet.new.journal.gate c.self.inside.events c.len-self-inside.result (packet_of c.read_packet.new.entry) c.requires.reach moved (some_keys_of _ _ _ journaled)
+        near = near_then c.args.gate c.read_packet.new.journal.gate c.self.inside.events c.len-self-inside.result (packet_of c.read_packet.new.entry) c.requires.reach moved
+            (some_keys_of _ _ _ journaled)
             events_is;
         journal_settled = settled_then c.replay_keys.ensures.keeps.journal (read_settled c.read_packet.ensures.keeps.reads.seen c.read_packet.ensures.keeps.reads.images was.journal_settled);
         logging = subst (λ n. IsLogging c.replay_keys.new.tally c.replay_keys.new.log n) long c.in_default.ensures.can_log.logging;
