@@ -1,4 +1,5 @@
 pub mod Growth
+pub mod Halves
 pub mod Place
 pub mod RunText
 pub mod Search

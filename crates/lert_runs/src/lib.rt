@@ -7,6 +7,7 @@
 #![tactic(auto)]
 
 mod grow;
+mod halves;
 mod place;
 mod search;
 mod walk;
