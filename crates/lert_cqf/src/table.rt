@@ -18,6 +18,9 @@ use std::marker::Model;
 /// More slots than a spill can count.
 const TOO_MANY_SLOTS: u64 = (1 << 32) - 1;
 
+/// A remainder above all counts is looked for in so many slots one by one, and in more by halves.
+const FEW_SLOTS: u64 = 64;
+
 /// A counting quotient filter: the counts of tails, in `2^q + 4 * events` slots, where `events` adds have room.
 ///
 /// Beside the slots it takes 4 bytes and a bit for each quotient, and two bits for each slot.
@@ -171,7 +174,7 @@ impl CountTable for Cqf {
             return self.rows.count_first(home, at, x) + self.rows.count_second(at, end, x);
         }
         let run = self.rows.part(at, end);
-        if x > self.sum {
+        if x > self.sum && end - at <= FEW_SLOTS {
             // So do nearly all remainders: no count is greater than all of them together.
             return count_above_all(run, x);
         }

@@ -121,8 +121,8 @@ returns c =
     ∙ count_present _ _ _ _ _ _ _ _ _ _ c.self.invariant.0 c.args.tail c.parts-home.result.0 c.parts-home.result.1 q_is x_is h
     ∙ ap (λ (t : Contents). count_of t.pieces c.args.tail) c.self.view_is
 
-pub returns-then-x-self : goal.returns-then-x-self
-returns-then-x-self c =
+pub returns-then-end-at-le-FEW_SLOTS : goal.returns-then-end-at-le-FEW_SLOTS
+returns-then-end-at-le-FEW_SLOTS c =
     let long = occupied_long _ _ _ _ _ _ _ _ _ _ c.self.invariant.0 in
     let h = long_run _ _ _ _ _ _ _ _ _ _ c.self.invariant.0 c.parts-home.result.0 (let low = c.if-home-len.false in let len = c.len.ensures in omega arith)
     (omega (arith, c.start-at.ensures, c.start-end.ensures, c.if-end-at.false)) in
