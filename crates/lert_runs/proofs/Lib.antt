@@ -1,7 +1,8 @@
+pub mod BeginLemmas
+pub mod CutLemmas
 pub mod GrowLemmas
 pub mod PartLemmas
 pub mod ReadLemmas
-pub mod RiseLemmas
 pub mod RunLemmas
 pub mod SearchLemmas
 pub mod WalkLemmas

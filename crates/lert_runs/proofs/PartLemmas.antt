@@ -1,9 +1,9 @@
--- The part of a run text that a remainder can stand in gets smaller where a slot rises.
+-- The part of a run text that a remainder can stand in gets smaller where no group is cut.
 use Rattle.std.proofs.Common.{◌≡◌, ℕ, ◌+◌, ◌-◌, ◌<◌, ◌≤◌, List, [], ◌∷◌, ◌++◌, length, take, drop, get_or, refl, sym, ap, ◌∙◌, subst, cond, eqb, inl, inr, arith, length-append, append_assoc}
 use Rattle.std.proofs.{lemmas.List.{append-nil, drop_at, take_at}, lemmas.Bool.{cases_lt, Decides.nat_tests}}
 use Rattle.lert_counter.specs.Group.{group}
-use Rattle.lert_runs.specs.{RunText.{run_text, RemaindersAscend, RemaindersBelow, IsTextOf, count_in, pairs_below}, Halves.{Rises, IsPartOf}, Place.IsPlaceOf, declared.{halves.Part.Part, place.Place.Place}}
-use Rattle.lert_runs.proofs.{RunLemmas.{run_text-append, count_in-below, count_in-later, pairs_below-more, pairs_below-none}, WalkLemmas.ascend_behind, RiseLemmas.{Cut, rise_cuts}}
+use Rattle.lert_runs.specs.{RunText.{run_text, RemaindersAscend, RemaindersBelow, IsTextOf, count_in, pairs_below}, Begins.IsUncut, Halves.IsPartOf, Place.IsPlaceOf, declared.{halves.Part.Part, place.Place.Place}}
+use Rattle.lert_runs.proofs.{RunLemmas.{run_text-append, count_in-below, count_in-later, pairs_below-more, pairs_below-none}, WalkLemmas.ascend_behind, CutLemmas.{Cut, uncut_cuts}}
 
 -- the whole run
 pub part_first : (width x : ℕ) (run : List ℕ) (ps : List (ℕ × ℕ)) → IsTextOf width run ps → IsPartOf width x ps (record { low = 0; high = length run })
@@ -55,15 +55,13 @@ pub ascend_inside : (width x : ℕ) (run : List ℕ) (ps : List (ℕ × ℕ)) (p
     → (least : ℕ) × RemaindersAscend least (b.inside ++ b.above)
 ascend_inside width x run ps part text b = ascend_behind 0 b.below (b.inside ++ b.above) (subst (λ (t : List (ℕ × ℕ)). RemaindersAscend 0 t) b.split text.ascend)
 
--- a rise inside parts the pairs there
-pub cut_part : (width x at : ℕ) (run : List ℕ) (ps : List (ℕ × ℕ)) (part : Part) → 48 ≤ width → IsTextOf width run ps → (b : IsPartOf width x ps part)
-    → Rises run at → part.low ≤ at → at < part.high → Cut width at (length (run_text width b.below)) run b.inside
-cut_part width x at run ps part wide text b r behind within =
+-- such a place inside parts the pairs there
+cut_part : (width x at : ℕ) (run : List ℕ) (ps : List (ℕ × ℕ)) (part : Part) → IsTextOf width run ps → (b : IsPartOf width x ps part)
+    → IsUncut width run at → part.low ≤ at → at < part.high → Cut width at (length (run_text width b.below)) run b.inside
+cut_part width x at run ps part text b uncut behind within =
     let a = ascend_inside width x run ps part text b in
-    let parts = text_of_parts width x run ps part text b in
-    subst (λ (t : List ℕ). Cut width at (length (run_text width b.below)) t b.inside) (sym parts)
-    (rise_cuts width at a.0 (run_text width b.below) b.inside (run_text width b.above) wide (ascend_front a.0 b.inside b.above a.1)
-    (subst (λ (t : List ℕ). Rises t at) parts r) (omega (arith, b.low_is)) (omega (arith, b.low_is, b.high_is)))
+    uncut_cuts width at a.0 run (run_text width b.below) b.inside (run_text width b.above) (ascend_front a.0 b.inside b.above a.1)
+    (text_of_parts width x run ps part text b) uncut (omega (arith, b.low_is)) (omega (arith, b.low_is, b.high_is))
 
 -- the lengths on both sides of a cut
 cut_long : (width at front : ℕ) (run : List ℕ) (ps : List (ℕ × ℕ)) (cut : Cut width at front run ps)
@@ -74,10 +72,10 @@ cut_long width at front run ps cut =
     ∙ length-append (run_text width cut.done) (run_text width (cut.pair ∷ cut.rest))
 
 -- behind the pairs of lesser remainders
-pub part_up : (width x at : ℕ) (run : List ℕ) (ps : List (ℕ × ℕ)) (part : Part) → 48 ≤ width → IsTextOf width run ps → IsPartOf width x ps part
-    → Rises run at → part.low ≤ at → at < part.high → get_or run at 0 ≤ x → IsPartOf width x ps (record { low = at; high = part.high })
-part_up width x at run ps part wide text b r behind within le =
-    let cut = cut_part width x at run ps part wide text b r behind within in
+pub part_up : (width x at : ℕ) (run : List ℕ) (ps : List (ℕ × ℕ)) (part : Part) → IsTextOf width run ps → IsPartOf width x ps part
+    → IsUncut width run at → part.low ≤ at → at < part.high → get_or run at 0 ≤ x → IsPartOf width x ps (record { low = at; high = part.high })
+part_up width x at run ps part text b uncut behind within le =
+    let cut = cut_part width x at run ps part text b uncut behind within in
     let a = ascend_inside width x run ps part text b in
     let long = cut_long width at (length (run_text width b.below)) run b.inside cut in
     let ascend = subst (λ (t : List (ℕ × ℕ)). RemaindersAscend a.0 t) cut.split (ascend_front a.0 b.inside b.above a.1) in
@@ -95,10 +93,10 @@ part_up width x at run ps part wide text b r behind within le =
     }
 
 -- before the pairs of greater remainders
-pub part_down : (width x at : ℕ) (run : List ℕ) (ps : List (ℕ × ℕ)) (part : Part) → 48 ≤ width → IsTextOf width run ps → IsPartOf width x ps part
-    → Rises run at → part.low ≤ at → at < part.high → x < get_or run at 0 → IsPartOf width x ps (record { low = part.low; high = at })
-part_down width x at run ps part wide text b r behind within more =
-    let cut = cut_part width x at run ps part wide text b r behind within in
+pub part_down : (width x at : ℕ) (run : List ℕ) (ps : List (ℕ × ℕ)) (part : Part) → IsTextOf width run ps → IsPartOf width x ps part
+    → IsUncut width run at → part.low ≤ at → at < part.high → x < get_or run at 0 → IsPartOf width x ps (record { low = part.low; high = at })
+part_down width x at run ps part text b uncut behind within more =
+    let cut = cut_part width x at run ps part text b uncut behind within in
     let a = ascend_inside width x run ps part text b in
     let parts : b.inside ++ b.above ≡ cut.done ++ ((cut.pair ∷ cut.rest) ++ b.above) =
     ap (λ (t : List (ℕ × ℕ)). t ++ b.above) cut.split ∙ append_assoc cut.done (cut.pair ∷ cut.rest) b.above in

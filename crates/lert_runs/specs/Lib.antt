@@ -1,3 +1,4 @@
+pub mod Begins
 pub mod Growth
 pub mod Halves
 pub mod Place

@@ -6,6 +6,7 @@
 //! all other lists, and `group_at` walks over one. Nothing here allocates.
 #![tactic(auto)]
 
+mod begins;
 mod grow;
 mod halves;
 mod place;

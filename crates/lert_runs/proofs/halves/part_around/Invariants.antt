@@ -6,7 +6,7 @@ use Rattle.lert_runs.proofs.halves.part_around.Given as goal
 abbrev pub invariant-loop-high : goal.invariant-loop-high
 invariant-loop-high l =
     (l.low ≤ l.high) × (l.high ≤ length l.run)
-    × ((width : ℕ) (ps : List (ℕ × ℕ)) → 48 ≤ width → IsTextOf width l.run ps → IsPartOf width l.x ps (record { low = l.low; high = l.high }))
+    × ((ps : List (ℕ × ℕ)) → IsTextOf l.width l.run ps → IsPartOf l.width l.x ps (record { low = l.low; high = l.high }))
 
 abbrev pub decreases-loop-high : goal.decreases-loop-high
 decreases-loop-high l = l.high - l.low
