@@ -23,7 +23,7 @@ const FEW_SLOTS: u64 = 64;
 
 /// A counting quotient filter: the counts of tails, in `2^q + 4 * events` slots, where `events` adds have room.
 ///
-/// Beside the slots it takes 4 bytes and a bit for each quotient, and two bits for each slot.
+/// Beside the slots it takes four bytes and two bits for each quotient, and two bits for each slot.
 #[derive(Drop)]
 pub struct Cqf {
     rows: Rows,
@@ -53,7 +53,7 @@ impl Model for Cqf {
     } };
 
     ghost invariant = { λ t. IsKept (built t.added) t.quotient_bits t.width t.adds t.room
-        t.rows.slots.items t.rows.occupied t.rows.run_ends t.rows.used t.rows.spill.items
+        t.rows.slots.items t.rows.occupied t.rows.run_ends t.rows.used t.rows.spill
         × (t.sum ≡ total (built t.added)) };
 }
 
