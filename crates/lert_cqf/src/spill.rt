@@ -1,6 +1,6 @@
 //! A row of numbers that are raised side by side.
 
-ghost use Rattle.std.specs.Prelude.{◌≡◌, ℕ, ◌+◌, ◌/◌, ◌^◌, ◌<◌, ◌≤◌, List, length, replicate, slice_index, IfOk};
+ghost use Rattle.std.specs.Prelude.{◌≡◌, ℕ, ◌+◌, ◌/◌, ◌^◌, ◌<◌, ◌≤◌, List, length, replicate, slice_index, IfOk, IsTrue};
 ghost use Rattle.lert_cqf.specs.Rows.{IsRaised};
 ghost use Rattle.lert_cqf.specs.Spill.{AreRaised};
 
@@ -12,8 +12,8 @@ use std::marker::Model;
 /// Neighbours whose numbers have a part in common.
 const BLOCK: usize = 64;
 
-/// So many are raised one by one, so that few rows have any number in common.
-const NEAR: usize = 256;
+/// Fewer are raised one by one.
+const WIDE: usize = 256;
 
 /// A row of numbers, each the sum of one of its own and one of its block: many of them side by side are raised by
 /// writing one for each block.
@@ -23,6 +23,8 @@ pub struct Spill {
     common: Vec<u32>,
     // Whether a block was raised since the last `clear`. Else nothing but `own` is read.
     far: bool,
+    // The raises since the last `clear`, wrapping.
+    raises: usize,
 }
 
 impl Model for Spill {
@@ -48,6 +50,7 @@ impl Spill {
             own,
             common,
             far: false,
+            raises: 0,
         })
     }
 
@@ -77,12 +80,21 @@ impl Spill {
         requires room { (g : ℕ) → g < length self.old → slice_index self.old g + 1 < 2 ^ 32 }
         ensures { IsRaised self.old self.new from to }
     {
-        if to.saturating_sub(from) < NEAR {
-            raise(&mut self.own, from, to + 1);
-        } else {
+        self.raises = self.raises.wrapping_add(1);
+        if self.is_by_blocks(to.saturating_sub(from)) {
             raise_far(&mut self.own, &mut self.common, from, to);
             self.far = true;
+        } else {
+            raise(&mut self.own, from, to + 1);
         }
+    }
+
+    /// Whether so many are raised by blocks. Keys that nobody chose fill a table evenly, and raise as many only once it
+    /// is nearly full: so they never pay for a second part.
+    fn is_by_blocks(&self, count: usize) -> bool
+        ensures { IsTrue result → 64 ≤ count }
+    {
+        count >= WIDE && (self.far || self.raises < self.own.len() / 2)
     }
 
     /// Makes all numbers 0.
@@ -92,6 +104,7 @@ impl Spill {
         self.own.fill(0);
         self.common.fill(0);
         self.far = false;
+        self.raises = 0;
     }
 }
 

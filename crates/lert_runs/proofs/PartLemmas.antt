@@ -2,7 +2,8 @@
 use Rattle.std.proofs.Common.{◌≡◌, ℕ, ◌+◌, ◌-◌, ◌<◌, ◌≤◌, List, [], ◌∷◌, ◌++◌, length, take, drop, get_or, refl, sym, ap, ◌∙◌, subst, cond, eqb, inl, inr, arith, length-append, append_assoc}
 use Rattle.std.proofs.{lemmas.List.{append-nil, drop_at, take_at}, lemmas.Bool.{cases_lt, Decides.nat_tests}}
 use Rattle.lert_counter.specs.Group.{group}
-use Rattle.lert_runs.specs.{RunText.{run_text, RemaindersAscend, RemaindersBelow, IsTextOf, count_in, pairs_below}, Begins.IsUncut, Halves.IsPartOf, Place.IsPlaceOf, declared.{halves.Part.Part, place.Place.Place}}
+use Rattle.lert_runs.specs.{RunText.{run_text, RemaindersAscend, RemaindersBelow, IsTextOf, count_in, pairs_below}, Begins.IsUncut, Halves.IsPartOf, Place.IsPlaceOf}
+use Rattle.lert_runs.specs.declared.{halves.Part.Part, place.Place.Place}
 use Rattle.lert_runs.proofs.{RunLemmas.{run_text-append, count_in-below, count_in-later, pairs_below-more, pairs_below-none}, WalkLemmas.ascend_behind, CutLemmas.{Cut, uncut_cuts}}
 
 -- the whole run

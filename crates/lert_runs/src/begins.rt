@@ -33,8 +33,8 @@ fn recurs(run: &[u64], slot: u64, from: usize, to: usize) -> bool
     false
 }
 
-/// Whether no group that begins at `i` goes on at `at`: the slot there is above 0, and the next is greater, or it stands
-/// again before `at`.
+/// Whether no group that begins at `i` goes on at `at`: the slot there is above 0, and the next is greater, or it
+/// stands again before `at`.
 fn is_closed(run: &[u64], i: usize, at: usize) -> bool
     requires order { i < at }
     requires within { at < length run.now }

@@ -16,8 +16,8 @@ pub(crate) struct Part {
     pub high: usize,
 }
 
-/// The part of a run text in which `x` stands or belongs. It is short, unless few places tell that a group begins there:
-/// so it is only near remainders whose counts are greater than they are.
+/// The part of a run text in which `x` stands or belongs. It is short, unless few places tell that a group begins
+/// there: so it is only near remainders whose counts are greater than they are.
 pub(crate) fn part_around(width: u32, run: &[u64], x: u64) -> Part
     ensures order { result.low ≤ result.high }
     ensures within { result.high ≤ length run.now }

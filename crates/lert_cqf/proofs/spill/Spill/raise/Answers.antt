@@ -6,7 +6,7 @@ use Rattle.lert_cqf.proofs.spill.Spill.raise.Goals as goal
 pub raise-requires-clause-within : goal.raise-requires-clause-within
 raise-requires-clause-within c =
     let own = c.self.inside.own.items in
-    omega (arith, c.requires.within, sums_long 0 own c.self.inside.common.items, ap length c.self.view_is, ap length c.deref_mut.ensures.value)
+    omega (arith, c.requires.within, sums_long 0 own c.self.inside.common.items, ap length c.self.view_is, ap length c.deref_mut-else-is_by_blocks.ensures.value)
 
 pub raise-requires-clause-room : goal.raise-requires-clause-room
 raise-requires-clause-room c = λ g low high.
@@ -16,19 +16,19 @@ raise-requires-clause-room c = λ g low high.
     let same = ap length c.self.view_is in
     let room = c.requires.room g (omega arith) in
     let sum = sums_at own common g (omega (arith, c.requires.within, long, same)) in
-    omega (arith, room, sum, ap (λ (t : List ℕ). get_or t g 0) c.self.view_is, ap (λ (t : List ℕ). get_or t g 0) c.deref_mut.ensures.value)
+    omega (arith, room, sum, ap (λ (t : List ℕ). get_or t g 0) c.self.view_is, ap (λ (t : List ℕ). get_or t g 0) c.deref_mut-else-is_by_blocks.ensures.value)
 
 pub raise_far-requires-clause-within : goal.raise_far-requires-clause-within
 raise_far-requires-clause-within c =
     let own = c.self.inside.own.items in
-    omega (arith, c.requires.within, sums_long 0 own c.self.inside.common.items, ap length c.self.view_is, ap length c.deref_mut-else-saturating_sub-lt-NEAR.ensures.value)
+    omega (arith, c.requires.within, sums_long 0 own c.self.inside.common.items, ap length c.self.view_is, ap length c.deref_mut.ensures.value)
 
 pub raise_far-requires-clause-room : goal.raise_far-requires-clause-room
 raise_far-requires-clause-room c = λ g within.
     let own = c.self.inside.own.items in
     let common = c.self.inside.common.items in
-    let own_is = c.deref_mut-else-saturating_sub-lt-NEAR.ensures.value in
-    let common_is = c.deref_mut-else-saturating_sub-lt-NEAR-2.ensures.value in
+    let own_is = c.deref_mut.ensures.value in
+    let common_is = c.deref_mut-then-is_by_blocks.ensures.value in
     let long = sums_long 0 own common in
     let same = ap length c.self.view_is in
     let room = c.requires.room g (omega (arith, within, long, same, ap length own_is)) in
@@ -42,26 +42,26 @@ overflow_add-to c =
     let same = ap length c.self.view_is in
     record { fits = omega (arith, c.requires.within, long, same, own.ok.0, own.small) }
 
-pub returns-then-saturating_sub-lt-NEAR : goal.returns-then-saturating_sub-lt-NEAR
-returns-then-saturating_sub-lt-NEAR c =
+pub returns-else-is_by_blocks : goal.returns-else-is_by_blocks
+returns-else-is_by_blocks c =
     let own = c.self.inside.own in
     let common = c.self.inside.common.items in
     let numbers = c.raise.new.numbers in
     let long = sums_long 0 own.items common in
     let same = ap length c.self.view_is in
-    let new = with_items_is own numbers (c.raise.auto.numbers ∙ c.deref_mut.ensures.len) in
-    let raised : IsRaisedTo own.items numbers c.args.from (c.args.to + 1) = rw c.deref_mut.ensures.value at c.raise.ensures in
+    let new = with_items_is own numbers (c.raise.auto.numbers ∙ c.deref_mut-else-is_by_blocks.ensures.len) in
+    let raised : IsRaisedTo own.items numbers c.args.from (c.args.to + 1) = rw c.deref_mut-else-is_by_blocks.ensures.value at c.raise.ensures in
     subst (λ (t : List ℕ). IsRaised c.args.self.now (sums t common) c.args.from c.args.to) (sym new)
     (subst (λ (t : List ℕ). IsRaised t (sums numbers common) c.args.from c.args.to) c.self.view_is
     (sums_raised own.items common numbers common c.args.from c.args.to c.requires.order (omega (arith, c.requires.within, long, same))
     (near_raised own.items common numbers c.args.from c.args.to raised)))
 
-pub returns-else-saturating_sub-lt-NEAR : goal.returns-else-saturating_sub-lt-NEAR
-returns-else-saturating_sub-lt-NEAR c =
+pub returns-then-is_by_blocks : goal.returns-then-is_by_blocks
+returns-then-is_by_blocks c =
     let own = c.self.inside.own in
     let common = c.self.inside.common in
-    let own_is = c.deref_mut-else-saturating_sub-lt-NEAR.ensures in
-    let common_is = c.deref_mut-else-saturating_sub-lt-NEAR-2.ensures in
+    let own_is = c.deref_mut.ensures in
+    let common_is = c.deref_mut-then-is_by_blocks.ensures in
     let numbers = c.raise_far.new.own in
     let blocks = c.raise_far.new.common in
     let long = sums_long 0 own.items common.items in
