@@ -13,4 +13,5 @@ pub mod SpillLemmas
 pub mod SplitLemmas
 pub mod SpreadLemmas
 pub mod StandingLemmas
+pub mod SumLemmas
 pub mod TableLemmas

@@ -4,4 +4,5 @@ pub mod Contents
 pub mod Growing
 pub mod Layout
 pub mod Rows
+pub mod Spill
 pub mod Standing

@@ -1,7 +1,8 @@
 //! Writes to a part of a row.
 
 ghost use Rattle.std.specs.Prelude.{◌≡◌, ℕ, ◌+◌, ◌^◌, ◌<◌, ◌≤◌, ◌++◌, List, length, replicate, take, drop, slice_index};
-ghost use Rattle.lert_cqf.specs.Rows.{IsRaised, filled_gap};
+ghost use Rattle.lert_cqf.specs.Rows.{filled_gap};
+ghost use Rattle.lert_cqf.specs.Spill.{IsRaisedTo};
 
 /// Moves the values `from..to` one place up; the one at `to` comes to `from`.
 pub fn rotate_up(slots: &mut [u64], from: usize, to: usize)
@@ -38,12 +39,12 @@ fn raise_all(numbers: &mut [u32])
     }
 }
 
-/// Raises the numbers from `from` up to `to` by one.
-pub fn raise(numbers: &mut [u32], from: usize, to: usize)
-    requires order { from ≤ to + 1 }
-    requires within { to < length numbers.old }
-    requires room { (g : ℕ) → g < length numbers.old → slice_index numbers.old g + 1 < 2 ^ 32 }
-    ensures { IsRaised numbers.old numbers.new from to }
+/// Raises the numbers from `from` on, before `end`, by one.
+pub fn raise(numbers: &mut [u32], from: usize, end: usize)
+    requires order { from ≤ end }
+    requires within { end ≤ length numbers.old }
+    requires room { (g : ℕ) → from ≤ g → g < end → slice_index numbers.old g + 1 < 2 ^ 32 }
+    ensures { IsRaisedTo numbers.old numbers.new from end }
 {
-    raise_all(&mut numbers[from..to + 1]);
+    raise_all(&mut numbers[from..end]);
 }

@@ -10,7 +10,7 @@ ghost use Rattle.lert_cqf.specs.Contents.{IsKept, IsPutting};
 ghost use Rattle.lert_cqf.specs.Growing.{Stand, IsGrowing, IsBeginning, HasBegun};
 ghost use Rattle.lert_cqf.specs.Rows.{IsRaised, filled_gap};
 
-use crate::cells::{overwrite, raise, rotate_up};
+use crate::cells::{overwrite, rotate_up};
 use crate::rows::Rows;
 use lert_counter::write_group;
 use lert_runs::grown;
@@ -21,12 +21,12 @@ impl Rows {
     pub fn open_slot(&mut self, home: u64, place: u64, mark: u64)
         requires mark { mark ≤ place }
         requires home { home ≤ place }
-        requires homes { home + 1 < length self.old.spill.items }
+        requires homes { home + 1 < length self.old.spill }
         requires slots_long { length self.old.slots.items ≡ length self.old.used }
         requires ends_long { length self.old.run_ends ≡ length self.old.used }
         requires free { (f : ℕ) × IsFirst false self.old.used place f }
-        requires room { (g : ℕ) → g < length self.old.spill.items
-            → slice_index self.old.spill.items g + 1 < 2 ^ 32 }
+        requires room { (g : ℕ) → g < length self.old.spill
+            → slice_index self.old.spill g + 1 < 2 ^ 32 }
         ensures slots { (f : ℕ) → IsFirst false self.old.used place f
             → self.new.slots.items ≡ filled_gap self.old.slots.items place f (slice_index self.old.slots.items f) }
         ensures run_ends { (f : ℕ) → IsFirst false self.old.used place f
@@ -34,8 +34,8 @@ impl Rows {
         ensures used { (f : ℕ) → IsFirst false self.old.used place f
             → self.new.used ≡ slice_set self.old.used f true }
         ensures spill { (f : ℕ) → IsFirst false self.old.used place f
-            → IsRaised self.old.spill.items self.new.spill.items (home + 1)
-            (min f (length self.old.spill.items - 1)) }
+            → IsRaised self.old.spill self.new.spill (home + 1)
+            (min f (length self.old.spill - 1)) }
         ensures occupied { self.new.occupied ≡ self.old.occupied }
     {
         let Some(free) = self.used.next_false(place) else {
@@ -45,21 +45,18 @@ impl Rows {
         self.run_ends.open_gap(mark, free);
         self.used.set(free, true);
         let last_home = self.spill.len() - 1;
-        raise(
-            &mut self.spill,
-            home as usize + 1,
-            last_home.min(free as usize),
-        );
+        self.spill
+            .raise(home as usize + 1, last_home.min(free as usize));
     }
 
     /// Makes room for `extra` slots at `place` in the run of `home`, whose last slot is `last`.
     pub fn widen(&mut self, home: u64, place: u64, last: u64, extra: usize)
         requires { (n : ℕ) × (homes : ℕ) × IsOpening n homes home place last extra
-            self.old.slots.items self.old.run_ends self.old.used self.old.spill.items }
+            self.old.slots.items self.old.run_ends self.old.used self.old.spill }
         ensures widened { (n homes : ℕ) (o : IsOpening n homes home place last extra
-            self.old.slots.items self.old.run_ends self.old.used self.old.spill.items)
+            self.old.slots.items self.old.run_ends self.old.used self.old.spill)
             → IsWidened n homes home extra o.before o.after o.front o.back
-            self.new.slots.items self.new.run_ends self.new.used self.new.spill.items }
+            self.new.slots.items self.new.run_ends self.new.used self.new.spill }
         ensures occupied { self.new.occupied ≡ self.old.occupied }
     {
         for count in 0..extra {
@@ -70,12 +67,12 @@ impl Rows {
     /// Begins a run of one slot at `home`; its value is written later.
     fn begin_run(&mut self, width: u32, home: u64, x: u64, count: u64)
         requires beginning { (n : ℕ) × (homes : ℕ) × IsBeginning n homes width home x count
-            self.old.slots.items self.old.run_ends self.old.used self.old.spill.items }
+            self.old.slots.items self.old.run_ends self.old.used self.old.spill }
         requires occupied { home < length self.old.occupied }
         ensures begun { (n homes : ℕ) (b : IsBeginning n homes width home x count
-            self.old.slots.items self.old.run_ends self.old.used self.old.spill.items)
+            self.old.slots.items self.old.run_ends self.old.used self.old.spill)
             → HasBegun n homes home b.before b.after
-            self.new.slots.items self.new.run_ends self.new.used self.new.spill.items }
+            self.new.slots.items self.new.run_ends self.new.used self.new.spill }
         ensures occupied { self.new.occupied ≡ slice_set self.old.occupied home true }
     {
         let place = self.start(home);
@@ -89,12 +86,12 @@ impl Rows {
         requires narrow { 8 ≤ width }
         requires wide { width ≤ 62 }
         requires beginning { (n : ℕ) × (homes : ℕ) × IsBeginning n homes width home x count
-            self.old.slots.items self.old.run_ends self.old.used self.old.spill.items }
+            self.old.slots.items self.old.run_ends self.old.used self.old.spill }
         requires occupied { home < length self.old.occupied }
         ensures stand { (n homes : ℕ) (b : IsBeginning n homes width home x count
-            self.old.slots.items self.old.run_ends self.old.used self.old.spill.items)
+            self.old.slots.items self.old.run_ends self.old.used self.old.spill)
             → Stand n homes (b.before ++ (home, run_text width ((x, count) ∷ [])) ∷ b.after)
-            self.new.slots.items self.new.run_ends self.new.used self.new.spill.items }
+            self.new.slots.items self.new.run_ends self.new.used self.new.spill }
         ensures occupied { self.new.occupied ≡ slice_set self.old.occupied home true }
     {
         let start = self.start(home);
@@ -111,11 +108,11 @@ impl Rows {
         requires wide { width ≤ 62 }
         requires positive { 1 ≤ count }
         requires growing { (n : ℕ) × (homes : ℕ) × IsGrowing n homes width home x count
-            self.old.slots.items self.old.run_ends self.old.used self.old.spill.items }
+            self.old.slots.items self.old.run_ends self.old.used self.old.spill }
         ensures stand { (n homes : ℕ) (g : IsGrowing n homes width home x count
-            self.old.slots.items self.old.run_ends self.old.used self.old.spill.items)
+            self.old.slots.items self.old.run_ends self.old.used self.old.spill)
             → Stand n homes (g.before ++ (home, run_text width (pairs_plus g.pairs x count)) ∷ g.after)
-            self.new.slots.items self.new.run_ends self.new.used self.new.spill.items }
+            self.new.slots.items self.new.run_ends self.new.used self.new.spill }
         ensures occupied { self.new.occupied ≡ self.old.occupied }
     {
         let growth = grown(width, self.run(home), x, count);
@@ -129,14 +126,14 @@ impl Rows {
     pub fn put(&mut self, width: u32, home: u64, x: u64, n: u64)
         requires kept { (table : List Piece) × (quotient_bits : ℕ) × (adds : ℕ) × (room : ℕ)
             × IsKept table quotient_bits width adds room self.old.slots.items self.old.occupied
-            self.old.run_ends self.old.used self.old.spill.items
+            self.old.run_ends self.old.used self.old.spill
             × (tail : ℕ) × IsPutting adds quotient_bits width room tail n home x }
         ensures { (table : List Piece) (quotient_bits adds room tail : ℕ)
             → IsKept table quotient_bits width adds room self.old.slots.items self.old.occupied
-            self.old.run_ends self.old.used self.old.spill.items
+            self.old.run_ends self.old.used self.old.spill
             → IsPutting adds quotient_bits width room tail n home x
             → IsKept (plus table tail n) quotient_bits width (adds + 1) room self.new.slots.items self.new.occupied
-            self.new.run_ends self.new.used self.new.spill.items }
+            self.new.run_ends self.new.used self.new.spill }
     {
         if self.occupied.get(home) {
             self.grow_run(width, home, x, n);

@@ -10,6 +10,7 @@ mod cells;
 mod changes;
 mod cursor;
 mod rows;
+mod spill;
 mod table;
 
 pub use cursor::CqfCursor;

@@ -8,6 +8,7 @@ ghost use Rattle.std.specs.Prelude.{◌≡◌, ◌≢◌, ◌+◌, ◌-◌, ◌^
 ghost use Rattle.lert_cqf.specs.Rows.{run_slots};
 
 use crate::cells::clear_first;
+use crate::spill::Spill;
 use lert_io::OutOfMemory;
 use lert_slotbits::Bits;
 use std::alloc::Global;
@@ -19,7 +20,7 @@ pub struct Rows {
     pub occupied: Bits,
     pub run_ends: Bits,
     pub used: Bits,
-    pub spill: Vec<u32>,
+    pub spill: Spill,
 }
 
 impl Rows {
@@ -30,34 +31,34 @@ impl Rows {
         ensures occupied { IfOk result (λ r. r.occupied ≡ replicate homes false) }
         ensures run_ends { IfOk result (λ r. r.run_ends ≡ replicate slots false) }
         ensures used { IfOk result (λ r. r.used ≡ replicate slots false) }
-        ensures spill { IfOk result (λ r. r.spill.items ≡ replicate (homes + 1) 0) }
+        ensures spill { IfOk result (λ r. r.spill ≡ replicate (homes + 1) 0) }
     {
         Ok(Rows {
             slots: vec![in alloc; 0; slots as usize]?,
             occupied: Bits::new(alloc, homes)?,
             run_ends: Bits::new(alloc, slots)?,
             used: Bits::new(alloc, slots)?,
-            spill: vec![in alloc; 0; homes as usize + 1]?,
+            spill: Spill::new(alloc, homes as usize + 1)?,
         })
     }
 
     /// Where the runs below `home` end, or `home` itself behind them.
     pub fn start(&self, home: u64) -> u64
-        requires within { home < length self.now.spill.items }
-        requires fits { home + slice_index self.now.spill.items home < 2 ^ 64 }
-        ensures { result ≡ home + slice_index self.now.spill.items home }
+        requires within { home < length self.now.spill }
+        requires fits { home + slice_index self.now.spill home < 2 ^ 64 }
+        ensures { result ≡ home + slice_index self.now.spill home }
     {
-        home + u64::from(self.spill[home as usize])
+        home + self.spill.get(home as usize)
     }
 
     /// The slots of the run of `home`.
     pub fn run(&self, home: u64) -> &[u64]
-        requires within { home + 1 < length self.now.spill.items }
-        requires order { slice_index self.now.spill.items home
-            ≤ 1 + slice_index self.now.spill.items (home + 1) }
-        requires end { home + 1 + slice_index self.now.spill.items (home + 1)
+        requires within { home + 1 < length self.now.spill }
+        requires order { slice_index self.now.spill home
+            ≤ 1 + slice_index self.now.spill (home + 1) }
+        requires end { home + 1 + slice_index self.now.spill (home + 1)
             ≤ length self.now.slots.items }
-        ensures { result.now ≡ run_slots home self.now.slots.items self.now.spill.items }
+        ensures { result.now ≡ run_slots home self.now.slots.items self.now.spill }
     {
         self.part(self.start(home), self.start(home + 1))
     }
@@ -106,12 +107,12 @@ impl Rows {
         ensures occupied { self.new.occupied ≡ replicate (length self.old.occupied) false }
         ensures run_ends { self.new.run_ends ≡ replicate (length self.old.run_ends) false }
         ensures used { self.new.used ≡ replicate (length self.old.used) false }
-        ensures spill { self.new.spill.items ≡ replicate (length self.old.spill.items) 0 }
+        ensures spill { self.new.spill ≡ replicate (length self.old.spill) 0 }
     {
         clear_first(&mut self.slots, end as usize);
         self.occupied.clear();
         self.run_ends.clear();
         self.used.clear();
-        self.spill.fill(0);
+        self.spill.clear();
     }
 }

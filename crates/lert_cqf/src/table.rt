@@ -18,9 +18,12 @@ use std::marker::Model;
 /// More slots than a spill can count.
 const TOO_MANY_SLOTS: u64 = (1 << 32) - 1;
 
+/// A remainder above all counts is looked for in so many slots one by one, and in more by halves.
+const FEW_SLOTS: u64 = 64;
+
 /// A counting quotient filter: the counts of tails, in `2^q + 4 * events` slots, where `events` adds have room.
 ///
-/// Beside the slots it takes 4 bytes and a bit for each quotient, and two bits for each slot.
+/// Beside the slots it takes four bytes and two bits for each quotient, and two bits for each slot.
 #[derive(Drop)]
 pub struct Cqf {
     rows: Rows,
@@ -50,7 +53,7 @@ impl Model for Cqf {
     } };
 
     ghost invariant = { λ t. IsKept (built t.added) t.quotient_bits t.width t.adds t.room
-        t.rows.slots.items t.rows.occupied t.rows.run_ends t.rows.used t.rows.spill.items
+        t.rows.slots.items t.rows.occupied t.rows.run_ends t.rows.used t.rows.spill
         × (t.sum ≡ total (built t.added)) };
 }
 
@@ -171,7 +174,7 @@ impl CountTable for Cqf {
             return self.rows.count_first(home, at, x) + self.rows.count_second(at, end, x);
         }
         let run = self.rows.part(at, end);
-        if x > self.sum {
+        if x > self.sum && end - at <= FEW_SLOTS {
             // So do nearly all remainders: no count is greater than all of them together.
             return count_above_all(run, x);
         }

@@ -4,6 +4,7 @@ ghost use Rattle.std.specs.Prelude.{◌≡◌, ℕ, ◌≤◌, List};
 ghost use Rattle.lert_runs.specs.Place.{IsPlaceOf};
 ghost use Rattle.lert_runs.specs.RunText.{IsTextOf};
 
+use crate::halves::{SHORT, part_around};
 use lert_counter::scan_group;
 
 /// Where the group of a remainder stands, or with no slots and no count where it belongs.
@@ -28,7 +29,7 @@ impl Place {
 }
 
 /// The place of `x` in a run text. The run is read up to there, and at most nine slots from there on.
-pub fn find(width: u32, run: &[u64], x: u64) -> Place
+fn walk_to(width: u32, run: &[u64], x: u64) -> Place
     requires narrow { 8 ≤ width }
     requires wide { width ≤ 62 }
     requires run_text { (ps : List (ℕ × ℕ)) × IsTextOf width run.now ps }
@@ -53,4 +54,23 @@ pub fn find(width: u32, run: &[u64], x: u64) -> Place
         start += group.used;
     }
     Place::absent(start)
+}
+
+/// The place of `x` in a run text. A long run is searched by halves.
+pub fn find(width: u32, run: &[u64], x: u64) -> Place
+    requires narrow { 8 ≤ width }
+    requires wide { width ≤ 62 }
+    requires run_text { (ps : List (ℕ × ℕ)) × IsTextOf width run.now ps }
+    ensures { (ps : List (ℕ × ℕ)) → IsTextOf width run.now ps → IsPlaceOf width x ps result }
+{
+    if run.len() <= SHORT {
+        return walk_to(width, run, x);
+    }
+    let part = part_around(width, run, x);
+    let place = walk_to(width, &run[part.low..part.high], x);
+    Place {
+        start: part.low + place.start,
+        used: place.used,
+        count: place.count,
+    }
 }

@@ -21,6 +21,10 @@ fn moved_part(word: u64, index: usize, from: u64, to: u64, carry: u64) -> u64
     ensures above { (i : ℕ) → i < 64 → to < 64 * index + i → bit_at result i ≡ bit_at word i }
 {
     let start = 64 * index as u64;
+    if from <= start && to - start >= 63 {
+        // Most words of a wide gap, and with these numbers one shift.
+        return moved_up(word, 0, 63, carry);
+    }
     let low = from.saturating_sub(start) as u32;
     let high = (to - start).min(63) as u32;
     moved_up(word, low, high, carry)

@@ -1,5 +1,5 @@
-use Rattle.std.proofs.{Common.{◌≡◌, ◌-◌, ◌+◌, ap, sym, ◌∙◌, List, ℕ, false, get_or, min, subst, length, arith}, lemmas.List.with_items_is}
-use Rattle.lert_cqf.specs.Rows.{filled_gap, IsRaised}
+use Rattle.std.proofs.{Common.{◌≡◌, ◌-◌, ap, ◌∙◌, List, ℕ, false, get_or, min, length, arith}, lemmas.List.with_items_is}
+use Rattle.lert_cqf.specs.Rows.{filled_gap}
 use Rattle.lert_cqf.proofs.RotateLemmas.{first_unique}
 use Rattle.lert_cqf.proofs.rows.Rows.open_slot.Goals as goal
 
@@ -16,7 +16,5 @@ pub returns-clause-spill : goal.returns-clause-spill
 returns-clause-spill c = λ f first.
     let spill = c.args.self.now.spill in
     let same : c.in-Some.free ≡ f = first_unique false c.args.self.now.used c.args.place c.in-Some.free f c.in-Some.ensures first in
-    let new = with_items_is spill c.raise.new.numbers (c.raise.auto.numbers ∙ c.deref_mut-2.ensures.len) in
-    let to : c.min.result ≡ min f (length spill.items - 1) = omega (arith, spill.ok.0, c.min.ensures, c.len-last_home.ensures) in
-    let told : IsRaised spill.items c.raise.new.numbers (c.args.home + 1) c.min.result = rw c.deref_mut-2.ensures.value at c.raise.ensures in
-    subst (λ (t : List ℕ). IsRaised spill.items t (c.args.home + 1) (min f (length spill.items - 1))) (sym new) (rw to at told)
+    let to : c.min.result ≡ min f (length spill - 1) = omega (arith, c.min.ensures, c.len-last_home.ensures) in
+    rw to at c.raise.ensures

@@ -26,7 +26,7 @@ invariant_of-self c =
     } in
     let more : built c.push.new.self ≡ plus (built c.self.inside.added) c.args.tail c.args.n = ap built c.push.ensures ∙ built_more c.self.inside.added c.args.tail c.args.n in (
       subst (λ (t : List Piece). IsKept t c.self.inside.quotient_bits c.self.inside.width (c.self.inside.adds + 1) c.self.inside.room c.put.new.self.slots.items c.put.new.self.occupied
-          c.put.new.self.run_ends c.put.new.self.used c.put.new.self.spill.items)
+          c.put.new.self.run_ends c.put.new.self.used c.put.new.self.spill)
           (sym more)
           (c.put.ensures (built c.self.inside.added) c.self.inside.quotient_bits c.self.inside.adds c.self.inside.room c.args.tail c.self.invariant.0 putting),
       ap (λ sum. sum + c.args.n) c.self.invariant.1 ∙ sym (total-plus (built c.self.inside.added) c.args.tail c.args.n) ∙ sym (ap total more),

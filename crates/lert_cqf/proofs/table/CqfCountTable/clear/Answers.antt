@@ -24,6 +24,6 @@ pub invariant_of-self : goal.invariant_of-self
 invariant_of-self c =
     let e = c.clear.ensures in
     subst (λ (t : List Piece). IsKept (built t) c.self.inside.quotient_bits c.self.inside.width 0 c.self.inside.room c.clear.new.self.slots.items c.clear.new.self.occupied
-    c.clear.new.self.run_ends c.clear.new.self.used c.clear.new.self.spill.items × (0 ≡ total (built t)))
+    c.clear.new.self.run_ends c.clear.new.self.used c.clear.new.self.spill × (0 ≡ total (built t)))
     (sym c.new.ensures)
     (kept_empty _ _ _ _ _ _ _ _ _ _ c.self.invariant.0 _ _ _ _ _ e.slots e.occupied e.run_ends e.used e.spill, refl)

@@ -73,7 +73,7 @@ returns-then-end-at c =
     let second = c.count_second.ensures in
     let at = c.start-at.ensures in
     let end = c.start-end.ensures in
-    let last : c.start-end.result - 1 ≡ home + get_or c.self.inside.rows.spill.items (home + 1) 0 = omega (arith, end) in
+    let last : c.start-end.result - 1 ≡ home + get_or c.self.inside.rows.spill (home + 1) 0 = omega (arith, end) in
     short_count _ _ _ _ _ _ _ _ _ _ c.self.invariant.0 home (let low = c.if-home-len.false in let len = c.len.ensures in omega arith)
     c.args.tail x c.count_first.result c.count_second.result q_is x_is (omega (arith, at, end, c.if-end-at.true))
     first.vacant (λ apart. first.other (λ e. apart (ap (λ i. get_or slots i 0) (sym at) ∙ e)))
@@ -99,7 +99,7 @@ find-requires-clause-run_text c =
       record {
         ascend = h.ascend;
         text = c.part-run.ensures ∙ ap (λ k. take (k - c.start-at.result) (drop c.start-at.result c.self.inside.rows.slots.items)) c.start-end.ensures
-            ∙ ap (λ k. take (c.parts-home.result.0 + 1 + get_or c.self.inside.rows.spill.items (c.parts-home.result.0 + 1) 0 - k) (drop k c.self.inside.rows.slots.items)) c.start-at.ensures
+            ∙ ap (λ k. take (c.parts-home.result.0 + 1 + get_or c.self.inside.rows.spill (c.parts-home.result.0 + 1) 0 - k) (drop k c.self.inside.rows.slots.items)) c.start-at.ensures
             ∙ bounds.slice;
       },
     )
@@ -115,14 +115,14 @@ returns c =
     (c.find.ensures h.pairs (record {
       ascend = h.ascend;
       text = c.part-run.ensures ∙ ap (λ k. take (k - c.start-at.result) (drop c.start-at.result c.self.inside.rows.slots.items)) c.start-end.ensures
-          ∙ ap (λ k. take (c.parts-home.result.0 + 1 + get_or c.self.inside.rows.spill.items (c.parts-home.result.0 + 1) 0 - k) (drop k c.self.inside.rows.slots.items)) c.start-at.ensures
+          ∙ ap (λ k. take (c.parts-home.result.0 + 1 + get_or c.self.inside.rows.spill (c.parts-home.result.0 + 1) 0 - k) (drop k c.self.inside.rows.slots.items)) c.start-at.ensures
           ∙ bounds.slice;
     })).count
     ∙ count_present _ _ _ _ _ _ _ _ _ _ c.self.invariant.0 c.args.tail c.parts-home.result.0 c.parts-home.result.1 q_is x_is h
     ∙ ap (λ (t : Contents). count_of t.pieces c.args.tail) c.self.view_is
 
-pub returns-then-x-self : goal.returns-then-x-self
-returns-then-x-self c =
+pub returns-then-end-at-le-FEW_SLOTS : goal.returns-then-end-at-le-FEW_SLOTS
+returns-then-end-at-le-FEW_SLOTS c =
     let long = occupied_long _ _ _ _ _ _ _ _ _ _ c.self.invariant.0 in
     let h = long_run _ _ _ _ _ _ _ _ _ _ c.self.invariant.0 c.parts-home.result.0 (let low = c.if-home-len.false in let len = c.len.ensures in omega arith)
     (omega (arith, c.start-at.ensures, c.start-end.ensures, c.if-end-at.false)) in
@@ -134,7 +134,7 @@ returns-then-x-self c =
     (record {
       ascend = h.ascend;
       text = c.part-run.ensures ∙ ap (λ k. take (k - c.start-at.result) (drop c.start-at.result c.self.inside.rows.slots.items)) c.start-end.ensures
-          ∙ ap (λ k. take (c.parts-home.result.0 + 1 + get_or c.self.inside.rows.spill.items (c.parts-home.result.0 + 1) 0 - k) (drop k c.self.inside.rows.slots.items)) c.start-at.ensures
+          ∙ ap (λ k. take (c.parts-home.result.0 + 1 + get_or c.self.inside.rows.spill (c.parts-home.result.0 + 1) 0 - k) (drop k c.self.inside.rows.slots.items)) c.start-at.ensures
           ∙ bounds.slice;
     })
     (held_below c.self.inside.width c.parts-home.result.1 _ c.parts-home.result.0 (built c.self.inside.added) h (omega (arith, c.self.invariant.1, c.if-x-self.true)))

@@ -9,7 +9,7 @@ invariant_of-result c =
     let e = c.in_ok-rows.ensures in
     let rows = c.in_ok-rows.rows in
     let homes_are = one_shl c.args.quotient 64 (omega (arith, c.requires.most_quotient)) in
-    subst (λ (t : List Piece). IsKept (built t) c.args.quotient c.args.remainder 0 c.args.events rows.slots.items rows.occupied rows.run_ends rows.used rows.spill.items × (0 ≡ total (built t)))
+    subst (λ (t : List Piece). IsKept (built t) c.args.quotient c.args.remainder 0 c.args.events rows.slots.items rows.occupied rows.run_ends rows.used rows.spill × (0 ≡ total (built t)))
     (sym c.new-2.ensures) (
       kept_none c.args.quotient c.args.remainder c.args.events _ _ _ _ _ _ _
           (record {
