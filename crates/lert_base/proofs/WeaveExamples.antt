@@ -3,7 +3,7 @@ use Rattle.std.proofs.{Common.{◌≡◌, ℕ, zero, suc, ◌<◌, List, [], ◌
 use Rattle.std.proofs.lemmas.Option.{none-some, same_Some}
 use Rattle.std.specs.Prelude.{All}
 use Rattle.lert_base.specs.{Packet.{Packet, events_of, of_trace}, Weave.{AreCut, IsBrought, IsWhole, IsWoven}}
-use Rattle.lert_spec.specs.{declared.numbers.Numbers.Numbers, Mix.{mix, part_of}, Items.units}
+use Rattle.lert_spec.specs.{declared.numbers.Numbers.Numbers, Mix.{mix, part_of}, Items.{keys_in, units}}
 use Rattle.lert_spec.proofs.ItemLaws.{length-units}
 
 -- settings with two cones and packets of two keys
@@ -57,9 +57,9 @@ each_brought =
     (brought_by 0 (6 ∷ []) behind_third (omega arith) (omega arith) (omega arith)
     (brought_by 1 (14 ∷ []) [] (omega arith) (omega arith) (omega arith) (All-nil Brought))))
 
-joined_each : (trace : ℕ) (keys : List ℕ) → slice_get traces trace ≡ Some keys → events_of (of_trace woven trace) ≡ part_of small 1 keys
-joined_each zero keys is = sym part_of_first ∙ ap (part_of small 1) (same_Some _ _ is)
-joined_each (suc zero) keys is = sym part_of_second ∙ ap (part_of small 1) (same_Some _ _ is)
+joined_each : (trace : ℕ) (keys : List ℕ) → slice_get traces trace ≡ Some keys → events_of (of_trace woven trace) ≡ units (part_of small 1 keys)
+joined_each zero keys is = ap units (sym part_of_first ∙ ap (part_of small 1) (same_Some _ _ is))
+joined_each (suc zero) keys is = ap units (sym part_of_second ∙ ap (part_of small 1) (same_Some _ _ is))
 joined_each (suc (suc trace)) keys is = absurd (none-some keys is)
 
 -- of two packets the first is whole
@@ -79,6 +79,6 @@ is_woven = record { each = each_brought; joined = joined_each; cut = cut_each }
 -- the packets of the first trace join to other keys
 isn't_woven : IsWoven small 1 2 traces strayed → ⊥
 isn't_woven is =
-    let joined : 1 ∷ 5 ∷ 5 ∷ [] ≡ 1 ∷ 5 ∷ 6 ∷ [] = is.joined 0 (1 ∷ 2 ∷ 5 ∷ 6 ∷ []) refl ∙ part_of_first in
-    let other : 5 ≡ 6 = ap (λ keys. get_or keys 2 0) joined in
+    let joined : units (1 ∷ 5 ∷ 5 ∷ []) ≡ units (1 ∷ 5 ∷ 6 ∷ []) = is.joined 0 (1 ∷ 2 ∷ 5 ∷ 6 ∷ []) refl ∙ ap units part_of_first in
+    let other : 5 ≡ 6 = ap (λ items. get_or (keys_in items) 2 0) joined in
     omega (arith, other)

@@ -1,6 +1,6 @@
--- Beginnings of lists of numbers: of texts, and of keys.
-use Rattle.std.specs.Prelude.{◌≡◌, List, ℕ, ◌++◌}
+-- Beginnings of lists: of texts, and of items.
+use Rattle.std.specs.Prelude.{◌≡◌, List, ◌++◌}
 
--- a text begins with a part
-abbrev pub BeginsWith : List ℕ → List ℕ → Type 0
-BeginsWith text part = (rest : List ℕ) × (part ++ rest ≡ text)
+-- a list begins with a part
+abbrev pub BeginsWith : {A : Type 0} → List A → List A → Type 0
+BeginsWith {A} whole part = (rest : List A) × (part ++ rest ≡ whole)

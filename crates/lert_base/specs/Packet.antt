@@ -20,6 +20,6 @@ own history number = filter (λ p. p.by == number) history
 abbrev pub of_trace : List Packet → ℕ → List Packet
 of_trace history trace = filter (λ packet. packet.trace == trace) history
 
--- the keys of all packets, one behind the other
-abbrev pub events_of : List Packet → List ℕ
-events_of history = flat_map (λ packet. keys_of packet) history
+-- the items of all packets, one behind the other
+abbrev pub events_of : List Packet → List Item
+events_of history = flat_map (λ packet. packet.items) history
