@@ -1,7 +1,7 @@
 -- What the rings hold, ring by ring.
 use Rattle.std.proofs.Common.{ℕ, ◌≡◌, ◌+◌, ◌-◌, ◌*◌, ◌<◌, ◌≤◌, zero, suc, List, [], ◌∷◌, ◌++◌, length}
-use Rattle.std.proofs.Common.{map, get_or, set, take, drop, Some, slice_get, refl, ap, ap₂, sym, subst, ◌∙◌, arith, append_assoc, length-append, length-take-le}
-use Rattle.std.proofs.{lemmas.List.{get_or-map, length-map, take_more}, lemmas.List.Elements.{All-get_or, All-push, All-set}, lemmas.Option.same_Some}
+use Rattle.std.proofs.Common.{map, get_or, set, take, drop, refl, ap, ap₂, sym, subst, ◌∙◌, arith, append_assoc, length-append, length-take-le}
+use Rattle.std.proofs.{lemmas.List.{get_or-map, length-map, take_more}, lemmas.List.Elements.{All-get_or, All-push, All-set}}
 use Rattle.std.specs.Prelude.{All}
 use Rattle.circular_buffer.specs.Buffer.{Buffer, buffer, keep_last}
 use Rattle.lert_buffers.specs.Rings.{AreWeighed, IsRing, IsRoomy, Rings, ring_of, with_ring}
@@ -90,11 +90,6 @@ refilled old ring items place item is room within more =
     ap (λ xs. buffer xs ring.capacity) (kept ring item short)
     ∙ (ap (λ (r : Buffer Item). buffer (r.items ++ item ∷ []) r.capacity) is
     ∙ ap (λ xs. buffer xs old.capacity) (append_assoc old.items (take place items) (item ∷ []) ∙ ap (λ xs. old.items ++ xs) (sym more)))
-
--- the first item of a list, and the others
-pub first : (items : List Item) (item : Item) → slice_get items 0 ≡ Some item → items ≡ item ∷ drop 1 items
-first [] item is = absurd (cc)
-first (other ∷ others) item is = ap (λ i. i ∷ others) (same_Some other item is)
 
 -- what weights say of their items
 pub weighed : (items : List Item) (weights : List ℕ) → weights ≡ weights_in items → All (λ weight. 1 ≤ weight) weights → AreWeighed items

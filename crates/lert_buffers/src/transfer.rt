@@ -14,7 +14,19 @@ pub(crate) fn drain(ring: &mut HeapCircularBuffer<Item>, keys: &mut KeyList)
     ensures keys { keys.new ≡ record keys.old { items = keys.old.items ++ ring.old.items } }
     ensures ring { ring.new ≡ buffer [] ring.old.capacity }
 {
-    while let Some(item) = ring.pop_front() {
+    let (front, back) = ring.as_slices();
+    push_all(keys, front);
+    push_all(keys, back);
+    ring.clear();
+}
+
+/// Puts items behind those of a list, which has room for them.
+fn push_all(keys: &mut KeyList, items: &[Item])
+    requires room { length keys.old.items + length items.now ≤ keys.old.room }
+    requires some { AreWeighed items.now }
+    ensures { keys.new ≡ record keys.old { items = keys.old.items ++ items.now } }
+{
+    for item in items {
         keys.push(item.key, item.weight);
     }
 }

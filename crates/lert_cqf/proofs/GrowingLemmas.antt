@@ -317,3 +317,9 @@ module _ (n homes width home x count : ℕ) (slots : List ℕ) (ends used : List
             short = lengths.short;
           };
         }
+
+-- the slots between where a run begins and where it ends are its own
+pub run_part : (home begin end : ℕ) (slots spill part : List ℕ) → part ≡ take (end - begin) (drop begin slots) → begin ≡ home + get_or spill home 0
+    → end ≡ home + 1 + get_or spill (home + 1) 0 → part ≡ run_slots home slots spill
+run_part home begin end slots spill part is begin_is end_is =
+    is ∙ ap (λ k. take (k - begin) (drop begin slots)) end_is ∙ ap (λ k. take (home + 1 + get_or spill (home + 1) 0 - k) (drop k slots)) begin_is

@@ -115,10 +115,16 @@ impl Rows {
             self.new.slots.items self.new.run_ends self.new.used self.new.spill }
         ensures occupied { self.new.occupied ≡ self.old.occupied }
     {
-        let growth = grown(width, self.run(home), x, count);
-        let at = self.start(home) + growth.start as u64;
-        let last = self.start(home + 1) - 1;
-        self.widen(home, at + growth.old as u64, last, growth.len - growth.old);
+        let begin = self.start(home);
+        let end = self.start(home + 1);
+        let growth = grown(width, self.part(begin, end), x, count);
+        let at = begin + growth.start as u64;
+        self.widen(
+            home,
+            at + growth.old as u64,
+            end - 1,
+            growth.len - growth.old,
+        );
         overwrite(&mut self.slots, at as usize, &growth.text[..growth.len]);
     }
 

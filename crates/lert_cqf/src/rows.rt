@@ -5,7 +5,6 @@
 //! counting of bits, and the first free cell behind a place by a scan of words.
 
 ghost use Rattle.std.specs.Prelude.{◌≡◌, ◌≢◌, ◌+◌, ◌-◌, ◌^◌, ◌<◌, ◌≤◌, true, false, length, replicate, slice_index, slice_index_or, take, drop, IfOk};
-ghost use Rattle.lert_cqf.specs.Rows.{run_slots};
 
 use crate::cells::clear_first;
 use crate::spill::Spill;
@@ -49,18 +48,6 @@ impl Rows {
         ensures { result ≡ home + slice_index self.now.spill home }
     {
         home + self.spill.get(home as usize)
-    }
-
-    /// The slots of the run of `home`.
-    pub fn run(&self, home: u64) -> &[u64]
-        requires within { home + 1 < length self.now.spill }
-        requires order { slice_index self.now.spill home
-            ≤ 1 + slice_index self.now.spill (home + 1) }
-        requires end { home + 1 + slice_index self.now.spill (home + 1)
-            ≤ length self.now.slots.items }
-        ensures { result.now ≡ run_slots home self.now.slots.items self.now.spill }
-    {
-        self.part(self.start(home), self.start(home + 1))
     }
 
     /// Whether `x` stands in the slot `at`, and a run of `home` does, as 1 or 0.

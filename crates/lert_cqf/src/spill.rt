@@ -1,6 +1,6 @@
 //! A row of numbers that are raised side by side.
 
-ghost use Rattle.std.specs.Prelude.{◌≡◌, ℕ, ◌+◌, ◌/◌, ◌^◌, ◌<◌, ◌≤◌, List, length, replicate, slice_index, IfOk, IsTrue};
+ghost use Rattle.std.specs.Prelude.{◌≡◌, ℕ, ◌+◌, ◌/◌, ◌^◌, ◌<◌, ◌≤◌, List, length, replicate, slice_index, IfOk};
 ghost use Rattle.lert_cqf.specs.Rows.{IsRaised};
 ghost use Rattle.lert_cqf.specs.Spill.{AreRaised};
 
@@ -12,8 +12,8 @@ use std::marker::Model;
 /// Neighbours whose numbers have a part in common.
 const BLOCK: usize = 64;
 
-/// Fewer are raised one by one.
-const WIDE: usize = 256;
+/// So many are always raised one by one.
+const FEW: usize = 256;
 
 /// A row of numbers, each the sum of one of its own and one of its block: many of them side by side are raised by
 /// writing one for each block.
@@ -81,20 +81,30 @@ impl Spill {
         ensures { IsRaised self.old self.new from to }
     {
         self.raises = self.raises.wrapping_add(1);
-        if self.is_by_blocks(to.saturating_sub(from)) {
-            raise_far(&mut self.own, &mut self.common, from, to);
-            self.far = true;
+        if to + 1 - from > FEW {
+            self.raise_wide(from, to);
         } else {
             raise(&mut self.own, from, to + 1);
         }
     }
 
-    /// Whether so many are raised by blocks. Keys that nobody chose fill a table evenly, and raise as many only once it
-    /// is nearly full: so they never pay for a second part.
-    fn is_by_blocks(&self, count: usize) -> bool
-        ensures { IsTrue result → 64 ≤ count }
+    /// The same of many numbers: by blocks where the row is less than half full, and behind the first such raise up to
+    /// the next `clear`. Keys that nobody chose fill a table evenly, and raise as many only once it is nearly full: so
+    /// they never pay for a second part.
+    #[cold]
+    #[inline(never)]
+    fn raise_wide(&mut self, from: usize, to: usize)
+        requires far { from + 64 ≤ to }
+        requires within { to < length self.old }
+        requires room { (g : ℕ) → g < length self.old → slice_index self.old g + 1 < 2 ^ 32 }
+        ensures { IsRaised self.old self.new from to }
     {
-        count >= WIDE && (self.far || self.raises < self.own.len() / 2)
+        if self.far || self.raises < self.own.len() / 2 {
+            raise_far(&mut self.own, &mut self.common, from, to);
+            self.far = true;
+        } else {
+            raise(&mut self.own, from, to + 1);
+        }
     }
 
     /// Makes all numbers 0.

@@ -3,6 +3,7 @@
 ghost use Rattle.std.specs.Prelude.{◌≡◌, ℕ, ◌+◌, ◌*◌, ◌/◌, ◌%◌, ◌^◌, ◌<◌, ◌≤◌, List, [], Bool, true, false, drop, length};
 ghost use Rattle.lert_cqf.specs.Layout.{layout};
 ghost use Rattle.lert_cqf.specs.Standing.{Stands, IsInRun};
+ghost use Rattle.lert_runs.specs.RunText.{IsTextOf, count_in};
 
 use crate::cursor::CqfCursor;
 use crate::rows::Rows;
@@ -115,6 +116,18 @@ impl Cqf {
     }
 }
 
+/// How often `x` stands in a run text. It is seldom asked, and a function of its own, so that the place that `find`
+/// fills in memory costs no other count.
+#[inline(never)]
+fn count_by_place(width: u32, run: &[u64], x: u64) -> u64
+    requires narrow { 8 ≤ width }
+    requires wide { width ≤ 62 }
+    requires run_text { (ps : List (ℕ × ℕ)) × IsTextOf width run.now ps }
+    ensures { (ps : List (ℕ × ℕ)) → IsTextOf width run.now ps → result ≡ count_in ps x }
+{
+    find(width, run, x).count
+}
+
 impl CountTable for Cqf {
     type Cursor = CqfCursor;
 
@@ -178,7 +191,7 @@ impl CountTable for Cqf {
             // So do nearly all remainders: no count is greater than all of them together.
             return count_above_all(run, x);
         }
-        find(self.width, run, x).count
+        count_by_place(self.width, run, x)
     }
 
     fn adds(&self) -> u64 {

@@ -1,7 +1,7 @@
+pub mod BeforeLemmas
 pub mod BeginLemmas
 pub mod CutLemmas
 pub mod GrowLemmas
-pub mod PartLemmas
 pub mod ReadLemmas
 pub mod RunLemmas
 pub mod SearchLemmas

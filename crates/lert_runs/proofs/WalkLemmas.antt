@@ -97,9 +97,6 @@ pub record Looks (width x at : ℕ) (run : List ℕ) (ps : List (ℕ × ℕ)) : 
   pub below : pairs_below ps x ≡ (stands.done) ++ pairs_below (stands.rest) x
   pub count : count_in ps x ≡ count_in (stands.rest) x
 
-pub looks_first : (width x : ℕ) (run : List ℕ) (ps : List (ℕ × ℕ)) → IsTextOf width run ps → Looks width x 0 run ps
-looks_first width x run ps h = record { stands = stands_first width run ps h; below = refl; count = refl }
-
 pub looks_next : (width x at : ℕ) (run : List ℕ) (ps : List (ℕ × ℕ)) (l : Looks width x at run ps) (n : Next width at (l.stands).least run (l.stands).rest) → (n.pair).0 < x
     → Looks width x (at + length (group width (n.pair).0 (n.pair).1)) run ps
 looks_next width x at run ps l n less = record {

@@ -1,34 +1,36 @@
 //! Search by halves in a long run.
 
-ghost use Rattle.std.specs.Prelude.{◌≡◌, ℕ, ◌≤◌, List, length};
-ghost use Rattle.lert_runs.specs.Halves.{IsPartOf};
+ghost use Rattle.std.specs.Prelude.{◌≡◌, ℕ, List};
+ghost use Rattle.lert_runs.specs.Halves.{IsBefore};
 ghost use Rattle.lert_runs.specs.RunText.{IsTextOf};
 
 use crate::begins::first_begin;
 
 /// The most slots that are read group by group.
-pub(crate) const SHORT: usize = 32;
+const SHORT: usize = 32;
 
-/// A part of a run.
-#[derive(Clone, Copy)]
-pub(crate) struct Part {
-    pub low: usize,
-    pub high: usize,
+/// Where a walk to `x` may begin in a run text: only groups of lesser remainders stand before that place.
+pub(crate) fn walk_begin(width: u32, run: &[u64], x: u64) -> usize
+    ensures { (ps : List (ℕ × ℕ)) → IsTextOf width run.now ps → IsBefore width x ps result }
+{
+    if run.len() <= SHORT {
+        return 0;
+    }
+    search_by_halves(width, run, x)
 }
 
-/// The part of a run text in which `x` stands or belongs. It is short, unless few places tell that a group begins
-/// there: so it is only near remainders whose counts are greater than they are.
-pub(crate) fn part_around(width: u32, run: &[u64], x: u64) -> Part
-    ensures order { result.low ≤ result.high }
-    ensures within { result.high ≤ length run.now }
-    ensures part { (ps : List (ℕ × ℕ)) → IsTextOf width run.now ps → IsPartOf width x ps result }
+/// Such a place from which it isn't far to `x`, unless few places tell that a group begins there: so it is only near
+/// remainders whose counts are greater than they are. It is a function of its own, so that it costs short runs nothing.
+#[inline(never)]
+fn search_by_halves(width: u32, run: &[u64], x: u64) -> usize
+    ensures { (ps : List (ℕ × ℕ)) → IsTextOf width run.now ps → IsBefore width x ps result }
 {
     let mut low = 0;
     let mut high = run.len();
     while high - low > SHORT {
         let at = first_begin(width, run, low + (high - low) / 2, high);
         if at == high {
-            return Part { low, high };
+            return low;
         }
         if run[at] <= x {
             low = at;
@@ -36,5 +38,5 @@ pub(crate) fn part_around(width: u32, run: &[u64], x: u64) -> Part
             high = at;
         }
     }
-    Part { low, high }
+    low
 }

@@ -4,7 +4,7 @@ ghost use Rattle.std.specs.Prelude.{◌≡◌, ℕ, ◌≤◌, List};
 ghost use Rattle.lert_runs.specs.Place.{IsPlaceOf};
 ghost use Rattle.lert_runs.specs.RunText.{IsTextOf};
 
-use crate::halves::{SHORT, part_around};
+use crate::halves::walk_begin;
 use lert_counter::scan_group;
 
 /// Where the group of a remainder stands, or with no slots and no count where it belongs.
@@ -28,14 +28,15 @@ impl Place {
     }
 }
 
-/// The place of `x` in a run text. The run is read up to there, and at most nine slots from there on.
-fn walk_to(width: u32, run: &[u64], x: u64) -> Place
+/// The place of `x` in a run text. A short run is read up to there, a long one searched by halves first, and at most
+/// nine slots from there on are read.
+pub fn find(width: u32, run: &[u64], x: u64) -> Place
     requires narrow { 8 ≤ width }
     requires wide { width ≤ 62 }
     requires run_text { (ps : List (ℕ × ℕ)) × IsTextOf width run.now ps }
     ensures { (ps : List (ℕ × ℕ)) → IsTextOf width run.now ps → IsPlaceOf width x ps result }
 {
-    let mut start = 0;
+    let mut start = walk_begin(width, run, x);
     while start < run.len() {
         let rest = &run[start..];
         let Some(group) = scan_group(width, rest) else {
@@ -54,23 +55,4 @@ fn walk_to(width: u32, run: &[u64], x: u64) -> Place
         start += group.used;
     }
     Place::absent(start)
-}
-
-/// The place of `x` in a run text. A long run is searched by halves.
-pub fn find(width: u32, run: &[u64], x: u64) -> Place
-    requires narrow { 8 ≤ width }
-    requires wide { width ≤ 62 }
-    requires run_text { (ps : List (ℕ × ℕ)) × IsTextOf width run.now ps }
-    ensures { (ps : List (ℕ × ℕ)) → IsTextOf width run.now ps → IsPlaceOf width x ps result }
-{
-    if run.len() <= SHORT {
-        return walk_to(width, run, x);
-    }
-    let part = part_around(width, run, x);
-    let place = walk_to(width, &run[part.low..part.high], x);
-    Place {
-        start: part.low + place.start,
-        used: place.used,
-        count: place.count,
-    }
 }

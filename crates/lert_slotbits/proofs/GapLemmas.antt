@@ -117,3 +117,10 @@ module _ (ws : List ℕ) (from to : ℕ) (order : from ≤ to) (within : to < 64
         | inr more ↦ (let old : i < 64 * length ws = rw (← long) within_row in
             bit_of_row now i within_row ∙ rw (todo (i / 64) (omega arith)) (sym (bit_of_row ws i old)) ∙ sym (gapped_above (row_of ws) from to order row_long i (omega arith)))
       ])
+
+  -- a gap in one word
+  pub gap_within : from / 64 ≡ to / 64 → (new : ℕ) → IsMovedPart (get_or ws (from / 64) 0) new (from / 64) from to 0
+      → row_of (set ws (from / 64) new) ≡ gapped (row_of ws) from to
+  gap_within same new part =
+      let one = gap_goes_on ws (from / 64) new 0 refl (omega arith) (omega arith) (omega arith) (λ _. refl) (λ h. absurd (omega arith)) part gap_starts in
+      gap_ends (set ws (from / 64) new) (length-set ws (from / 64) new) (λ i h. one i (omega arith)) (λ j h. get_or-set_other ws (from / 64) j new 0 (omega arith))

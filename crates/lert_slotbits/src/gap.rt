@@ -36,8 +36,14 @@ pub fn open(words: &mut [u64], from: u64, to: u64)
     requires within { to < 64 * length words.old }
     ensures { row_of words.new ≡ gapped (row_of words.old) from to }
 {
+    let first = (from / 64) as usize;
+    if first == (to / 64) as usize {
+        // Most gaps: no bit comes from another word.
+        words[first] = moved_up(words[first], (from % 64) as u32, (to % 64) as u32, 0);
+        return;
+    }
     let mut carry = 0;
-    for index in (from / 64) as usize..(to / 64) as usize + 1 {
+    for index in first..(to / 64) as usize + 1 {
         let word = words[index];
         words[index] = moved_part(word, index, from, to, carry);
         carry = bit_of(word, 63);

@@ -1,6 +1,6 @@
-use Rattle.std.proofs.{Common.{◌≡◌, ◌+◌, ◌/◌, ◌-◌, arith, ap, ◌∙◌, get_or, refl}, lemmas.List.get_or-set_other}
+use Rattle.std.proofs.{Common.{◌≡◌, ◌+◌, ◌/◌, ◌-◌, ◌%◌, arith, ap, ◌∙◌, get_or, refl}, lemmas.List.get_or-set_other}
 use Rattle.std.specs.Int.{bit_at}
-use Rattle.lert_slotbits.proofs.GapLemmas.{IsMovedPart, gap_starts, gap_goes_on, gap_ends}
+use Rattle.lert_slotbits.proofs.GapLemmas.{IsMovedPart, gap_starts, gap_goes_on, gap_ends, gap_within}
 use Rattle.lert_slotbits.proofs.gap.open.Goals as goal
 
 pub loop-index-init : goal.loop-index-init
@@ -41,3 +41,17 @@ returns c =
     let end : c.loop-index.index ≡ c.args.to / 64 + 1 = omega arith in
     gap_ends c.args.words.now c.args.from c.args.to c.requires.order c.requires.within c.loop-index.words c.loop-index.auto.words
     (λ i h. c.loop-index.invariant.done i (omega arith)) (λ j h. c.loop-index.invariant.todo j (omega arith))
+
+pub returns-then-first-to : goal.returns-then-first-to
+returns-then-first-to c =
+    let from = c.args.from in
+    let to = c.args.to in
+    let same : from / 64 ≡ to / 64 = c.if-first-to.true in
+    let moved = c.moved_up.ensures in
+    gap_within c.args.words.now from to c.requires.order c.requires.within same c.moved_up.result (record {
+      below = λ i h low. moved.below i (omega arith);
+      at_first = λ i h here. (let place : i ≡ from % 64 = omega arith in ap (λ k. bit_at c.moved_up.result k) place ∙ moved.first);
+      carried = λ h. absurd (omega arith);
+      inside = λ i h some low high. moved.inside i (omega arith) (omega arith);
+      above = λ i h high. moved.above i (omega arith) h;
+    })

@@ -89,8 +89,8 @@ part-run-requires-clause-within c =
     let r = reaches _ _ _ _ _ _ _ _ _ _ c.self.invariant.0 c.parts-home.result.0 (let low = c.if-home-len.false in let len = c.len.ensures in omega arith) in
     omega (arith, r.ends, c.start-end.ensures)
 
-pub find-requires-clause-run_text : goal.find-requires-clause-run_text
-find-requires-clause-run_text c =
+pub count_by_place-requires-clause-run_text : goal.count_by_place-requires-clause-run_text
+count_by_place-requires-clause-run_text c =
     let long = occupied_long _ _ _ _ _ _ _ _ _ _ c.self.invariant.0 in
     let h = long_run _ _ _ _ _ _ _ _ _ _ c.self.invariant.0 c.parts-home.result.0 (let low = c.if-home-len.false in let len = c.len.ensures in omega arith)
     (omega (arith, c.start-at.ensures, c.start-end.ensures, c.if-end-at.false)) in
@@ -112,12 +112,12 @@ returns c =
     let bounds = hold_bounds _ _ _ _ _ _ _ _ _ _ c.self.invariant.0 c.parts-home.result.0 h in
     let q_is = c.parts-home.ensures.quotient ∙ ap (λ (t : Contents). c.args.tail / 2 ^ t.width) (sym c.self.view_is) in
     let x_is = c.parts-home.ensures.remainder ∙ ap (λ (t : Contents). c.args.tail % 2 ^ t.width) (sym c.self.view_is) in
-    (c.find.ensures h.pairs (record {
+    c.count_by_place.ensures h.pairs (record {
       ascend = h.ascend;
       text = c.part-run.ensures ∙ ap (λ k. take (k - c.start-at.result) (drop c.start-at.result c.self.inside.rows.slots.items)) c.start-end.ensures
           ∙ ap (λ k. take (c.parts-home.result.0 + 1 + get_or c.self.inside.rows.spill (c.parts-home.result.0 + 1) 0 - k) (drop k c.self.inside.rows.slots.items)) c.start-at.ensures
           ∙ bounds.slice;
-    })).count
+    })
     ∙ count_present _ _ _ _ _ _ _ _ _ _ c.self.invariant.0 c.args.tail c.parts-home.result.0 c.parts-home.result.1 q_is x_is h
     ∙ ap (λ (t : Contents). count_of t.pieces c.args.tail) c.self.view_is
 
