@@ -9,6 +9,7 @@ pub mod GivenLaws
 pub mod LimitLaws
 pub mod MixLaws
 pub mod ReportLaws
+pub mod SpreadLaws
 pub mod Tables
 pub mod CostLaws
 pub mod TailLaws

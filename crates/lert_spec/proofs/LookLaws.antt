@@ -44,7 +44,7 @@ pub AreKeys-mixed_order : {A : Type 0} (by : Measure A) (events : List A) → Ha
 AreKeys-mixed_order by [] fit = tt
 AreKeys-mixed_order by (event ∷ events) fit = AreKeys-insert_mixed (by.key event) (mixed_in by events) fit.0 (AreKeys-mixed_order by events fit.1)
 
-HaveKeys-append : {A : Type 0} (by : Measure A) (events others : List A) → HaveKeys by events → HaveKeys by others → HaveKeys by (events ++ others)
+pub HaveKeys-append : {A : Type 0} (by : Measure A) (events others : List A) → HaveKeys by events → HaveKeys by others → HaveKeys by (events ++ others)
 HaveKeys-append by [] others fit more = more
 HaveKeys-append by (event ∷ events) others fit more = (fit.0, HaveKeys-append by events others fit.1 more)
 
