@@ -60,7 +60,7 @@ fn print_line<W: Write>(errors: &mut W, status: Status) {
     }
     let (a, b, d) = status.fields();
     let mut line = [0; LINE];
-    let len = status_line(number, a, b, d, &mut line);
+    let len = status_line(number, a, b, d, 0, 0, &mut line);
     // The exit status tells it too, where standard error is closed.
     let _ = errors.write_all(&line[..len]);
 }

@@ -9,11 +9,11 @@ use std::process::Abort;
 // Asserts that a status with these fields has this line.
 fn assert_line(rt: &impl Abort, number: u8, fields: [u64; 3], text: &[u8])
     requires least { 1 ≤ number }
-    requires most { number ≤ 12 }
+    requires most { number ≤ 13 }
 {
     let mut line = [0; LINE];
     let [a, b, d] = fields;
-    let len = status_line(number, a, b, d, &mut line);
+    let len = status_line(number, a, b, d, 0, 0, &mut line);
     assert_same(rt, &&line[..len], &text, "a line");
 }
 
@@ -36,4 +36,10 @@ fn each_status_has_its_line(rt: HostRuntime) {
     assert_line(&rt, 10, [9, 0, 0], b"lert: cone 9 has other settings\n");
     assert_line(&rt, 11, [0, 0, 0], b"lert: output fault\n");
     assert_line(&rt, 12, [0, 0, 0], b"lert: out of memory\n");
+    assert_line(
+        &rt,
+        13,
+        [0, 1020, 255],
+        b"lert: cone 0 weight full at 1020 plus 255\n",
+    );
 }

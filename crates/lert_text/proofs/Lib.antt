@@ -1,3 +1,3 @@
 mod Digits
-pub mod Joined
 pub mod Printing
+pub mod Rows

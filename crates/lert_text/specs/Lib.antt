@@ -1,3 +1,4 @@
 pub mod Drill
 pub mod Page
+pub mod Parts
 pub mod StatusLine

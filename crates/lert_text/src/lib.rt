@@ -9,6 +9,7 @@ ghost use Rattle.std.specs.Prelude.{◌≡◌, ◌≤◌, take};
 ghost use Rattle.lert_spec.specs.Lines.{cone_line as cone_text, report_line as report_text, total_line as total_text};
 ghost use Rattle.lert_text.specs.Drill.{drill_line as drill_text};
 
+mod causes;
 mod hexadecimal;
 mod page;
 mod pieces;
