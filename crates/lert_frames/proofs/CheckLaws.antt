@@ -1,13 +1,16 @@
 -- A frame that leaves its text nowhere is that of a bin, and stands in its file.
-use Rattle.std.proofs.Common.{◌≡◌, ℕ, ◌+◌, ◌-◌, ◌*◌, ◌<◌, ◌≤◌, ◌^◌, List, [], ◌∷◌, ◌++◌, All, length, take, drop, Option, Some, None, refl, ap, ◌∙◌, subst, arith}
-use Rattle.std.{proofs.lemmas.List.{drop-take, take-take}, proofs.lemmas.List.Elements.All-take}
+use Rattle.std.proofs.Common.{◌≡◌, ℕ, append_assoc, cond, inl, inr, sym, ◌+◌, ◌-◌, ◌*◌, ◌<◌, ◌≤◌, ◌^◌, List, [], ◌∷◌, ◌++◌, All, length, take, drop, Option, Some, None, refl, ap, ◌∙◌, subst, arith}
+use Rattle.std.{proofs.lemmas.List.{drop-take, take-take}, proofs.lemmas.List.Elements.All-take, proofs.lemmas.Bool.{cases_eq, ne_eqb}, proofs.Math.Nat.mul-le-mul_left}
 use Rattle.lert_bay.{specs.declared.bay.TheConstants.FRAMES, specs.Files.Files, specs.Settled.part}
 use Rattle.lert_blocks.{specs.Frame.blocks_len, proofs.WalkLaws.{blocks_ascend, blocks_counts}, proofs.RoundTrip.found_text}
-use Rattle.lert_spec.{specs.declared.numbers.Numbers.Numbers, specs.declared.piece.Piece.Piece, specs.Edges.width, specs.Limits.IsValid, specs.Table.{costs, total, AreGiven, AscendsFrom}}
-use Rattle.lert_spec.proofs.CostLaws.{cost_some}
+use Rattle.lert_spec.{specs.declared.numbers.Numbers.Numbers, specs.declared.piece.Piece.Piece, specs.Edges.{span, width}, specs.Limits.IsValid, specs.Table.{costs, total, AreGiven, AscendsFrom}}
+use Rattle.std.specs.Prelude.{MatchOption, option_to_list}
+use Rattle.lert_spec.proofs.CostLaws.{cost_some, costs_from, costs-first}
+use Rattle.lert_spec.specs.Items.{most_weight}
 use Rattle.lert_frames.{specs.Bytes.AreBytes, specs.Frame.{HoldsFrame, IsBin, frame_found, frame_left, frame_pieces, frame_text}}
-use Rattle.lert_frames.{specs.Place.{block_count, frame_place, most_slots, tail_limit}, specs.Reading.verdict, specs.ToCome.{known_or, left_of, Breaks, IsOver, IsWithin}}
-use Rattle.lert_frames.{specs.declared.reader.FrameReader.FrameReader, proofs.PlaceLaws.tails_are, proofs.JudgedLaws.{costs-append, summed_parts}, proofs.AdvanceLaws.reached}
+use Rattle.lert_frames.{specs.Place.{block_count, frame_place, most_slots, tail_limit}, specs.Reading.verdict, specs.ToCome.{if_whole, known_or, left_of, pieces_of, told_of, Breaks, IsOver, IsWithin}}
+use Rattle.lert_frames.{specs.declared.reader.FrameReader.FrameReader, proofs.PlaceLaws.{span_fits, tails_are}, proofs.JudgedLaws.{costs-append, total-append, summed_parts}}
+use Rattle.lert_frames.{proofs.AdvanceLaws.reached}
 
 -- ---- a piece more costs more
 
@@ -18,6 +21,56 @@ last_counts least limit (q ∷ pieces) p up = last_counts (q.tail + 1) limit pie
 pub costs_grow : (version limit : ℕ) (pieces : List Piece) (p : Piece) → AreGiven limit (pieces ++ p ∷ []) → costs version pieces < costs version (pieces ++ p ∷ [])
 costs_grow version limit pieces p are =
     let some = cost_some version p.count (last_counts 0 limit pieces p are.table) in omega (arith, some, costs-append version pieces (p ∷ []))
+
+-- ---- the sum of the counts
+
+-- counts are no more than what so many items may weigh as they cost
+costs_weigh : (version : ℕ) (pieces : List Piece) → total pieces ≤ most_weight version * costs version pieces
+costs_weigh version pieces = elim (cases_eq version 1) [
+  | inl first ↦ subst (λ v. total pieces ≤ most_weight v * costs v pieces) (sym first) (omega (arith, costs-first pieces))
+  | inr later ↦ subst (λ w. total pieces ≤ w * costs version pieces) (sym (ap (λ b. cond {A = ℕ} b 1 255) (ne_eqb version 1 later))) (costs_from version pieces)
+]
+
+pub sum_between : (version wide sum : ℕ) (pieces : List Piece) → sum ≡ total pieces → costs version pieces ≤ wide → wide ≤ total pieces →
+    (wide ≤ sum) × (sum ≤ most_weight version * wide)
+sum_between version wide sum pieces is cheap reached =
+    let scaled = mul-le-mul_left (most_weight version) cheap in (omega (arith, is, reached), omega (arith, is, scaled, costs_weigh version pieces))
+
+-- with one more
+pub sum_step : (sum : ℕ) (before after : List Piece) (p : Piece) → sum ≡ total before → after ≡ before ++ p ∷ [] → sum + p.count ≡ total after
+sum_step sum before after p is given = omega (arith, is, ap total given, total-append before (p ∷ []))
+
+-- they are still below a limit
+pub sum_fits : (version wide sum : ℕ) (before after : List Piece) (p : Piece) → sum ≡ total before → after ≡ before ++ p ∷ [] → costs version after ≤ wide → wide ≤ 2 ^ 47 →
+    sum + p.count < 2 ^ 64
+sum_fits version wide sum before after p is given cheap few =
+    omega (arith, sum_step sum before after p is given, cheap, few, costs_from version after)
+
+pub few_wide : (s : Numbers) (level wide : ℕ) → IsValid s → level ≤ s.levels → wide ≤ span s level → wide ≤ 2 ^ 47
+few_wide s level wide valid within narrow = omega (arith, narrow, span_fits s valid level within)
+
+-- ---- what a piece leaves to come
+
+abbrev pub LeavesToCome : List Piece → Option (List Piece) → Option Piece → Type 0
+LeavesToCome pieces now given = MatchOption given ((pieces ≡ []) × (now ≡ Some [])) (λ p. (rest : List Piece) × (pieces ≡ p ∷ rest) × (now ≡ Some rest))
+
+pub gave_more : (given : Option Piece) (p : Piece) (before after : List Piece) → after ≡ before ++ option_to_list given → given ≡ Some p → after ≡ before ++ p ∷ []
+gave_more given p before after gave is = gave ∙ ap (λ piece. before ++ option_to_list piece) is
+
+pub some_told : (given : Option Piece) (p : Piece) (pieces : List Piece) (now : Option (List Piece)) → given ≡ Some p → LeavesToCome pieces now given → LeavesToCome pieces now (Some p)
+some_told given p pieces now is leaves = subst (LeavesToCome pieces now) is leaves
+
+pub none_told : (given : Option Piece) (pieces : List Piece) (now : Option (List Piece)) → given ≡ None → LeavesToCome pieces now given → pieces ≡ []
+none_told given pieces now is leaves = (subst (LeavesToCome pieces now) is leaves).0
+
+-- those given and those to come are the same together
+pub told_more : (all before after pieces rest : List Piece) (p : Piece) → all ≡ before ++ pieces → pieces ≡ p ∷ rest → after ≡ before ++ p ∷ [] → all ≡ after ++ rest
+told_more all before after pieces rest p is first given =
+    is ∙ ap (λ list. before ++ list) first ∙ sym (append_assoc before (p ∷ []) rest) ∙ ap (λ list. list ++ rest) (sym given)
+
+-- all pieces of a frame that was whole when it was begun
+pub all_told : (told : Option Files) (r : FrameReader) (seen : Files) → told ≡ Some seen → left_of r (seen FRAMES) ≡ None → told_of told r ≡ Some (pieces_of r (seen FRAMES))
+all_told told r seen is whole = ap (λ files. told_of files r) is ∙ ap (λ left. if_whole left (pieces_of r (seen FRAMES))) whole
 
 -- ---- no rule is broken
 

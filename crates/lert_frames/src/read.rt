@@ -1,6 +1,6 @@
 //! Reading a frame.
 
-ghost use Rattle.std.specs.Prelude.{◌≡◌, ◌↔◌, ℕ, ◌≤◌, ◌+◌, ◌++◌, List, [], ◌∷◌, Some, None, Ok, OnOk, OnErr, IfOk, IsErrOf, drop, MatchOption};
+ghost use Rattle.std.specs.Prelude.{◌≡◌, ◌↔◌, ℕ, ◌≤◌, ◌+◌, ◌*◌, ◌++◌, List, [], ◌∷◌, Some, None, Ok, OnOk, OnErr, IfOk, IsErrOf, drop, MatchOption};
 ghost use Rattle.lert_bay.specs.declared.bay.TheConstants.{FRAMES};
 ghost use Rattle.lert_bay.specs.Files.{IfTold};
 ghost use Rattle.lert_bay.specs.Kept.{OnlyReads};
@@ -8,7 +8,7 @@ ghost use Rattle.lert_blocks.specs.Frame.{blocks_len};
 ghost use Rattle.lert_frames.specs.Decoded.{decoder_end, decoder_found, decoder_floor, decoder_limit};
 ghost use Rattle.lert_frames.specs.Frame.{HoldsFrame, IsBin, frame_found, frame_left, frame_pieces};
 ghost use Rattle.lert_frames.specs.Place.{block_count, frame_place, tail_limit};
-ghost use Rattle.lert_spec.specs.Items.{IsVersion};
+ghost use Rattle.lert_spec.specs.Items.{most_weight, IsVersion};
 ghost use Rattle.lert_frames.specs.Reading.{StandsIn};
 ghost use Rattle.lert_frames.specs.ToCome.{left_of, pieces_of, IsOver, IsWithin, HandsOut};
 ghost use Rattle.lert_frames.specs.Window.{IsRead, place_of};
@@ -106,14 +106,14 @@ impl FrameReader {
     }
 
     /// Reads a frame of the level and of this version, 1 or 2, that of a bin of this width, to its end, and lets its pieces
-    /// go.
+    /// go. It answers the sum of their counts.
     pub fn check<B: Bay>(
         &mut self,
         bay: &mut B,
         version: u8,
         frame: u32,
         width: u64,
-    ) -> Result<(), PieceFault>
+    ) -> Result<u64, PieceFault>
         requires version { IsVersion version }
         requires frame { frame ≤ self.old.settings.bins }
         requires some { 1 ≤ width }
@@ -124,14 +124,21 @@ impl FrameReader {
             (frame_pieces self.old.settings version self.old.level frame (seen FRAMES)))) }
         ensures malformed { IfTold (B.files bay.old) (λ seen. (at : ℕ) → IsErrOf result (PieceFault.Malformed at) →
             frame_left self.old.settings version self.old.level frame width (seen FRAMES) ≡ Some at) }
+
+        // The sum is one that so many items may weigh as the bin has positions, whether the bay tells its files or not.
+        ensures between { IfOk result (λ sum. (width ≤ sum) × (sum ≤ most_weight version * width)) }
+        ensures sum { IfTold (B.files bay.old) (λ seen. IfOk result (λ sum. sum ≡ total (frame_pieces self.old.settings version self.old.level frame (seen FRAMES)))) }
         ensures settings { self.new.settings ≡ self.old.settings }
         ensures version { self.new.version ≡ version }
         ensures level { self.new.level ≡ self.old.level }
         ensures only_reads { OnlyReads B.Bay bay.old bay.new (IsErrOf result PieceFault.Failed) }
     {
         self.start(version, frame, width);
-        while let Some(_piece) = self.next(bay)? {}
-        Ok(())
+        let mut sum = 0;
+        while let Some(piece) = self.next(bay)? {
+            sum += piece.count;
+        }
+        Ok(sum)
     }
 
     // Gives the first piece that is ready.

@@ -168,7 +168,7 @@ pub fn check(
     bay: &mut MemBay,
     version: u8,
     width: u64,
-) -> Result<(), PieceFault>
+) -> Result<u64, PieceFault>
     requires version { IsVersion version }
     requires some { 1 ≤ width }
     requires width { width ≤ span reader.old.settings reader.old.level }
@@ -222,7 +222,7 @@ pub fn checked(
     version: u8,
     bytes: &[u8],
     width: u64,
-) -> Result<(), PieceFault>
+) -> Result<u64, PieceFault>
     requires version { IsVersion version }
     requires levels { 1 ≤ numbers.levels }
 {

@@ -16,9 +16,10 @@ const LENS: [usize; 12] = [
 // Counts whose groups have several slots.
 const COUNTS: [u64; 7] = [1, 2, 3, 255, 256, 257, 65_536];
 
-// The first length at which the text that is cut there isn't left, or that of the whole text where it isn't read.
+// The first length at which the text that is cut there isn't left, or that of the whole text where it isn't read. The
+// counts add up to the width.
 fn first_untold(rt: &impl Abort, alloc: Global, text: &[u8], width: u64) -> Option<usize> {
-    if checked(rt, alloc, WIDE, 1, text, width) != Ok(()) {
+    if checked(rt, alloc, WIDE, 1, text, width) != Ok(width) {
         return Some(text.len());
     }
     for len in LENS {

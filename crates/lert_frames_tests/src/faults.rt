@@ -108,7 +108,7 @@ fn fails_once(
     bytes: &[u8],
     width: u64,
     call: u64,
-    answer: Result<(), PieceFault>,
+    answer: Result<u64, PieceFault>,
 ) -> bool {
     let settings = settings_of(rt, MIDDLE);
     let width = bounded(rt, &settings, width);
@@ -126,7 +126,7 @@ fn calls_checked(
     alloc: Global,
     bytes: &[u8],
     width: u64,
-    answer: Result<(), PieceFault>,
+    answer: Result<u64, PieceFault>,
 ) -> u64 {
     for call in 1..CALLS {
         if !fails_once(rt, alloc, bytes, width, call, answer) {
@@ -166,7 +166,7 @@ fn are_answered(rt: &impl Abort, alloc: Global, gap: u64, len: usize) -> bool
     let file = text_of(rt, alloc, MIDDLE, &pieces);
     let width = width_of(&pieces);
     let text = file.get(..len).unwrap_or(&[]);
-    let reads = calls_checked(rt, alloc, text, width, Ok(()));
+    let reads = calls_checked(rt, alloc, text, width, Ok(width));
     let less = len.saturating_sub(1);
     let cut = file.get(..less).unwrap_or(&[]);
     let fault = Err(PieceFault::Malformed { at: less as u64 });

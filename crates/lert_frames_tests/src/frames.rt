@@ -112,7 +112,7 @@ fn a_reader_goes_to_another_level(rt: HostRuntime) {
 // The place at which a file of these bytes leaves the frame of a bin of this width.
 fn left_at(rt: &impl Abort, alloc: Global, bytes: &[u8], width: u64) -> Option<u64> {
     match checked(rt, alloc, SMALL, 1, bytes, width) {
-        Ok(()) => None,
+        Ok(_) => None,
         Err(PieceFault::Malformed { at }) => Some(at),
         Err(PieceFault::Failed) => panic!(rt; "no call fails"),
     }

@@ -6,7 +6,7 @@ ghost use Rattle.lert_spec.specs.Table.{total, AreGiven};
 
 use crate::bins::{
     SMALL, WIDE, bounded, checked, come_all, empty_bay, pieces_of, reader_of, settings_of,
-    version_of, write_frame,
+    version_of, width_of, write_frame,
 };
 use crate::frames::ONE;
 use lert_base::{Piece, PieceFault};
@@ -48,7 +48,7 @@ fn answer_of(
     version: u8,
     pieces: &[Piece],
     width: u64,
-) -> Result<(), PieceFault>
+) -> Result<u64, PieceFault>
     requires version { IsVersion version }
     requires given { AreGiven (2 ^ 64) pieces.now }
     requires fits { total pieces.now ≤ 262144 }
@@ -65,7 +65,7 @@ fn answer_of(
     answer
 }
 
-// Whether such a frame is left nowhere, or at its first byte.
+// Whether such a frame is left nowhere, and its counts add up to what they do, or at its first byte.
 fn is_answered(
     rt: &impl Abort,
     alloc: Global,
@@ -79,7 +79,7 @@ fn is_answered(
     let pieces = pieces_of(alloc, counts, 4, 1 << 40, 262_144).expect(rt, "memory");
     let at = frame_place(&settings_of(rt, WIDE), version, 1, 1);
     let expected = if is_bin {
-        Ok(())
+        Ok(width_of(&pieces))
     } else {
         Err(PieceFault::Malformed { at })
     };
@@ -100,7 +100,7 @@ fn a_frame_has_the_counts_of_a_bin(rt: HostRuntime) {
 const SLOTS: [(u8, u8, u64); 4] = [(1, 16, 12), (1, 17, 8), (2, 32, 12), (2, 33, 8)];
 
 // The answer where the text has this number of slots.
-fn slots_answer(rt: &impl Abort, alloc: Global, version: u8, slots: u8) -> Result<(), PieceFault>
+fn slots_answer(rt: &impl Abort, alloc: Global, version: u8, slots: u8) -> Result<u64, PieceFault>
     requires { IsVersion version }
 {
     let mut bytes = ONE;

@@ -3,14 +3,15 @@ use Rattle.std.proofs.Common.{ℕ, ◌≡◌, ◌+◌, ◌-◌, ◌*◌, ◌/◌
 use Rattle.std.proofs.{Common.{arith, inl, inr, subst, flat_map, slice_range}, Math.Nat.{mul-suc, mul_comm, mul-mod_left}, lemmas.Bool.{cases_Bool, cases_eq, eq-eqb}}
 use Rattle.std.proofs.{lemmas.List.{get_or-map, length-map, length-take, get_or_append_left}, lemmas.List.Sums.sum_by-cons}
 use Rattle.std.specs.{Prelude.sum, List.All}
-use Rattle.lert_spec.specs.{declared.numbers.Numbers.Numbers, declared.piece.Piece.Piece, Bins.{Bin, tallied}, Edges.{span, edge, depth, capacity, tail_bits}, Limits.IsValid}
+use Rattle.lert_spec.specs.{declared.item.Item.Item, declared.numbers.Numbers.Numbers, declared.piece.Piece.Piece, Bins.{Bin, tally}, Counts.weighed}
+use Rattle.lert_spec.specs.{Edges.{span, edge, depth, capacity, tail_bits}, Limits.IsValid}
 use Rattle.lert_spec.specs.Table.{count_of, IsTable}
-use Rattle.lert_spec.proofs.{EdgeLaws.{steps, moves_by_one, deepest_within}, TallyLaws.IsTable-tallied}
+use Rattle.lert_spec.proofs.{EdgeLaws.{steps, moves_by_one, deepest_within}, TallyLaws.tally_table}
 use Rattle.lert_levels.specs.{landing.Summed.{sums_of, AreTables}, declared.rows.bin_at.BinAt.BinAt, rows.Loading.{width_of, widths_in, held_in}, Merged.{streams_of, widths_of, Fills, AreBins}}
 use Rattle.lert_levels.specs.{Parts.{streams_to, oldest_stream, part_at, list_at, newest_in, in_part, part_table, HaveParts}, rows.Ranges.{Range, ranges, filled, young_bins}}
 use Rattle.lert_levels.specs.rows.Rows.{range_of, row_of, IsAt, newest, begins, arrived, tallied_in, no_bin}
 use Rattle.lert_levels.proofs.{landing.SummedLaws.{count_in, IsTable-sums_of, count_of-sums_of}, PartLaws.{streams_more, stream_at}, rows.RangeLaws.{range_cuts, oldest_is, oldest_young, depth_moves}}
-use Rattle.lert_levels.proofs.{rows.RowLaws.{row_among, Arrives, arrives}, rows.Windows.{counted, counted-join, window_table, young-ranges}}
+use Rattle.lert_levels.proofs.{rows.RowLaws.{row_among, Arrives, arrives}, rows.WeightLaws.{WeighAll, weigh_slice}, rows.Windows.{counted, counted-join, window_table, young-ranges}}
 
 -- a level's newest bin among the streams
 newest_at : {X : Type 0} (h : BinAt → X) (first : List X) (rows : List (List BinAt)) (young k : ℕ) (e : X) → length first ≡ young → k < length rows →
@@ -92,10 +93,10 @@ module _ (s : Numbers) (valid : IsValid s) (m : ℕ) (first : 1 ≤ m) (fits : m
   -- ---- the counts
 
   -- the stream of the oldest bin below a level holds the counts of what comes to the level
-  oldest_holds : (events : List ℕ) → length events ≡ m → (k : ℕ) → k < depth s m →
+  oldest_holds : (events : List Item) → length events ≡ m → (k : ℕ) → k < depth s m →
       list_at (streams_of (young_bins s events (edge s 0 (m - 1))) (tallied_in s events) (take (depth s m) rows))
       (oldest_stream (length (young_bins s events (edge s 0 (m - 1)))) (take (depth s m) rows) k)
-      ≡ tallied s (slice_range events (edge s k (m - 1)) (edge s k m))
+      ≡ tally weighed s (slice_range events (edge s k (m - 1)) (edge s k m))
   oldest_holds events len zero less =
       let pieces = λ (bin : Bin). bin.pieces in
       let oldest = oldest_young s base ratio m first less in
@@ -108,8 +109,8 @@ module _ (s : Numbers) (valid : IsValid s) (m : ℕ) (first : 1 ≤ m) (fits : m
       let oldest = goes k less in
       let same : k + 1 ≡ suc k = omega arith in
       oldest_at (tallied_in s events) (map pieces young) (take (depth s m) rows) (length young) k [] (length-map young pieces) (omega (arith, enough)) oldest.some
-      ∙ ap (λ (r : Range). tallied s (slice_range events r.from r.to)) oldest.is
-      ∙ ap (λ i. tallied s (slice_range events (edge s i (m - 1)) (edge s i m))) same
+      ∙ ap (λ (r : Range). tally weighed s (slice_range events r.from r.to)) oldest.is
+      ∙ ap (λ i. tally weighed s (slice_range events (edge s i (m - 1)) (edge s i m))) same
 
   two_counts : (a b : List Piece) (tail : ℕ) → count_in (a ∷ b ∷ []) tail ≡ count_of a tail + count_of b tail
   two_counts a b tail = omega (arith, sum_by-cons (λ ps. count_of ps tail) a (b ∷ []), sum_by-cons (λ ps. count_of ps tail) b [])
@@ -118,11 +119,11 @@ module _ (s : Numbers) (valid : IsValid s) (m : ℕ) (first : 1 ≤ m) (fits : m
   one_count a tail = omega (arith, sum_by-cons (λ ps. count_of ps tail) a [])
 
   -- a part makes the counts of the new bin's positions
-  pub part_holds : (events : List ℕ) → length events ≡ m → (k : ℕ) → k < depth s m →
+  pub part_holds : (events : List Item) → WeighAll events → length events ≡ m → (k : ℕ) → k < depth s m →
       part_table (streams_of (young_bins s events (edge s 0 (m - 1))) (tallied_in s events) (take (depth s m) rows))
       (part_at s m (length (young_bins s events (edge s 0 (m - 1)))) (take (depth s m) rows) k)
       ≡ tallied_in s events (arrived s m (k + 1) (get_or (take (depth s m) rows) k []))
-  part_holds events len k less =
+  part_holds events all len k less =
       let young = young_bins s events (edge s 0 (m - 1)) in
       let pieces = λ (bin : Bin). bin.pieces in
       let some_rows = take (depth s m) rows in
@@ -132,6 +133,7 @@ module _ (s : Numbers) (valid : IsValid s) (m : ℕ) (first : 1 ≤ m) (fits : m
       let limit = 2 ^ tail_bits s in
       let oldest = oldest_holds events len k less in
       let low = slice_range events (edge s k (m - 1)) (edge s k m) in
+      let low_table = tally_table weighed s low (weigh_slice events (edge s k (m - 1)) (edge s k m) all) in
       let below : k + 1 - 1 ≡ k = omega arith in
       let high_is : edge s (k + 1 - 1) (m - 1) ≡ edge s k (m - 1) = ap (λ i. edge s i (m - 1)) below in
       let end_is : edge s (k + 1 - 1) m ≡ edge s k m = ap (λ i. edge s i m) below in
@@ -139,30 +141,30 @@ module _ (s : Numbers) (valid : IsValid s) (m : ℕ) (first : 1 ≤ m) (fits : m
       elim (cases_Bool (begins s m (k + 1))) [
         | inl alone ↦ (
             let from_is : new.from ≡ edge s k (m - 1) = ap (λ t. cond t (edge s (k + 1 - 1) (m - 1)) (newest row).from) alone ∙ high_is in
-            let part_is : part_table lists (part_at s m (length young) some_rows k) ≡ sums_of (tallied s low ∷ []) =
+            let part_is : part_table lists (part_at s m (length young) some_rows k) ≡ sums_of (tally weighed s low ∷ []) =
             ap (λ t. sums_of (list_at lists (oldest_stream (length young) some_rows k) ∷ newest_in [] lists (cond t None (Some (streams_to (length young) some_rows (k + 1) - 1))))) alone
             ∙ ap (λ list. sums_of (list ∷ [])) oldest in
-            let tables = pair_tables limit (tallied s low) [] (IsTable-tallied s low) (no_tables limit) in
+            let tables = pair_tables limit (tally weighed s low) [] low_table (no_tables limit) in
             part_is
-            ∙ window_table s events new.from new.to (sums_of (tallied s low ∷ [])) (IsTable-sums_of limit (tallied s low ∷ []) tables)
-            (λ tail. count_of-sums_of limit (tallied s low ∷ []) tail tables ∙ one_count (tallied s low) tail ∙ ap₂ (counted s events tail) (sym from_is) (sym end_is)))
+            ∙ window_table s events new.from new.to (sums_of (tally weighed s low ∷ [])) all (IsTable-sums_of limit (tally weighed s low ∷ []) tables)
+            (λ tail. count_of-sums_of limit (tally weighed s low ∷ []) tail tables ∙ one_count (tally weighed s low) tail ∙ ap₂ (counted s events tail) (sym from_is) (sym end_is)))
         | inr joined ↦ (
             let last = newest row in
             let from_is : new.from ≡ last.from = ap (λ t. cond t (edge s (k + 1 - 1) (m - 1)) last.from) joined in
             let to_is : last.to ≡ edge s k (m - 1) = arrival.ends joined ∙ high_is in
             let newer = newest_at (tallied_in s events) (map pieces young) some_rows (length young) k [] (length-map young pieces) (omega (arith, enough)) (arrival.some joined) in
             let other = tallied_in s events last in
-            let part_is : part_table lists (part_at s m (length young) some_rows k) ≡ sums_of (tallied s low ∷ other ∷ []) =
+            let part_is : part_table lists (part_at s m (length young) some_rows k) ≡ sums_of (tally weighed s low ∷ other ∷ []) =
             ap (λ t. sums_of (list_at lists (oldest_stream (length young) some_rows k) ∷ newest_in [] lists (cond t None (Some (streams_to (length young) some_rows (k + 1) - 1))))) joined
             ∙ ap₂ (λ a b. sums_of (a ∷ b ∷ [])) oldest newer in
-            let tables = pair_tables limit (tallied s low) (other ∷ []) (IsTable-tallied s low)
-            (pair_tables limit other [] (IsTable-tallied s (slice_range events last.from last.to)) (no_tables limit)) in
+            let tables = pair_tables limit (tally weighed s low) (other ∷ []) low_table
+            (pair_tables limit other [] (tally_table weighed s (slice_range events last.from last.to) (weigh_slice events last.from last.to all)) (no_tables limit)) in
             part_is
-            ∙ window_table s events new.from new.to (sums_of (tallied s low ∷ other ∷ [])) (IsTable-sums_of limit (tallied s low ∷ other ∷ []) tables)
+            ∙ window_table s events new.from new.to (sums_of (tally weighed s low ∷ other ∷ [])) all (IsTable-sums_of limit (tally weighed s low ∷ other ∷ []) tables)
             (λ tail. (
-            let counts = count_of-sums_of limit (tallied s low ∷ other ∷ []) tail tables ∙ two_counts (tallied s low) other tail in
+            let counts = count_of-sums_of limit (tally weighed s low ∷ other ∷ []) tail tables ∙ two_counts (tally weighed s low) other tail in
             let first_part = ap₂ (counted s events tail) (sym from_is) to_is in
-            let whole = counted-join s events tail new.from (edge s k (m - 1)) (edge s k m) (omega (arith, arrival.ordered, high_is)) (omega (arith, arrival.further, high_is, end_is)) in
+            let whole = counted-join s events tail new.from (edge s k (m - 1)) (edge s k m) all (omega (arith, arrival.ordered, high_is)) (omega (arith, arrival.further, high_is, end_is)) in
             let ends = ap (counted s events tail new.from) end_is in
             omega arith)))
       ]

@@ -2,7 +2,7 @@
 use Rattle.std.proofs.{Common.{ℕ, ◌≡◌, ◌-◌, ◌/◌, ◌<◌, ◌≤◌, suc, List, [], ◌++◌, length, map, replicate, ap, sym, ◌∙◌, arith, inl, inr, subst, slice_index_or}, lemmas.Bool.cases_lt}
 use Rattle.std.proofs.lemmas.List.{length-replicate}
 use Rattle.lert_frames.specs.Frame.{HoldsFrame}
-use Rattle.lert_spec.specs.{declared.numbers.Numbers.Numbers, Bins.tallied, Edges.{span, edge, depth}}
+use Rattle.lert_spec.specs.{declared.item.Item.Item, declared.numbers.Numbers.Numbers, Bins.tally, Counts.weighed, Edges.{span, edge, depth}}
 use Rattle.lert_spec.proofs.LookLaws.{slice_range-append}
 use Rattle.lert_levels.specs.{declared.rows.bin_at.BinAt.BinAt, rows.Rows.{range_of, row_of, IsAt, HoldsBins, tallied_in}}
 use Rattle.lert_levels.proofs.{HoldLaws.bins_end, rows.MoveLaws.row_of-none, rows.RangeLaws.{cuts_none, edge_within, depth_moves, ranges_still}}
@@ -17,7 +17,7 @@ IsAt-none s = record {
 }
 
 -- and each frame holds what it is to hold
-pub HoldsBins-none : (s : Numbers) (version : ℕ) (events file : List ℕ) → HoldsBins s version events (replicate s.levels []) file
+pub HoldsBins-none : (s : Numbers) (version : ℕ) (events : List Item) (file : List ℕ) → HoldsBins s version events (replicate s.levels []) file
 HoldsBins-none s version events file level from within k d below = absurd (omega (arith, ap (length {A = BinAt}) (row_of-none s.levels level)))
 
 -- at a position that is no flush position the rows stay those of the levels
@@ -33,10 +33,10 @@ IsAt-still s base ratio m rows stays at =
     }
 
 -- with later events behind them the frames hold the same
-pub HoldsBins-append : (s : Numbers) (version : ℕ) (n : ℕ) (events others : List ℕ) (rows : List (List BinAt)) (file : List ℕ) → IsAt s n rows → n ≤ length events →
+pub HoldsBins-append : (s : Numbers) (version : ℕ) (n : ℕ) (events others : List Item) (rows : List (List BinAt)) (file : List ℕ) → IsAt s n rows → n ≤ length events →
     HoldsBins s version events rows file → HoldsBins s version (events ++ others) rows file
 HoldsBins-append s version n events others rows file at within holds level from last k d below =
     let ends = bins_end s n rows at level from last k d below in
     let bin = slice_index_or (row_of rows level) k d in
-    let same : tallied_in s events bin ≡ tallied_in s (events ++ others) bin = ap (tallied s) (sym (slice_range-append events others bin.from bin.to (omega arith))) in
+    let same : tallied_in s events bin ≡ tallied_in s (events ++ others) bin = ap (tally weighed s) (sym (slice_range-append events others bin.from bin.to (omega arith))) in
     subst (HoldsFrame s version level bin.frame file) same (holds level from last k d below)

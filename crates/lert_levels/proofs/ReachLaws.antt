@@ -1,5 +1,4 @@
 -- The rows that a flush reaches, and what an answer says of their frames.
-use Rattle.lert_levels.specs.OnDisk.{written}
 use Rattle.std.proofs.{Common.{ℕ, ◌≡◌, ◌+◌, ◌-◌, ◌<◌, ◌≤◌, List, length, take, Option, Some, refl, sym, ◌∙◌, arith, subst, Result, length-take}, lemmas.Option.none-some}
 use Rattle.std.specs.{Prelude.{Ok, Err, IfErr, IsErrAnd, OnOk, MatchResult, IsSomeAnd}, List.All}
 use Rattle.lert_bay.specs.{declared.bay.TheConstants.FRAMES, Files.{Files, IfTold, Turns}}
@@ -9,7 +8,7 @@ use Rattle.lert_levels.specs.{rows.Landing.{LeavesRest, AreApart}, rows.Loading.
 use Rattle.lert_levels.specs.{Flushed.{AreEvents, InNamed}, Merged.IsFrames, Ready.{AreReached, HasMade}}
 use Rattle.lert_levels.proofs.{rows.RangeLaws.edge_within, rows.RowLaws.first_rows, rows.LandLaws.turns_fewer, ArrivalLaws.{deep, enough, part_widths, parts_have}, FlushLaws.{made_count, made_new}}
 use Rattle.lert_levels.proofs.{HoldLaws.{named_apart, written_holds}, PlacedLaws.named_more}
-use Rattle.lert_spec.specs.{Bins.Bin, Edges.{span, edge, depth, capacity}, Limits.IsValid, declared.numbers.Numbers.Numbers, declared.piece.Piece.Piece}
+use Rattle.lert_spec.specs.{declared.item.Item.Item, Bins.Bin, Edges.{span, edge, depth, capacity}, Limits.IsValid, declared.numbers.Numbers.Numbers, declared.piece.Piece.Piece}
 
 -- what is so of a thing that is held
 pub held : {R : Type 0} (P : R → Type 0) (a b : Option R) (x : R) → IsSomeAnd a P → b ≡ a → b ≡ Some x → P x
@@ -40,19 +39,19 @@ module _ (s : Numbers) (version : ℕ) (valid : IsValid s) (m : ℕ) (first : 1 
     apart = λ from to inside. apart from to (named_more s version rows (depth s m) from to are.levels inside);
   }
 
-module _ (s : Numbers) (valid : IsValid s) (m : ℕ) (first : 1 ≤ m) (fits : m ≤ capacity s) (rows : List (List BinAt)) (at : IsAt s (m - 1) rows) (are : AreRows s rows) where
+module _ (s : Numbers) (version : ℕ) (valid : IsValid s) (m : ℕ) (first : 1 ≤ m) (fits : m ≤ capacity s) (rows : List (List BinAt)) (at : IsAt s (m - 1) rows) (are : AreRows s rows) where
   -- where the new bins stand, the frames hold the bins of the rows as they are then
-  pub has_moved : (young : List Bin) (took : List Piece → Type 0) (before after : Option Files) → HasMade s written m young (take (depth s m) rows) took before after →
-      Turns (LeavesRest (AreApart s written m (take (depth s m) rows))) before after → (seen : Files) → before ≡ Some seen → (events : List ℕ) →
-      AreEvents (record { settings = s; rows = rows }) m young events (seen FRAMES) →
-      IfTold after (λ then. HoldsBins s written events (moved s m rows) (then FRAMES))
+  pub has_moved : (young : List Bin) (took : List Piece → Type 0) (before after : Option Files) → HasMade s version m young (take (depth s m) rows) took before after →
+      Turns (LeavesRest (AreApart s version m (take (depth s m) rows))) before after → (seen : Files) → before ≡ Some seen → (events : List Item) →
+      AreEvents (record { settings = s; version = version; rows = rows }) m young events (seen FRAMES) →
+      IfTold after (λ then. HoldsBins s version events (moved s m rows) (then FRAMES))
   has_moved young took before after has turns seen told events of = λ then then_told. (
-      let news = made_new s valid m first fits rows at young took (IsFrames before) has.made has.is (seen FRAMES) events (record { seen = seen; told = told; is = refl }) are of in
-      let count = made_count s valid m first fits rows at young took (IsFrames before) has.made has.is in
-      written_holds s written m rows has.made before after valid are.levels are count
-      (turns_fewer (AreApart s written m (take (depth s m) rows)) (InNamed s written rows) before after (apart s written valid m first fits rows at are) turns)
+      let news = made_new s version valid m first fits rows at young took (IsFrames before) has.made has.is (seen FRAMES) events (record { seen = seen; told = told; is = refl }) are of in
+      let count = made_count s version valid m first fits rows at young took (IsFrames before) has.made has.is in
+      written_holds s version m rows has.made before after valid are.levels are count
+      (turns_fewer (AreApart s version m (take (depth s m) rows)) (InNamed s version rows) before after (apart s version valid m first fits rows at are) turns)
       (λ last last_told k below. has.landed last last_told k (omega (arith, below, enough s valid m first fits rows at)))
-      seen told events of.held news then then_told)
+      seen told events of.weighed of.held news then then_told)
 
 -- level 0 has a bin before a flush
 pub young_some : (s : Numbers) (m from to : ℕ) → 1 ≤ m → from ≡ edge s 0 (m - 1) → to ≡ m → from < to

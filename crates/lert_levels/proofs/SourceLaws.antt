@@ -9,7 +9,7 @@ use Rattle.lert_frames.proofs.{FrameLaws.told_begun, PlaceLaws.span_fits}
 use Rattle.lert_merge.specs.order.Members.{given_at, limit_at}
 use Rattle.lert_levels.specs.{declared.rows.bin_at.BinAt.BinAt, rows.Loading.{width_of, Stands, AllStand, held_in, widths_in}, rows.Rows.AreFirst}
 use Rattle.lert_levels.specs.{streams.Bin.{Bin as Stream, of_table, of_frame, to_come_of, given_of, limit_of, version_of, wide_of}, streams.BinLaws.{in_order, table_told}, streams.Tables.fresh_bin}
-use Rattle.lert_levels.specs.rows.Young.{AreLight}
+use Rattle.lert_levels.specs.rows.Young.{AreCheap}
 use Rattle.lert_levels.specs.{streams.SetLaws.to_come_at, Merged.{streams_of, widths_of, Fills, AreBins}}
 use Rattle.lert_levels.specs.Sources.{placed_at, placed, Source, of_young, of_bin, sources, pieces_from, width_in, IsBegun, AreBegun}
 use Rattle.lert_spec.specs.{Bins.Bin, Edges.{span, tail_bits}, Limits.IsValid, Table.{costs, AreGiven}, declared.numbers.Numbers.Numbers, declared.piece.Piece.Piece}
@@ -224,7 +224,7 @@ begun_told s version valid (x ∷ some) [] k told seen held told_is are stand be
 
 -- tables as the bins of level 0
 pub young_begun : {T : Type 0} (s : Numbers) (version : ℕ) (bits : T → ℕ) (pieces : T → List Piece) (tables : List T) (young : List Bin) → map pieces tables ≡ map (λ (bin : Bin). bin.pieces) young →
-    All (λ table. bits table ≡ tail_bits s) tables → AreLight version young →
+    All (λ table. bits table ≡ tail_bits s) tables → AreCheap version young →
     ((k : ℕ) (d : T) → k < length tables → to_come_at None (map of_table (map (fresh_bin bits pieces) tables)) k ≡ Some (pieces (get_or tables k d))) →
     AreBegun s version (map of_young young) (map of_table (map (fresh_bin bits pieces) tables))
 young_begun s version bits pieces [] [] same rooms widths coming = tt
@@ -240,7 +240,7 @@ young_begun s version bits pieces (t ∷ tables) (bin ∷ young) same rooms widt
         given = refl;
         left = here;
         ordered = subst (AreGiven (tail_limit s)) here (subst (λ l. AreGiven l (pieces t)) limit given);
-        fits = (widths 0 bin (omega arith)).0;
+        fits = widths 0 bin (omega arith);
       },
       young_begun s version bits pieces tables young others (λ k d below. rooms (suc k) d (omega (arith, below))) (λ k d below. widths (suc k) d (omega (arith, below)))
           (λ k d below. coming (suc k) d (omega (arith, below))),
@@ -249,7 +249,7 @@ young_begun s version bits pieces (t ∷ tables) (bin ∷ young) same rooms widt
 -- and behind them the rows
 pub all_begun : {T : Type 0} (s t : Numbers) (version : ℕ) (bits : T → ℕ) (pieces : T → List Piece) (tables : List T) (young : List Bin)
     (rows : List (List BinAt)) (first after : List Stream) → t ≡ s →
-    map pieces tables ≡ map (λ (bin : Bin). bin.pieces) young → All (λ table. bits table ≡ tail_bits s) tables → AreLight version young →
+    map pieces tables ≡ map (λ (bin : Bin). bin.pieces) young → All (λ table. bits table ≡ tail_bits s) tables → AreCheap version young →
     first ≡ map of_table (map (fresh_bin bits pieces) tables) → ((k : ℕ) (d : T) → k < length tables → to_come_at None first k ≡ Some (pieces (get_or tables k d))) →
     ((before : List Source) → AreBegun t version before first → AreBegun t version (before ++ map of_bin (placed 1 rows)) after) → AreBegun s version (sources young rows) after
 all_begun {T} s t version bits pieces tables young rows first after settings same rooms widths first_is coming behind =
@@ -307,12 +307,12 @@ narrow_append : (some more : List Source) → AreNarrow some → AreNarrow more 
 narrow_append some more one two =
     subst (All (λ width. width ≤ 2 ^ 47)) (sym (map-append width_in some more)) (All-append (λ width. width ≤ 2 ^ 47) (map width_in some) (map width_in more) one two)
 
-narrow_young : (s : Numbers) (valid : IsValid s) (young : List Bin) → All (λ (bin : Bin). bin.to - bin.from ≤ span s 0) young → AreNarrow (map of_young young)
+narrow_young : (s : Numbers) (valid : IsValid s) (young : List Bin) → All (λ (bin : Bin). bin.to - bin.from ≤ 255 * span s 0) young → AreNarrow (map of_young young)
 narrow_young s valid [] each = λ k d below. absurd (omega (arith, below))
 narrow_young s valid (bin ∷ young) each =
     All-cons (λ width. width ≤ 2 ^ 47) (bin.to - bin.from) (map width_in (map of_young young))
-    (omega (arith, All-head (λ (b : Bin). b.to - b.from ≤ span s 0) bin young each, span_fits s valid 0 (omega arith)))
-    (narrow_young s valid young (All-tail (λ (b : Bin). b.to - b.from ≤ span s 0) bin young each))
+    (omega (arith, All-head (λ (b : Bin). b.to - b.from ≤ 255 * span s 0) bin young each, span_fits s valid 0 (omega arith)))
+    (narrow_young s valid young (All-tail (λ (b : Bin). b.to - b.from ≤ 255 * span s 0) bin young each))
 
 narrow_row : (s : Numbers) (valid : IsValid s) (level : ℕ) (row : List BinAt) → level ≤ s.levels → All (λ bin. width_of bin ≤ span s level) row →
     AreNarrow (map of_bin (map (placed_at level) row))
@@ -336,7 +336,7 @@ narrow_rows s valid level (row ∷ rows) each =
 
 -- so they can be added up
 pub widths_small : (s : Numbers) (valid : IsValid s) (young : List Bin) (rows : List (List BinAt)) → length young ≤ s.bins → AreFirst s rows →
-    All (λ (bin : Bin). bin.to - bin.from ≤ span s 0) young → sum (widths_of young rows) < 2 ^ 55
+    All (λ (bin : Bin). bin.to - bin.from ≤ 255 * span s 0) young → sum (widths_of young rows) < 2 ^ 55
 widths_small s valid young rows few_young are narrow =
     let all : AreNarrow (sources young rows) = narrow_append (map of_young young) (map of_bin (placed 1 rows)) (narrow_young s valid young narrow)
     (narrow_rows s valid 1 rows (λ k below. (let next : k + 1 ≡ 1 + k = omega arith in

@@ -1,6 +1,8 @@
 pub mod Examples
 pub mod RangeLaws
 pub mod RowLaws
+pub mod WeightLaws
+pub mod GaplessLaws
 pub mod Windows
 pub mod CoverLaws
 pub mod DirectoryLaws
@@ -17,5 +19,6 @@ pub mod LandLaws
 pub mod MoveLaws
 pub mod NamedLaws
 pub mod CheckLaws
+pub mod SumLaws
 pub mod PlacedLaws
 pub mod HeldLaws

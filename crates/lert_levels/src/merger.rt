@@ -10,8 +10,9 @@ ghost use Rattle.lert_merge.specs.order.Ordering.{Breaks};
 ghost use Rattle.lert_levels.specs.rows.Landing.{KeepsRest, AreApart};
 ghost use Rattle.lert_levels.specs.rows.Loading.{OneBreaks};
 ghost use Rattle.lert_levels.specs.rows.Rows.{AreFirst};
-ghost use Rattle.lert_levels.specs.rows.Young.{AreLight};
+ghost use Rattle.lert_levels.specs.rows.Young.{AreCheap, AreLight, loosened};
 ghost use Rattle.lert_spec.specs.Items.{IsVersion};
+ghost use Rattle.lert_spec.specs.Bins.{Bin};
 ghost use Rattle.lert_spec.specs.Edges.{capacity};
 ghost use Rattle.lert_spec.specs.declared.piece.Piece.{Piece};
 ghost use Rattle.lert_levels.specs.Merged.{IsMade, IsFrames};
@@ -137,8 +138,8 @@ fn begin_order<'a, T: CountTable, B: Bay>(
     requires ahead { (zero.now.settings.levels + 1) * zero.now.settings.bins ≤ reading.ahead.room }
     requires rows { AreFirst zero.now.settings rows.now }
     requires version { IsVersion version }
-    requires light { AreLight version zero.now.bins }
-    ensures begun { AreBegun zero.now.settings version (sources zero.now.bins rows.now) result.streams.bins }
+    ensures begun { (young : List Bin) → map (λ bin. bin.pieces) young ≡ map (λ bin. bin.pieces) zero.now.bins → AreCheap version young →
+        AreBegun zero.now.settings version (sources young rows.now) result.streams.bins }
     ensures settings { result.streams.settings ≡ zero.now.settings }
     ensures version { result.streams.version ≡ version }
     ensures counts { result.ahead.counts ≡ [] }
@@ -294,7 +295,7 @@ pub fn count_rows<T: CountTable, B: Bay, O: Totals>(
     requires none_taken { O.took totals.old [] }
     ensures room { result.0.room ≡ zero.now.settings }
     ensures ahead { result.0.ahead.room ≡ reading.ahead.room }
-    ensures made { OnOk result.1 (IsMade zero.now.settings version zero.now.bins rows.now [] (O.took totals.new) (IsFrames (B.files bay.old)) []) }
+    ensures made { OnOk result.1 (IsMade zero.now.settings version (loosened zero.now.bins) rows.now [] (O.took totals.new) (IsFrames (B.files bay.old)) []) }
     ensures malformed { IfTold (B.files bay.old) (λ seen. (at : ℕ) → IsErrOf result.1 (FlushFault.Malformed at) →
         OneBreaks zero.now.settings version rows.now (seen FRAMES) at) }
     ensures only_reads { OnlyReads B.Bay bay.old bay.new (IsErrOf result.1 FlushFault.Failed) }

@@ -15,8 +15,10 @@ pub record IsFilledTo (m : ℕ) (young : Young) : Type 0 where
   pub from : young.from + 12 ≡ m
   pub to : young.to ≡ m
 
--- m is a flush position, level 0 has the twelve positions up to it, and the rows are those of the position before it
+-- m is a flush position, level 0 has the twelve positions up to it, and the rows are those of the position before it, in files
+-- of version 2
 pub record IsReady (m : ℕ) (young : Young) (disk : OnDisk) : Type 0 where
   pub filled : IsFilledTo m young
   pub disk_settings : disk.settings ≡ small
+  pub disk_version : disk.version ≡ 2
   pub at : IsAt small (m - 1) disk.rows

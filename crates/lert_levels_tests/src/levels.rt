@@ -3,7 +3,7 @@
 ghost use Rattle.std.specs.Prelude.{◌≡◌, ◌+◌, ◌*◌, ◌≤◌, [], OnOk, OnErr};
 ghost use Rattle.lert_levels_tests.specs.Samples.{small as small_numbers, IsReady};
 
-use crate::samples::{Place, Taken, begun, fill};
+use crate::samples::{Place, Taken, begun, begun_with, fill};
 use lert_bay::{Bay, FRAMES, MemBay};
 use lert_levels::{FlushFault, Levels, Zero};
 use lert_plain::PlainTable;
@@ -25,6 +25,7 @@ pub(crate) fn flush_into(
     ensures err { OnErr result (IsReady (12 + 4 * k) zero.new levels.new) }
 {
     let m = 12 + 4 * k;
+    let _tables = zero.tables();
     levels.flush(bay, zero, m, totals)?;
     zero.drop_oldest();
     fill(zero, m, &[1, 2, 3, 4]);
@@ -146,7 +147,7 @@ fn restore(levels: &mut Levels<PlainTable>)
     requires { levels.old.settings ≡ small_numbers }
     ensures { levels.new.settings ≡ small_numbers }
 {
-    levels.restore(32, &[2, 2, 3, 1, 0]);
+    levels.restore(32, &[2, 2, 3, 1, 0], 2);
 }
 
 // Whether two levels have the same bins in one of them.
@@ -204,14 +205,14 @@ fn left_with(
     bay.write_at(FRAMES, u64::from(at), &[byte])
         .expect(rt, "no fault");
     match levels.check(bay) {
-        Ok(()) => None,
+        Ok(_) => None,
         Err(FlushFault::Malformed { at }) => Some(at),
         Err(_) => panic!(rt; "a call of the check failed"),
     }
 }
 
 // The same of restored levels after each of these bytes is written at its place. The oldest bin of level 1 stands at
-// byte 296, and that of level 2 at byte 592: each in one block, of which the first quotient has a run of eight slots.
+// byte 552, and that of level 2 at byte 1104: each in one block, of which the first quotient has a run of eight slots.
 fn places_left(
     rt: &impl Abort,
     alloc: Global,
@@ -224,9 +225,9 @@ fn places_left(
     let _behind = directories(rt, alloc, zero, levels, bay, 6);
     restore(levels);
     [
-        left_with(rt, levels, bay, 592, 1),
-        left_with(rt, levels, bay, 600, 33),
-        left_with(rt, levels, bay, 308, 0xc0),
+        left_with(rt, levels, bay, 1104, 1),
+        left_with(rt, levels, bay, 1112, 65),
+        left_with(rt, levels, bay, 564, 0xc0),
     ]
 }
 
@@ -235,7 +236,7 @@ fn a_check_stops_at_the_first_broken_byte(rt: HostRuntime) {
     let mut place = begun(&rt, rt.alloc());
     let Place { zero, levels, bay } = &mut place;
     let places = places_left(&rt, rt.alloc(), zero, levels, bay);
-    assert!(rt; places == [None, Some(600), Some(308)]);
+    assert!(rt; places == [None, Some(1112), Some(564)]);
     drop(place);
 }
 
@@ -297,5 +298,30 @@ fn a_failed_call_is_told_as_one(rt: HostRuntime) {
     let Place { zero, levels, bay } = &mut place;
     let faults = faults_of_calls(&rt, rt.alloc(), zero, levels, bay);
     assert!(rt; faults == [failed, failed, failed, None, None, None]);
+    drop(place);
+}
+
+// The sum that a check gives behind the first flush.
+fn sum_behind_a_flush(
+    rt: &impl Abort,
+    alloc: Global,
+    zero: &mut Zero<PlainTable>,
+    levels: &mut Levels<PlainTable>,
+    bay: &mut MemBay,
+) -> Option<u64>
+    requires { IsReady 12 zero.old levels.old }
+{
+    flush(alloc, zero, levels, bay, 0).expect(rt, "no fault");
+    levels.check(bay).ok()
+}
+
+// The four events of the oldest bin are in a frame, each of weight 200, in two pieces of 400.
+#[test]
+fn a_check_sums_up_what_the_frames_weigh(rt: HostRuntime) {
+    let tails = [1, 2, 1, 2, 1, 2, 3, 4, 1, 2, 3, 4];
+    let mut place = begun_with(&rt, rt.alloc(), &tails, 200);
+    let Place { zero, levels, bay } = &mut place;
+    let sum = sum_behind_a_flush(&rt, rt.alloc(), zero, levels, bay);
+    assert!(rt; sum == Some(800));
     drop(place);
 }

@@ -2,6 +2,7 @@
 //! tests share.
 
 ghost use Rattle.std.specs.Prelude.{◌≡◌, ◌+◌, ◌%◌, ◌^◌, ◌<◌, ◌≤◌, All, [], length};
+ghost use Rattle.lert_levels.specs.rows.Rows.{IsAt};
 ghost use Rattle.lert_levels_tests.specs.Samples.{IsReady, IsFilledTo};
 
 use lert_base::{Numbers, Piece, Settings, Totals};
@@ -39,8 +40,9 @@ pub(crate) fn empty_zero(rt: &impl Abort, alloc: Global) -> Zero<PlainTable>
     Zero::new(alloc, &small(rt)).expect(rt, "memory")
 }
 
-// Adds these tails at the positions behind `last`, the last one so far.
-pub(crate) fn fill(zero: &mut Zero<PlainTable>, last: u64, tails: &[u64])
+// Adds events of these tails, each of this weight, at the positions behind `last`, the last one so far.
+pub(crate) fn fill_with(zero: &mut Zero<PlainTable>, last: u64, tails: &[u64], weight: u8)
+    requires some { 1 ≤ weight }
     requires settings { zero.old.settings ≡ SMALL }
     requires last { last ≡ zero.old.to }
     requires aligned { zero.old.from % 4 ≡ 0 }
@@ -55,27 +57,56 @@ pub(crate) fn fill(zero: &mut Zero<PlainTable>, last: u64, tails: &[u64])
     let mut m = last;
     for tail in tails {
         m += 1;
-        zero.add(*tail, m);
+        zero.add(*tail, weight, m);
     }
 }
 
-// Level 0 with these twelve tails.
-fn filled(rt: &impl Abort, alloc: Global, tails: &[u64]) -> Zero<PlainTable>
+// The same, each of weight 1.
+pub(crate) fn fill(zero: &mut Zero<PlainTable>, last: u64, tails: &[u64])
+    requires settings { zero.old.settings ≡ SMALL }
+    requires last { last ≡ zero.old.to }
+    requires aligned { zero.old.from % 4 ≡ 0 }
+    requires ordered { zero.old.from ≤ last }
+    requires tables { last + length tails.now ≤ zero.old.from + 12 }
+    requires positions { last + length tails.now ≤ 71 }
+    requires below { All (λ tail. tail < 2 ^ 56) tails.now }
+    ensures settings { zero.new.settings ≡ SMALL }
+    ensures from { zero.new.from ≡ zero.old.from }
+    ensures to { zero.new.to ≡ last + length tails.now }
+{
+    fill_with(zero, last, tails, 1);
+}
+
+// Level 0 with events of these twelve tails, each of this weight.
+fn filled(rt: &impl Abort, alloc: Global, tails: &[u64], weight: u8) -> Zero<PlainTable>
+    requires some { 1 ≤ weight }
     requires twelve { length tails.now ≡ 12 }
     requires below { All (λ tail. tail < 2 ^ 56) tails.now }
     ensures { IsFilledTo 12 result }
 {
     let mut zero = empty_zero(rt, alloc);
-    fill(&mut zero, 0, tails);
+    fill_with(&mut zero, 0, tails, weight);
     zero
 }
 
-// The levels on disk beside it, without bins.
+// Lets levels without bins be those of files of version 2.
+fn be_of_version_2(levels: &mut Levels<PlainTable>)
+    requires { levels.old.settings ≡ SMALL }
+    ensures settings { levels.new.settings ≡ SMALL }
+    ensures version { levels.new.version ≡ 2 }
+    ensures at { IsAt SMALL 0 levels.new.rows }
+{
+    levels.restore(0, &[0, 0], 2);
+}
+
+// The levels on disk beside it, without bins, in files of version 2.
 fn empty_levels(rt: &impl Abort, alloc: Global, zero: &Zero<PlainTable>) -> Levels<PlainTable>
     requires { IsFilledTo 12 zero.now }
     ensures { IsReady 12 zero.now result }
 {
-    Levels::new(alloc, zero.settings()).expect(rt, "memory")
+    let mut levels = Levels::new(alloc, zero.settings()).expect(rt, "memory");
+    be_of_version_2(&mut levels);
+    levels
 }
 
 // Level 0, the levels on disk, and their bay.
@@ -86,13 +117,14 @@ pub(crate) struct Place {
     pub bay: MemBay,
 }
 
-// One with these twelve tails in level 0, no bin on disk, and an empty bay.
-pub(crate) fn begun_with(rt: &impl Abort, alloc: Global, tails: &[u64]) -> Place
+// One with events of these twelve tails and this weight in level 0, no bin on disk, and an empty bay.
+pub(crate) fn begun_with(rt: &impl Abort, alloc: Global, tails: &[u64], weight: u8) -> Place
+    requires some { 1 ≤ weight }
     requires twelve { length tails.now ≡ 12 }
     requires below { All (λ tail. tail < 2 ^ 56) tails.now }
     ensures { IsReady 12 result.zero result.levels }
 {
-    let zero = filled(rt, alloc, tails);
+    let zero = filled(rt, alloc, tails, weight);
     let levels = empty_levels(rt, alloc, &zero);
     let bay = MemBay::new(alloc).expect(rt, "memory");
     Place { zero, levels, bay }
@@ -102,7 +134,7 @@ pub(crate) fn begun_with(rt: &impl Abort, alloc: Global, tails: &[u64]) -> Place
 pub(crate) fn begun(rt: &impl Abort, alloc: Global) -> Place
     ensures { IsReady 12 result.zero result.levels }
 {
-    begun_with(rt, alloc, &[1, 2, 3, 4, 1, 2, 3, 4, 1, 2, 3, 4])
+    begun_with(rt, alloc, &[1, 2, 3, 4, 1, 2, 3, 4, 1, 2, 3, 4], 1)
 }
 
 // The totals that were taken, in their order.

@@ -81,7 +81,7 @@ fn holds(
     requires width { width ≤ span small_numbers 1 }
 {
     let mut reader = FrameReader::new(alloc, settings, 1).expect(rt, "memory");
-    reader.start(1, frame, width);
+    reader.start(2, frame, width);
     gives(&mut reader, bay, pieces)
 }
 
@@ -119,7 +119,7 @@ fn are_sums(
 #[test]
 fn totals_and_parts_are_sums_of_the_bins(rt: HostRuntime) {
     let tails = [1, 1, 5, 9, 1, 4, 4, 9, 5, 5, 5, 1];
-    let mut place = begun_with(&rt, rt.alloc(), &tails);
+    let mut place = begun_with(&rt, rt.alloc(), &tails, 1);
     let Place { zero, levels, bay } = &mut place;
     assert!(rt; are_sums(&rt, rt.alloc(), zero, levels, bay));
     drop(place);

@@ -2,7 +2,7 @@
 
 ghost use Rattle.std.specs.Prelude.{◌≡◌, ◌+◌, ◌%◌, ◌<◌, ◌≤◌};
 
-use crate::samples::{SMALL, empty_zero, fill};
+use crate::samples::{SMALL, empty_zero, fill, fill_with};
 use lert_levels::Zero;
 use lert_plain::PlainTable;
 
@@ -36,6 +36,23 @@ fn are_counted(zero: &mut Zero<PlainTable>) -> bool
 #[test]
 fn counts_are_those_of_the_bins(rt: HostRuntime) {
     assert!(rt; are_counted(&mut empty_zero(&rt, rt.alloc())));
+}
+
+// Whether weights add up, in the counts and in the bound, which ends at 255.
+fn are_weighed(zero: &mut Zero<PlainTable>) -> bool
+    requires settings { zero.old.settings ≡ SMALL }
+    requires from { zero.old.from ≡ 0 }
+    requires to { zero.old.to ≡ 0 }
+{
+    fill_with(zero, 0, &[5, 5, 9, 5, 5], 100);
+    let counted = counts(zero) == [400, 0, 100];
+    let bounded = zero.may_reach(9, 100) && !zero.may_reach(9, 101) && !zero.may_reach(7, 1);
+    counted && bounded && zero.may_reach(5, 400)
+}
+
+#[test]
+fn weights_add_up(rt: HostRuntime) {
+    assert!(rt; are_weighed(&mut empty_zero(&rt, rt.alloc())));
 }
 
 // Whether tails are refused that never came, or only in a bin that was dropped three drops ago.

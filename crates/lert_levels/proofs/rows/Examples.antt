@@ -1,29 +1,29 @@
 -- Worked examples of the definitions, computed: bins of 4 events at level 0, three bins a level, a ratio of 2, two levels on
--- disk, and thirty-two keys.
+-- disk, and thirty-two keys, each of weight 1.
 use Rattle.std.proofs.Common.{◌≡◌, ℕ, List, [], ◌∷◌, ◌++◌, refl, map, replicate, Some}
 use Rattle.std.specs.List.{range_with_len}
 use Rattle.lert_slotbits.specs.Bits.{word_bits}
-use Rattle.lert_spec.specs.{declared.numbers.Numbers.Numbers, declared.piece.Piece.Piece, Bins.bins}
+use Rattle.lert_spec.specs.{declared.numbers.Numbers.Numbers, declared.item.Item.Item, declared.piece.Piece.Piece, Bins.bins_of, Counts.weighed, Items.unit}
 use Rattle.lert_levels.specs.{declared.rows.bin_at.BinAt.BinAt, rows.Ranges.{ranges, filled, young_bins}, rows.Checked.{level_of, rows_left}, rows.Named.frames_text, rows.Rows.{moved, directory_text}}
 use Rattle.lert_levels.specs.rows.Young.{times_in}
 
 abbrev small : Numbers
 small = record { threshold = 3; bins = 3; ratio = 2; base = 4; levels = 2; cone_bits = 8; room = 32; packet = 8 }
 
-abbrev keys : List ℕ
-keys = map (λ k. k) (range_with_len 0 32)
+abbrev items : List Item
+items = map unit (range_with_len 0 32)
 
 -- the bins of each level, and those of level 0
-first_level : bins small keys 1 ≡ map (filled small keys) (record { from = 8; to = 16 } ∷ record { from = 16; to = 24 } ∷ [])
+first_level : bins_of weighed small items 1 ≡ map (filled small items) (record { from = 8; to = 16 } ∷ record { from = 16; to = 24 } ∷ [])
 first_level = refl
 
-second_level : bins small keys 2 ≡ map (filled small keys) (record { from = 0; to = 8 } ∷ [])
+second_level : bins_of weighed small items 2 ≡ map (filled small items) (record { from = 0; to = 8 } ∷ [])
 second_level = refl
 
-their_ranges : map (filled small keys) (ranges small 32 1 ++ ranges small 32 2) ≡ bins small keys 1 ++ bins small keys 2
+their_ranges : map (filled small items) (ranges small 32 1 ++ ranges small 32 2) ≡ bins_of weighed small items 1 ++ bins_of weighed small items 2
 their_ranges = refl
 
-youngest : young_bins small keys 20 ≡ map (filled small keys) (record { from = 20; to = 24 } ∷ record { from = 24; to = 28 } ∷ record { from = 28; to = 32 } ∷ [])
+youngest : young_bins small items 20 ≡ map (filled small items) (record { from = 20; to = 24 } ∷ record { from = 24; to = 28 } ∷ record { from = 28; to = 32 } ∷ [])
 youngest = refl
 
 -- the flushes one after another

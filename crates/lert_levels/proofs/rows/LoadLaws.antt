@@ -1,10 +1,10 @@
 -- The tables of level 0 that are in use, as the pieces of its bins.
 use Rattle.std.proofs.Common.{ℕ, zero, suc, ◌≡◌, ◌+◌, ◌-◌, ◌*◌, ◌^◌, ◌<◌, ◌≤◌, min, List, [], ◌∷◌, All, length, get_or, map, take, refl, ap, sym, ◌∙◌, subst, arith, inl, inr}
-use Rattle.std.proofs.{Math.Nat.{mul-le-mul_right, suc-mul}, lemmas.Bool.cases_lt, lemmas.List.{get_or-map, length-map, take-map}, lemmas.List.Elements.All-take}
-use Rattle.lert_spec.specs.{declared.piece.Piece.Piece, Table.total, declared.numbers.Numbers.Numbers, Bins.Bin, Edges.{span, tail_bits}}
-use Rattle.lert_spec.proofs.CostLaws.{costs_to}
+use Rattle.std.proofs.{Math.Nat.{mul-le-mul_right, suc-mul}, lemmas.Bool.cases_lt, lemmas.List.{get_or-map, length-map, take-map}, lemmas.List.Elements.{All-cons, All-take}}
+use Rattle.lert_spec.specs.{declared.piece.Piece.Piece, Table.{costs, total}, declared.numbers.Numbers.Numbers, Bins.Bin, Edges.{span, tail_bits}}
+use Rattle.lert_spec.proofs.CostLaws.{costs_from, costs_to}
 use Rattle.lert_base.specs.declared.count_table.CountTable.{Ghosts as TablesOf}
-use Rattle.lert_levels.specs.rows.Young.{seen_as, Young, AreLight, bins_of, IsOfZero, IsFilled, AreFilled, AreNumbered}
+use Rattle.lert_levels.specs.rows.Young.{seen_as, Young, AreCheap, AreLight, loosened, bins_of, IsOfZero, IsFilled, AreFilled, AreNumbered}
 use Rattle.lert_levels.proofs.{rows.YoungLaws.{bins_of-none, bins_of-some, bins_of-length, bits_of_zero}, rows.YoungCounts.width_within}
 
 -- ---- the tables in use
@@ -39,6 +39,10 @@ bins_of-few wide from to (p ∷ tables) = elim (cases_lt from to) [
   | inl some ↦ omega (arith, ap length (bins_of-some wide from to p tables some), bins_of-few wide (from + wide) to tables)
   | inr over ↦ omega (arith, ap length (bins_of-none wide from to (p ∷ tables) over))
 ]
+
+-- counts that so many items may have made, each of which weighs at most 255
+abbrev IsLight : List Piece → ℕ → Type 0
+IsLight pieces wide = (costs 2 pieces ≤ wide) × (wide ≤ total pieces)
 
 -- how many tables are in use
 pub record IsUsed {T C : Type 0} (of : TablesOf T C) (s : Numbers) (tables all : List T) (from to : ℕ) (young : Young) (count : ℕ) : Type 0
@@ -81,23 +85,20 @@ module _ {T C : Type 0} {of : TablesOf T C} {s : Numbers} {tables all : List T} 
       (All-take (λ table. IsOfZero s (of.room table) (of.quotient_bits table) (of.width table)) count tables
       (subst (All (λ table. IsOfZero s (of.room table) (of.quotient_bits table) (of.width table))) (sym used.same) (λ k d below. (used.filled.each k d below).of_zero)))
 
-  pub used_widths : All (λ (bin : Bin). total bin.pieces ≡ bin.to - bin.from) young.bins
-  used_widths =
-      subst (λ (y : Young). All (λ (bin : Bin). total bin.pieces ≡ bin.to - bin.from) y.bins) used.seen
-      (bins_of-each (λ (bin : Bin). total bin.pieces ≡ bin.to - bin.from) (span s 0) from to (map of.pieces all)
-      (λ k start is under within. some_width all used.filled.each k start is under (omega (arith, length-map all of.pieces))))
+  pub used_light : AreLight 2 young.bins
+  used_light =
+      subst (λ (y : Young). AreLight 2 y.bins) used.seen
+      (bins_of-each (λ (bin : Bin). IsLight bin.pieces (bin.to - bin.from)) (span s 0) from to (map of.pieces all)
+      (λ k start is under within. some_light all used.filled.each k start is under (omega (arith, length-map all of.pieces))))
     where
-      some_width : (all : List T) → ((k : ℕ) (d : T) → k < length all → IsFilled of s from to k (get_or all k d)) →
-          (k start : ℕ) → start ≡ from + k * span s 0 → start < to → k < length all → total (get_or (map of.pieces all) k []) ≡ min to (start + span s 0) - start
-      some_width [] each k start is under within = absurd (omega arith)
-      some_width (first ∷ rest) each k start is under within =
+      some_light : (all : List T) → ((k : ℕ) (d : T) → k < length all → IsFilled of s from to k (get_or all k d)) →
+          (k start : ℕ) → start ≡ from + k * span s 0 → start < to → k < length all → IsLight (get_or (map of.pieces all) k []) (min to (start + span s 0) - start)
+      some_light [] each k start is under within = absurd (omega arith)
+      some_light (first ∷ rest) each k start is under within =
           let here = each k first within in
-          ap total (get_or-map of.pieces (first ∷ rest) k first [] within) ∙ here.summed ∙ omega arith
-
-  -- so they are light for each version
-  pub used_light : (version : ℕ) → AreLight version young.bins
-  used_light version = λ k d below. let wide = used_widths k d below in
-      (omega (arith, costs_to version (get_or young.bins k d).pieces, wide), omega (arith, wide))
+          let adds : of.adds (get_or (first ∷ rest) k first) ≡ min to (start + span s 0) - start = here.added ∙ omega arith in
+          subst (λ pieces. IsLight pieces (min to (start + span s 0) - start)) (sym (get_or-map of.pieces (first ∷ rest) k first [] within))
+          (omega (arith, adds, here.costly), omega (arith, adds, here.heavy))
 
   pub used_narrow : All (λ (bin : Bin). bin.to - bin.from ≤ span young.settings 0) young.bins
   used_narrow =
@@ -125,3 +126,28 @@ used of filled seen same numbered =
       covers = omega (arith, numbered.end_is, numbered.covers);
       few = omega (arith, numbered.end_is, numbered.few, filled.ordered);
     }
+
+-- ---- wider bins
+
+-- they have the same counts
+pub loosened_pieces : (young : List Bin) → map (λ (bin : Bin). bin.pieces) (loosened young) ≡ map (λ (bin : Bin). bin.pieces) young
+loosened_pieces [] = refl
+loosened_pieces (bin ∷ young) = ap (λ rest. bin.pieces ∷ rest) (loosened_pieces young)
+
+-- which are cheap in each version
+pub loosened_cheap : (version : ℕ) (young : List Bin) → AreLight 2 young → AreCheap version (loosened young)
+loosened_cheap version [] light = λ k d below. absurd (omega (arith, below))
+loosened_cheap version (bin ∷ young) light =
+    let one : costs version bin.pieces ≤ 255 * bin.to - 255 * bin.from = omega (arith, costs_to version bin.pieces, costs_from 2 bin.pieces, (light 0 bin (omega arith)).0) in
+    All-cons (λ (b : Bin). costs version b.pieces ≤ b.to - b.from) (record { from = 255 * bin.from; to = 255 * bin.to; pieces = bin.pieces }) (loosened young) one
+    (loosened_cheap version young (λ k d below. light (suc k) d (omega (arith, below))))
+
+-- and they are at most so much wider
+pub loosened_narrow : (s : Numbers) (young : List Bin) → All (λ (bin : Bin). bin.to - bin.from ≤ span s 0) young → All (λ (bin : Bin). bin.to - bin.from ≤ 255 * span s 0) (loosened young)
+loosened_narrow s [] narrow = λ k d below. absurd (omega (arith, below))
+loosened_narrow s (bin ∷ young) narrow =
+    All-cons (λ (b : Bin). b.to - b.from ≤ 255 * span s 0) (record { from = 255 * bin.from; to = 255 * bin.to; pieces = bin.pieces }) (loosened young)
+    (omega (arith, narrow 0 bin (omega arith))) (loosened_narrow s young (λ k d below. narrow (suc k) d (omega (arith, below))))
+
+pub narrow_more : (s : Numbers) (young : List Bin) → All (λ (bin : Bin). bin.to - bin.from ≤ span s 0) young → All (λ (bin : Bin). bin.to - bin.from ≤ 255 * span s 0) young
+narrow_more s young narrow = λ k d below. omega (arith, narrow k d below)

@@ -1,11 +1,11 @@
 -- How the positions of a level's bins change as the edges around it move.
-use Rattle.lert_spec.specs.Counts.{plain}
+use Rattle.lert_spec.specs.Counts.{plain, weighed}
 use Rattle.std.proofs.Common.{ℕ, ◌≡◌, ◌≢◌, ◌+◌, ◌-◌, ◌*◌, ◌/◌, ◌%◌, ◌<◌, ◌≤◌, zero, suc, Bool, true, false, cond, ltb, List, [], ◌∷◌, ◌++◌, length, map, filter, min, max, drop, refl, ap, ap₂, sym}
 use Rattle.std.proofs.{Common.{◌∙◌, arith, inl, inr, subst}, lemmas.Bool.{cases_lt, cases_eq, lt-ltb, le-ltb, eq-eqb, ne_eqb}, lemmas.List.{map-append, nil_from_length}}
 use Rattle.std.proofs.lemmas.List.Elements.{All-nil, All-cons}
 use Rattle.std.proofs.Math.Nat.{mul-div-le, div-add-mod, mod-lt, mul-suc, mul_comm, mul-le-mul_left, mul-le-mul_right, mul_assoc, suc-mul, le-div_iff_mul-le, div-eq_of_lt-le, add-zero, add-suc}
 use Rattle.std.specs.List.{All, range_with_len}
-use Rattle.lert_spec.specs.{declared.numbers.Numbers.Numbers, Bins.{Bin, bins, bin_at}, Edges.{span, offset, edge, depth, deepest}}
+use Rattle.lert_spec.specs.{declared.item.Item.Item, declared.numbers.Numbers.Numbers, Bins.{Bin, bins_of, bin_in}, Edges.{span, offset, edge, depth, deepest}}
 use Rattle.lert_spec.proofs.BinLaws.{cuts, made, cuts-enough, cuts-drop, cuts-newest, cuts-front}
 use Rattle.lert_spec.proofs.EdgeLaws.{span_pos, span-suc, steps, div_never_falls, deepest_reaches, steps-suc, moves_together, edge_descends, moves_by_one, deepest_within}
 use Rattle.lert_levels.specs.rows.Ranges.{Range, range_at, ranges, filled}
@@ -21,8 +21,8 @@ map_cond_one f false x = refl
 
 -- ---- bins and their ranges
 
-pub filled_cuts : (s : Numbers) (events : List ℕ) (level low high : ℕ) (ks : List ℕ) →
-    filter (λ bin. ltb bin.from bin.to) (map (bin_at s events level low high) ks)
+pub filled_cuts : (s : Numbers) (events : List Item) (level low high : ℕ) (ks : List ℕ) →
+    filter (λ bin. ltb bin.from bin.to) (map (bin_in weighed s events level low high) ks)
     ≡ map (filled s events) (filter (λ range. ltb range.from range.to) (map (range_at (span s level) low high) ks))
 filled_cuts s events level low high [] = refl
 filled_cuts s events level low high (k ∷ ks) =
@@ -31,7 +31,7 @@ filled_cuts s events level low high (k ∷ ks) =
     ∙ sym (map_cond (filled s events) (ltb range.from range.to) range (filter (λ (r : Range). ltb r.from r.to) (map (range_at (span s level) low high) ks)))
 
 -- a level's bins are its ranges with the counts of their positions
-pub bins-ranges : (s : Numbers) (events : List ℕ) (level : ℕ) → bins s events level ≡ map (filled s events) (ranges s (length events) level)
+pub bins-ranges : (s : Numbers) (events : List Item) (level : ℕ) → bins_of weighed s events level ≡ map (filled s events) (ranges s (length events) level)
 bins-ranges s events level =
     filled_cuts s events level (edge s level (length events)) (edge s (level - 1) (length events)) (range_with_len 0 (suc (length events / span s level)))
 

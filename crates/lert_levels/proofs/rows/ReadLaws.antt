@@ -42,7 +42,7 @@ malformed_there (Err fault) (PieceMalformed there) at gave is = ap PieceMalforme
 -- ---- a check
 
 -- a bin whose pieces and text the file has stands there
-pub checked_stands : {E : Type 0} (result : Result (Unit {0}) E) (s : Numbers) (version : ℕ) (level : ℕ) (bin : BinAt) (frame : ℕ) (file : List ℕ) → frame ≡ bin.frame →
+pub checked_stands : {T E : Type 0} (result : Result T E) (s : Numbers) (version : ℕ) (level : ℕ) (bin : BinAt) (frame : ℕ) (file : List ℕ) → frame ≡ bin.frame →
     OnOk result (IsBin version (tail_limit s) (width_of bin) (frame_pieces s version level frame file)) →
     OnOk result (HoldsFrame s version level frame file (frame_pieces s version level frame file)) →
     OnOk result (Stands s version level file (pieces_in s version file level) bin)

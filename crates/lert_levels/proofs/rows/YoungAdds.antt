@@ -1,9 +1,10 @@
 -- Level 0 as one more event is added.
-use Rattle.std.proofs.Common.{ℕ, suc, ◌≡◌, ◌+◌, ◌-◌, ◌*◌, ◌/◌, ◌^◌, ◌<◌, ◌≤◌, cond, eqb, List, [], length, get_or, set, map, ap, ap₂, sym, ◌∙◌, subst, arith, inl, inr, length-set, get_or-set_same}
+use Rattle.std.proofs.Common.{ℕ, suc, ◌≡◌, ◌+◌, ◌-◌, ◌*◌, ◌/◌, ◌^◌, ◌<◌, ◌≤◌, cond, eqb, List, [], length, get_or, set, map, refl, ap, ap₂, sym, ◌∙◌, subst, arith, inl, inr, length-set}
+use Rattle.std.proofs.Common.{get_or-set_same}
 use Rattle.std.proofs.{Common.get_or-set_other, Math.Nat.{mul-le-mul_right, suc-mul}, lemmas.Bool.{eq-eqb, ne_eqb, cases_lt, cases_eq}, lemmas.List.{map-set, get_or-map, length-map}}
 use Rattle.lert_base.specs.declared.count_table.CountTable.{Ghosts as TablesOf}
-use Rattle.lert_spec.specs.{declared.numbers.Numbers.Numbers, Edges.{span, capacity, tail_bits}, Table.{total, plus}}
-use Rattle.lert_spec.proofs.Tables.{total-plus}
+use Rattle.lert_spec.specs.{declared.numbers.Numbers.Numbers, Edges.{span, capacity, tail_bits}, Table.{cost, costs, total, plus}}
+use Rattle.lert_spec.proofs.{CostLaws.{cost_one, costs-plus}, Tables.total-plus}
 use Rattle.lert_levels.specs.rows.Young.{seen_as, Young, added, with_event, IsNextPosition, bins_of, IsFilled, AreFilled}
 use Rattle.lert_levels.proofs.rows.YoungLaws.{bins_of-none, bins_of-begin, bins_of-grow, IsPlace, place_of, added-begin, added-grow, some_bins, bits_of_zero, same_numbers}
 
@@ -46,8 +47,9 @@ module _ {T C : Type 0} {of : TablesOf T C} {s : Numbers} {tables : List T} {fro
               within = omega arith;
               last = omega (arith, next.last);
               each = λ k d below. let old = adds.filled.each k d below in record {
-                summed = omega (arith, old.summed);
-                by_one = old.by_one;
+                added = omega (arith, old.added);
+                costly = old.costly;
+                heavy = old.heavy;
                 unused = λ _. old.unused (omega arith);
                 of_zero = old.of_zero;
               };
@@ -116,8 +118,8 @@ module _ {T C : Type 0} {of : TablesOf T C} {s : Numbers} {tables : List T} {fro
       let high = stands.place.high in
       let low = stands.place.low in
       let step = suc-mul at (span s 0) in
-      let summed = here.summed in
-      subst (λ (t : T). of.adds t < of.room t) (sym is) (omega (arith, here.of_zero.events, here.by_one))
+      let added = here.added in
+      subst (λ (t : T). of.adds t < of.room t) (sym is) (omega (arith, here.of_zero.events))
 
   pub add_below : (table : T) → table ≡ get_or tables at table → (tail : ℕ) →
       tail < 2 ^ tail_bits young.settings →
@@ -128,10 +130,10 @@ module _ {T C : Type 0} {of : TablesOf T C} {s : Numbers} {tables : List T} {fro
       ap (λ (t : T). of.quotient_bits t + of.width t) is ∙ bits_of_zero s stands.filled.valid here.of_zero ∙ ap (λ (y : Young). tail_bits y.settings) adds.seen in
       subst (λ b. tail < 2 ^ b) (sym bits) below
 
-  pub add_filled : (old new : T) (tail : ℕ) → old ≡ get_or tables at old → of.pieces new ≡ plus (of.pieces old) tail 1 → of.adds new ≡ of.adds old + 1 →
+  pub add_filled : (old new : T) (tail weight : ℕ) → 1 ≤ weight → weight ≤ 255 → old ≡ get_or tables at old → of.pieces new ≡ plus (of.pieces old) tail weight → of.adds new ≡ of.adds old + 1 →
       of.room new ≡ of.room old → of.quotient_bits new ≡ of.quotient_bits old → of.width new ≡ of.width old →
       AreFilled of s (set tables at new) begin m
-  add_filled old new tail is pieces_are adds_is room_is quotient_is remainder_is =
+  add_filled old new tail weight some few is pieces_are adds_is room_is quotient_is remainder_is =
       let first = stands.first in
       let low = stands.place.low in
       let high = stands.place.high in
@@ -147,11 +149,14 @@ module _ {T C : Type 0} {of : TablesOf T C} {s : Numbers} {tables : List T} {fro
           | inl here ↦ (
               let at_it : get_or (set tables at new) k d ≡ new = ap (λ n. get_or (set tables at new) n d) here ∙ get_or-set_same tables at new d add_place in
               let before = subst (λ (t : T). IsFilled of s begin (m - 1) at t) (sym is) (stands.filled.each at old add_place) in
-              let total_is : total (of.pieces new) ≡ total (of.pieces old) + 1 = ap total pieces_are ∙ total-plus (of.pieces old) tail 1 in
-              let summed = before.summed in
+              let total_is : total (of.pieces new) ≡ total (of.pieces old) + weight = ap total pieces_are ∙ total-plus (of.pieces old) tail weight in
+              let one : cost 2 weight ≡ 1 = cost_one 2 weight some few refl in
+              let costs_are : costs 2 (of.pieces new) ≤ costs 2 (of.pieces old) + 1 = omega (arith, ap (costs 2) pieces_are, costs-plus 2 (of.pieces old) tail weight, one) in
+              let adds = before.added in
               let after : IsFilled of s begin m at new = record {
-                summed = omega arith;
-                by_one = adds_is ∙ ap (λ n. n + 1) before.by_one ∙ sym total_is;
+                added = omega arith;
+                costly = omega (arith, costs_are, before.costly);
+                heavy = omega (arith, total_is, some, before.heavy);
                 unused = λ over. absurd (omega arith);
                 of_zero = same_numbers s before.of_zero room_is quotient_is remainder_is;
               } in
@@ -160,13 +165,14 @@ module _ {T C : Type 0} {of : TablesOf T C} {s : Numbers} {tables : List T} {fro
           | inr elsewhere ↦ (
               let at_it : get_or (set tables at new) k d ≡ get_or tables k d = get_or-set_other tables at k new d elsewhere in
               let before = stands.filled.each k d inside in
-              let summed = before.summed in
+              let adds = before.added in
               let after : IsFilled of s begin m k (get_or tables k d) = record {
-                summed = elim (cases_lt k at) [
+                added = elim (cases_lt k at) [
                   | inl younger ↦ (let more = mul-le-mul_right (span s 0) (let next : suc k ≤ at = younger in next) in let one = suc-mul k (span s 0) in omega arith)
                   | inr older ↦ (let more = mul-le-mul_right (span s 0) (let next : suc at ≤ k = omega arith in next) in omega arith)
                 ];
-                by_one = before.by_one;
+                costly = before.costly;
+                heavy = before.heavy;
                 unused = λ over. before.unused (omega arith);
                 of_zero = before.of_zero;
               } in

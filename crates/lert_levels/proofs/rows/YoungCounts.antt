@@ -3,7 +3,7 @@ use Rattle.std.proofs.Common.{ℕ, suc, ◌≡◌, ◌+◌, ◌*◌, ◌^◌, �
 use Rattle.std.proofs.{Math.Nat.{suc-mul, pow-zero}, lemmas.Bool.{cases_lt, cases_eq}, lemmas.List.take_all, lemmas.List.Sums.{sum_by-cons, sum_by_more}}
 use Rattle.lert_base.specs.declared.count_table.CountTable.{Ghosts as TablesOf}
 use Rattle.lert_spec.specs.{declared.numbers.Numbers.Numbers, declared.piece.Piece.Piece, Bins.Bin, Edges.span, Limits.IsValid, Table.{count_of, total}}
-use Rattle.lert_spec.proofs.TallyLaws.{count_of-cons_same, count_of-cons_other}
+use Rattle.lert_spec.proofs.{CostLaws.costs_from, TallyLaws.{count_of-cons_same, count_of-cons_other}}
 use Rattle.lert_levels.specs.rows.Young.{seen_as, Young, bins_of, AreFilled}
 use Rattle.lert_levels.proofs.rows.YoungLaws.{bins_of-none, bins_of-some}
 
@@ -17,10 +17,10 @@ count_of_le-total (p ∷ ps) tail = let rest = count_of_le-total ps tail in elim
 pub width_within : (s : Numbers) → IsValid s → span s 0 ≤ 65536
 width_within s valid = let one : s.ratio ^ 0 ≡ 1 = pow-zero s.ratio in omega (arith, valid.limits.base_to, ap (λ n. s.base * n) one)
 
--- what was counted in the first tables
+-- what was counted in the first tables: each add of a table's positions weighs at most 255
 pub record IsCounted {T : Type 0} (pieces : T → List Piece) (tables : List T) (tail number count : ℕ) : Type 0 where
   pub is : count ≡ sum_by (λ table. count_of (pieces table) tail) (take number tables)
-  pub few : count ≤ number * 65536
+  pub few : count ≤ number * 16711680
 
 pub counts_are : {T : Type 0} (pieces : T → List Piece) (tail wide from to : ℕ) (tables : List T) →
     ((k : ℕ) (d : T) → k < length tables → to ≤ from + k * wide → pieces (get_or tables k d) ≡ []) →
@@ -54,7 +54,7 @@ module _ {T C : Type 0} (of : TablesOf T C) (s : Numbers) (all tables : List T) 
       let narrow = width_within s filled.valid in
       record {
         is = ap₂ (λ a b. a + b) counted.is (more_is ∙ ap (λ (t : T). count_of (of.pieces t) tail) is) ∙ sym (sum_by_more (λ (t : T). count_of (of.pieces t) tail) tables number table below);
-        few = omega (arith, counted.few, here.summed);
+        few = omega (arith, counted.few, same, few, here.added, here.costly, costs_from 2 (of.pieces (get_or tables number table)), narrow);
       }
 
   pub counted_fits : number ≤ length tables → count < 2 ^ 63

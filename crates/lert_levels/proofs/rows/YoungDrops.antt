@@ -2,7 +2,7 @@
 use Rattle.std.proofs.Common.{ℕ, suc, ◌≡◌, ◌+◌, ◌*◌, ◌≤◌, cond, ltb, min, List, [], ◌∷◌, ◌++◌, length, get_or, set, map, drop, ap, sym, ◌∙◌, subst, arith, inl, inr, length-append, take}
 use Rattle.std.proofs.{Math.Nat.{div-add-mod, suc-mul}, lemmas.Bool.cases_lt, Math.ListN.get_or-append, Math.Seq.get_or-append_seam, lemmas.List.{map-append, length-map}}
 use Rattle.lert_base.specs.declared.count_table.CountTable.{Ghosts as TablesOf}
-use Rattle.lert_spec.specs.{declared.numbers.Numbers.Numbers, declared.piece.Piece.Piece, Bins.Bin, Edges.span, Table.total}
+use Rattle.lert_spec.specs.{declared.numbers.Numbers.Numbers, declared.piece.Piece.Piece, Bins.Bin, Edges.span, Table.costs}
 use Rattle.lert_levels.specs.rows.Young.{seen_as, Young, bins_of, IsFilled, AreFilled}
 use Rattle.lert_levels.proofs.rows.YoungLaws.{bins_of-none, bins_of-some, rest_of, some_bins, same_numbers}
 
@@ -41,10 +41,11 @@ drop_filled of (first ∷ rest) {s} {from} {to} {wide} filled wide_is positive w
             let at_it : get_or (rest ++ new ∷ []) k d ≡ get_or rest k d = get_or-append rest (new ∷ []) d k inner in
             let before = filled.each (suc k) d (omega arith) in
             let one = suc-mul k (span s 0) in
-            let summed = before.summed in
+            let adds = before.added in
             subst (λ t. IsFilled of s (from + wide) to k t) (sym at_it) (record {
-              summed = omega arith;
-              by_one = before.by_one;
+              added = omega arith;
+              costly = before.costly;
+              heavy = before.heavy;
               unused = λ over. before.unused (omega arith);
               of_zero = before.of_zero;
             }))
@@ -54,8 +55,9 @@ drop_filled of (first ∷ rest) {s} {from} {to} {wide} filled wide_is positive w
             let same : get_or (first ∷ rest) 0 old ≡ old = sym is in
             let over : to ≤ from + wide + k * span s 0 = (let at_last = ap (λ n. n * span s 0) last in omega arith) in
             subst (λ t. IsFilled of s (from + wide) to k t) (sym at_it) (record {
-              summed = ap total pieces_are ∙ omega arith;
-              by_one = adds_is ∙ sym (ap total pieces_are);
+              added = adds_is ∙ omega arith;
+              costly = omega (arith, adds_is, ap (costs 2) pieces_are);
+              heavy = omega (arith, adds_is);
               unused = λ _. pieces_are;
               of_zero = same_numbers s oldest.of_zero (room_is ∙ ap of.room is) (quotient_is ∙ ap of.quotient_bits is) (remainder_is ∙ ap of.width is);
             }))

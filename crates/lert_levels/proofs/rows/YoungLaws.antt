@@ -3,7 +3,7 @@ use Rattle.std.proofs.Common.{ℕ, zero, suc, ◌≡◌, ◌+◌, ◌-◌, ◌*�
 use Rattle.std.proofs.{Common.length-append, Math.Nat.{div-add-mod, mod-lt, suc-mul}, lemmas.Bool.{lt-ltb, le-ltb, eq-eqb, ne_eqb, cases_lt}, Math.ListN.get_or-append, Math.Seq.get_or-append_seam}
 use Rattle.std.proofs.lemmas.Nat.{mod-mul-add}
 use Rattle.lert_base.specs.declared.count_table.CountTable.{Ghosts as TablesOf}
-use Rattle.lert_spec.specs.{declared.numbers.Numbers.Numbers, declared.piece.Piece.Piece, Bins.Bin, Edges.{span, quotient_bits, width, tail_bits}, Limits.IsValid, Table.{total, plus}}
+use Rattle.lert_spec.specs.{declared.numbers.Numbers.Numbers, declared.piece.Piece.Piece, Bins.Bin, Edges.{span, quotient_bits, width, tail_bits}, Limits.IsValid, Table.{costs, plus}}
 use Rattle.lert_spec.proofs.LimitLaws.{quotient_bits_by_zeros}
 use Rattle.lert_levels.specs.rows.Young.{Young, grown, begun, added, bins_of, IsOfZero, IsFilled, AreFilled}
 
@@ -151,8 +151,9 @@ empty_more {T} {C} of s tables count empty table pieces_are adds_is room_is quot
         let last : k ≡ length tables = omega arith in
         let at_it : get_or (tables ++ table ∷ []) k d ≡ table = ap (λ n. get_or (tables ++ table ∷ []) n d) last ∙ get_or-append_seam tables table [] d in
         subst (λ (t : T). IsFilled of s 0 0 k t) (sym at_it) (record {
-          summed = ap total pieces_are ∙ omega arith;
-          by_one = adds_is ∙ sym (ap total pieces_are);
+          added = adds_is ∙ omega arith;
+          costly = omega (arith, adds_is, ap (costs 2) pieces_are);
+          heavy = omega (arith, adds_is);
           unused = λ _. pieces_are;
           of_zero = record { events = room_is; quotients = quotient_is; remainders = remainder_is };
         }))

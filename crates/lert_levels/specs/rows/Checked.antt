@@ -1,7 +1,7 @@
 -- What a check of the frames finds, level by level from the first on, each level's oldest bin first.
-use Rattle.std.specs.Prelude.{ℕ, zero, suc, ◌+◌, ◌<◌, nat_lt, if◌then◌else◌, List, [], ◌∷◌, ◌++◌, length, map, All, Option, Some, None, slice_index_or}
+use Rattle.std.specs.Prelude.{ℕ, zero, suc, ◌+◌, ◌*◌, ◌<◌, ◌≤◌, nat_lt, if◌then◌else◌, List, [], ◌∷◌, ◌++◌, length, map, sum_by, All, Option, Some, None, slice_index_or}
 use Rattle.lert_frames.specs.Frame.{frame_left, frame_pieces}
-use Rattle.lert_spec.specs.{declared.numbers.Numbers.Numbers, Edges.edge, declared.piece.Piece.Piece}
+use Rattle.lert_spec.specs.{declared.numbers.Numbers.Numbers, Edges.edge, Items.most_weight, declared.piece.Piece.Piece, Table.total}
 use Rattle.lert_levels.specs.{declared.rows.bin_at.BinAt.BinAt, rows.Loading.{width_of, Stands}}
 
 -- the pieces that a file says in the frame of a bin of a level
@@ -45,3 +45,25 @@ row_left s version file level row = first_of (map (bin_left s version file level
 
 abbrev pub rows_left : Numbers → ℕ → List ℕ → List (List BinAt) → Option ℕ
 rows_left s version file rows = first_of (bins_left s version file 1 rows)
+
+-- ---- what the counts add up to
+
+-- the counts that a file says in the frames of a level's bins
+abbrev pub row_total : Numbers → ℕ → List ℕ → ℕ → List BinAt → ℕ
+row_total s version file level row = sum_by (λ bin. total (pieces_in s version file level bin)) row
+
+-- in those of these rows' bins, the first of them that of this level
+abbrev pub rows_total : Numbers → ℕ → List ℕ → ℕ → List (List BinAt) → ℕ
+rows_total s version file level [] = 0
+rows_total s version file level (row ∷ rows) = row_total s version file level row + rows_total s version file (suc level) rows
+
+-- how many positions the bins of a row have, and those of all rows
+abbrev pub row_width : List BinAt → ℕ
+row_width row = sum_by width_of row
+
+abbrev pub rows_width : List (List BinAt) → ℕ
+rows_width rows = sum_by row_width rows
+
+-- a sum of counts that so many events may have made in files of a version: each weighs at least 1
+abbrev pub IsWeightOf : ℕ → ℕ → ℕ → Type 0
+IsWeightOf version events sum = (events ≤ sum) × (sum ≤ most_weight version * events)

@@ -1,6 +1,6 @@
 -- The positions of a level's bins, by themselves, and the bins of level 0 above a position.
 use Rattle.std.specs.{Prelude.{ℕ, suc, ◌-◌, ◌*◌, ◌/◌, nat_lt, min, max, filter, map, List, length, slice_range}, List.range_with_len}
-use Rattle.lert_spec.specs.{declared.numbers.Numbers.Numbers, Bins.{Bin, bin_at, tallied}, Edges.{span, edge}}
+use Rattle.lert_spec.specs.{declared.numbers.Numbers.Numbers, declared.item.Item.Item, Bins.{Bin, bin_in, tally}, Counts.weighed, Edges.{span, edge}}
 
 -- the positions above `from`, up to `to`
 pub record Range : Type 0 where
@@ -19,13 +19,13 @@ ranges s n level =
     (map (range_at (span s level) (edge s level n) (edge s (level - 1) n)) (range_with_len 0 (suc (n / span s level))))
 
 -- a bin of these positions
-abbrev pub filled : Numbers → List ℕ → Range → Bin
+abbrev pub filled : Numbers → List Item → Range → Bin
 filled s events range =
-    record { from = range.from; to = range.to; pieces = tallied s (slice_range events range.from range.to) }
+    record { from = range.from; to = range.to; pieces = tally weighed s (slice_range events range.from range.to) }
 
 -- the bins of level 0 above a position, oldest first: these positions cut at the aligned intervals of its span, without
 -- empty ones
-abbrev pub young_bins : Numbers → List ℕ → ℕ → List Bin
+abbrev pub young_bins : Numbers → List Item → ℕ → List Bin
 young_bins s events from =
     filter (λ bin. nat_lt bin.from bin.to)
-    (map (bin_at s events 0 from (length events)) (range_with_len 0 (suc (length events / span s 0))))
+    (map (bin_in weighed s events 0 from (length events)) (range_with_len 0 (suc (length events / span s 0))))

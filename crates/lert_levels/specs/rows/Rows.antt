@@ -2,7 +2,7 @@
 use Rattle.std.specs.Prelude.{◌≡◌, ℕ, ◌+◌, ◌-◌, ◌<◌, ◌≤◌, ◌%◌, ◌==◌, ◌^◌, Bool, nat_lt, List, [], ◌∷◌, ◌++◌, length, map, flat_map, take, drop, All, count_by, find, unwrap_or, slice_index_or}
 use Rattle.std.specs.{Prelude.{slice_range, if◌then◌else◌}, List.range_with_len}
 use Rattle.lert_frames.specs.Frame.{HoldsFrame}
-use Rattle.lert_spec.specs.{declared.numbers.Numbers.Numbers, declared.piece.Piece.Piece, Bins.tallied, Edges.{span, edge, depth}}
+use Rattle.lert_spec.specs.{declared.numbers.Numbers.Numbers, declared.item.Item.Item, declared.piece.Piece.Piece, Bins.tally, Counts.weighed, Edges.{span, edge, depth}}
 use Rattle.lert_levels.specs.{declared.rows.bin_at.BinAt.BinAt, rows.Ranges.{Range, ranges}}
 
 -- ---- which bins stand where
@@ -44,12 +44,12 @@ pub record AreRows (s : Numbers) (rows : List (List BinAt)) : Type 0 where
   pub levels : length rows ≡ s.levels
   pub each : (level : ℕ) → 1 ≤ level → level ≤ s.levels → IsRow s level (row_of rows level)
 
--- the counts of a bin's positions
-abbrev pub tallied_in : Numbers → List ℕ → BinAt → List Piece
-tallied_in s events bin = tallied s (slice_range events bin.from bin.to)
+-- what the tails at a bin's positions weigh
+abbrev pub tallied_in : Numbers → List Item → BinAt → List Piece
+tallied_in s events bin = tally weighed s (slice_range events bin.from bin.to)
 
 -- the frame of each bin holds them
-abbrev pub HoldsBins : Numbers → ℕ → List ℕ → List (List BinAt) → List ℕ → Type 0
+abbrev pub HoldsBins : Numbers → ℕ → List Item → List (List BinAt) → List ℕ → Type 0
 HoldsBins s version events rows file =
     (level : ℕ) → 1 ≤ level → level ≤ s.levels →
     All (λ bin. HoldsFrame s version level bin.frame file (tallied_in s events bin)) (row_of rows level)

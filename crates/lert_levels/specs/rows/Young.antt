@@ -62,11 +62,12 @@ pub record IsOfZero (s : Numbers) (room quotient remainder : ℕ) : Type 0 where
   pub quotients : quotient ≡ quotient_bits s 0
   pub remainders : remainder ≡ width s 0
 
--- the table with this number has the events of its bin, each added by itself with the weight 1, and none where no
--- position is in it
+-- the table with this number has the events of its bin, each added by itself with a weight from 1 to 255, and none where
+-- no position is in it
 pub record IsFilled {T C : Type 0} (of : TablesOf T C) (s : Numbers) (from to number : ℕ) (table : T) : Type 0 where
-  pub summed : total (of.pieces table) ≡ min (span s 0) (to - (from + number * span s 0))
-  pub by_one : of.adds table ≡ total (of.pieces table)
+  pub added : of.adds table ≡ min (span s 0) (to - (from + number * span s 0))
+  pub costly : costs 2 (of.pieces table) ≤ of.adds table
+  pub heavy : of.adds table ≤ total (of.pieces table)
   pub unused : to ≤ from + number * span s 0 → of.pieces table ≡ []
   pub of_zero : IsOfZero s (of.room table) (of.quotient_bits table) (of.width table)
 
@@ -86,7 +87,7 @@ pub record AreNumbered (s : Numbers) (from to bins end : ℕ) : Type 0 where
   pub covers : to ≤ end
   pub few : end < to + span s 0
 
--- how often a tail stands in tables
+-- what a tail weighs in tables
 abbrev pub times_in : {T : Type 0} → (T → List Piece) → List T → ℕ → ℕ
 times_in pieces tables tail = sum_by (λ table. count_of (pieces table) tail) tables
 
@@ -99,3 +100,11 @@ pub record AreBounded {T : Type 0} (pieces : T → List Piece) (s : Numbers) (ta
 -- the bins of level 0 may go into frames of this version: their counts cost no more positions than each has, and reach them
 abbrev pub AreLight : ℕ → List Bin → Type 0
 AreLight version bins = All (λ bin. (costs version bin.pieces ≤ bin.to - bin.from) × (bin.to - bin.from ≤ total bin.pieces)) bins
+
+-- the half of it that a merge of them needs
+abbrev pub AreCheap : ℕ → List Bin → Type 0
+AreCheap version bins = All (λ bin. costs version bin.pieces ≤ bin.to - bin.from) bins
+
+-- bins with the same counts, so wide that these are cheap in each version
+abbrev pub loosened : List Bin → List Bin
+loosened bins = map (λ bin. record { from = 255 * bin.from; to = 255 * bin.to; pieces = bin.pieces }) bins

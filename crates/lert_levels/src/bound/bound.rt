@@ -66,7 +66,7 @@ impl Bound {
         self.pairs.fill(Pair::NONE);
     }
 
-    /// Whether this tail can have come `count` times in the two generations, where 255 times and more are not told apart.
+    /// Whether this tail can weigh `count` in the two generations, where 255 and more are not told apart.
     pub fn may_reach(&self, tail: u64, count: u64) -> bool
         ensures bytes { result ≡ nat_le (min count 255) ((pair_of self.now tail).before + (pair_of self.now tail).present) }
         ensures counts { (before present : ℕ → ℕ) → CoversCounts self.now before present → result ≡ false

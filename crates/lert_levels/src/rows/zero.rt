@@ -3,7 +3,7 @@
 ghost use Rattle.std.specs.Prelude.{◌≡◌, ◌≢◌, ℕ, ◌+◌, ◌-◌, ◌*◌, ◌/◌, ◌%◌, ◌^◌, ◌<◌, ◌≤◌, ◌==◌, if◌then◌else◌, false, ◌++◌, [], All, drop, length, map, IfOk, OnOk, sum_by};
 ghost use Rattle.lert_levels.specs.bound.Covers.{CoversCounts};
 ghost use Rattle.lert_spec.specs.Edges.{span, quotient_bits, width, tail_bits};
-ghost use Rattle.lert_spec.specs.Table.{count_of, total, AreGiven};
+ghost use Rattle.lert_spec.specs.Table.{count_of};
 ghost use Rattle.lert_levels.specs.rows.Young.{with_event, AreLight, IsNextPosition, IsOfZero};
 
 use crate::bound::Bound;
@@ -23,7 +23,7 @@ pub struct Zero<T: CountTable> {
     settings: Settings,
     // That of the oldest bin first, and behind those in use the free ones.
     tables: Vec<T>,
-    // Of how often a tail came in all bins.
+    // Of what a tail weighs in all bins.
     bound: Bound,
     // How many of the bins are of the bound's generation before: the oldest ones.
     earlier: u64,
@@ -75,20 +75,21 @@ impl<T: CountTable> Zero<T> {
         &self.settings
     }
 
-    /// Counts an event of this tail at position `m`, which is the position behind the last one, or, where there is none, the
-    /// first one of an aligned interval. A bin that `m` begins needs a free table.
-    pub fn add(&mut self, tail: u64, m: u64)
+    /// Counts an event of this tail and weight at position `m`, which is the position behind the last one, or, where
+    /// there is none, the first one of an aligned interval. A bin that `m` begins needs a free table.
+    pub fn add(&mut self, tail: u64, weight: u8, m: u64)
+        requires some { 1 ≤ weight }
         requires below { tail < 2 ^ tail_bits self.old.settings }
         requires position { IsNextPosition self.old m }
-        ensures { self.new ≡ with_event self.old tail 1 m }
+        ensures { self.new ≡ with_event self.old tail weight m }
     {
         self.extent.grow(m, self.settings.span(0));
         let newest = self.extent.bins - 1;
-        self.tables[newest as usize].add(tail, 1);
-        self.bound.add(tail, 1);
+        self.tables[newest as usize].add(tail, u64::from(weight));
+        self.bound.add(tail, weight);
     }
 
-    /// How often a tail was added, over all bins. It looks into each table.
+    /// What was added to a tail, over all bins. It looks into each table.
     pub fn count(&self, tail: u64) -> u64
         ensures { result ≡ sum_by (λ bin. count_of bin.pieces tail) self.now.bins }
     {
@@ -99,8 +100,8 @@ impl<T: CountTable> Zero<T> {
         count
     }
 
-    /// Whether a tail can have been added `count` times, over all bins. It looks at two bytes and into no table. Where
-    /// it answers true the tail may have come less often: tails share bytes, which keep dropped events for a while.
+    /// Whether a tail can weigh `count`, over all bins. It looks at two bytes and into no table. Where it answers true
+    /// the tail may weigh less: tails share bytes, which keep dropped events for a while and end at 255.
     pub fn may_reach(&self, tail: u64, count: u64) -> bool
         ensures { result ≡ false → sum_by (λ bin. count_of bin.pieces tail) self.now.bins < count }
     {
@@ -122,8 +123,7 @@ impl<T: CountTable> Zero<T> {
         ensures of_zero { All (λ table. IsOfZero self.now.settings (T.room table) (T.quotient_bits table) (T.width table)) result.now }
         ensures rooms { All (λ table. (T.room table ≤ 2 ^ 39)
             × (T.quotient_bits table + T.width table ≡ tail_bits self.now.settings)) result.now }
-        ensures widths { All (λ bin. total bin.pieces ≡ bin.to - bin.from) self.now.bins }
-        ensures light { (version : ℕ) → AreLight version self.now.bins }
+        ensures light { AreLight 2 self.now.bins }
         ensures narrow { All (λ bin. bin.to - bin.from ≤ span self.now.settings 0) self.now.bins }
         ensures some { self.now.from < self.now.to → 1 ≤ length self.now.bins }
         ensures few { length self.now.bins ≤ self.now.settings.bins }

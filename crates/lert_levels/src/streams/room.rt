@@ -133,7 +133,8 @@ impl<T: CountTable> StreamRoom<T> {
         }
         let reader = &mut self.readers[0];
         reader.start_at(version, level, frame, width);
-        reader.check(bay, version, frame, width)
+        reader.check(bay, version, frame, width)?;
+        Ok(())
     }
 }
 

@@ -1,4 +1,4 @@
-use Rattle.std.proofs.{Common.{ℕ, ◌≡◌, ◌+◌, ◌*◌, ◌<◌, ◌≤◌, ◌∙◌, List, [], vec_capacity, take, length, get_or, sym, subst, arith, Option, Some}, lemmas.List.length-take-le}
+use Rattle.std.proofs.{Common.{ℕ, ◌≡◌, ◌+◌, ◌*◌, ◌<◌, ◌≤◌, ◌∙◌, List, [], vec_capacity, take, length, get_or, refl, sym, subst, arith, Option, Some}, lemmas.List.length-take-le}
 use Rattle.lert_bay.specs.{declared.bay.TheConstants.FRAMES, Files.Files, Kept.{Bays, seen_by}}
 use Rattle.lert_bay.proofs.KeptLaws.{IsLawful}
 use Rattle.lert_frames.specs.Frame.{HoldsFrame}
@@ -11,6 +11,7 @@ use Rattle.std.specs.Prelude.{IsErrOf, sum}
 use Rattle.lert_frames.proofs.WriteLaws.{turns_back}
 use Rattle.lert_levels.proofs.{rows.LandLaws.rest_fewer, LandedLaws.{on_ok, laid, begun_number, widths_number, begun_wide, made_of, parts_are, part_fits, apart_landings, reads_apart, has_made}}
 use Rattle.lert_levels.proofs.{PlacedLaws.{begun_breaks, begun_sure, breaks_stay}, ReadyLaws.{first_landings, levels_same, same_count, rest_landings, rest_count}}
+use Rattle.lert_levels.proofs.rows.LoadLaws.{narrow_more}
 use Rattle.lert_levels.proofs.SourceLaws.{begun_given, begun_limit, begun_version, widths_small}
 use Rattle.lert_levels.proofs.merger.merge_secure.Given as given
 use Rattle.lert_levels.proofs.merger.merge_secure.Goals as goal
@@ -54,7 +55,6 @@ begin_order-order-requires g c = record {
   ahead = c.requires.ahead;
   rows = c.requires.reached.are;
   version = c.requires.version;
-  light = c.requires.light;
 }
 
 pub slice_bounds-first-end : goal.slice_bounds-first-end
@@ -73,7 +73,7 @@ land_bins-landed-requires g c =
     let young = c.args.zero.now.bins in
     let rows = c.args.rows.now in
     let bins = c.begin_order-order.result.streams.bins in
-    let begun = c.begin_order-order.ensures.begun in
+    let begun = c.begin_order-order.ensures.begun young refl (λ k d below. (c.requires.light k d below).0) in
     let settings = c.settings-settings.ensures in
     let reached = c.requires.reached in
     let valid : IsValid s = subst IsValid (c.numbers-valid.ensures.value ∙ settings) c.numbers-valid.ensures.valid in
@@ -103,7 +103,7 @@ land_bins-landed-requires g c =
           len = widths_number young rows ∙ sym (begun_number s version young rows bins begun);
           each = λ k below. subst (λ v. limit_at (wide_of v) bins k ≤ get_or (widths_of young rows) k 0) (sym c.begin_order-order.ensures.version)
               (begun_wide s version young rows bins k begun);
-          all = widths_small s valid young rows (omega (arith, c.len.ensures.few, c.len.ensures.count)) reached.are reached.narrow;
+          all = widths_small s valid young rows (omega (arith, c.len.ensures.few, c.len.ensures.count)) reached.are (narrow_more s young reached.narrow);
         };
         fits = λ part below. subst (λ (ps : List (Option ℕ)). sum (picked ps part (widths_of young rows)) ≤ span s (part + 1)) (sym c.deref.ensures.value)
             (part_fits s version m young rows reached parts landings laid part below);
@@ -125,7 +125,7 @@ returns g c =
     let young = c.args.zero.now.bins in
     let rows = c.args.rows.now in
     let bins = c.begin_order-order.result.streams.bins in
-    let begun = c.begin_order-order.ensures.begun in
+    let begun = c.begin_order-order.ensures.begun young refl (λ k d below. (c.requires.light k d below).0) in
     let settings = c.settings-settings.ensures in
     let reached = c.requires.reached in
     let valid : IsValid s = subst IsValid (c.numbers-valid.ensures.value ∙ settings) c.numbers-valid.ensures.valid in

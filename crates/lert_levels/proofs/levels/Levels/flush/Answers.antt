@@ -4,7 +4,7 @@ use Rattle.lert_bay.specs.{declared.bay.TheConstants.FRAMES, Kept.{Bays, seen_by
 use Rattle.lert_bay.proofs.KeptLaws.{IsLawful, keeps_on, keeps_as}
 use Rattle.lert_frames.proofs.{FaultLaws.not_err, WriteLaws.same_err}
 use Rattle.lert_spec.specs.Edges.{capacity, depth}
-use Rattle.lert_levels.specs.{Flushed.InNamed, Merged.IsFrames, OnDisk.{OnDisk, written}, rows.Landing.{AreApart, Anywhere}, rows.Rows.{IsAt, moved, tallied_in}}
+use Rattle.lert_levels.specs.{Flushed.InNamed, Merged.IsFrames, OnDisk.OnDisk, rows.Landing.{AreApart, Anywhere}, rows.Rows.{IsAt, moved, tallied_in}}
 use Rattle.lert_levels.proofs.{rows.LandLaws.{rest_on, rest_fewer}, rows.RowLaws.IsAt-moved, FlushLaws.{made_took, made_taken}, HoldLaws.rows_stand}
 use Rattle.lert_levels.proofs.{ReachLaws.{failed_by, no_break, no_place, reached_first, has_moved, apart}, ArrivalLaws.deep}
 use Rattle.lert_levels.proofs.levels.Levels.flush.Given as given
@@ -22,7 +22,7 @@ pub returns-in_err-merge : goal.returns-in_err-merge
 returns-in_err-merge g c =
     let p = err_from_is_err_and c.from_residual.result c.from_residual.ensures.1 in
     let s = c.args.self.now.settings in
-    let version = written in
+    let version = c.args.self.now.version in
     let m = c.args.m in
     let rows = c.args.self.now.rows in
     let first = c.requires.first in
@@ -37,7 +37,7 @@ returns-in_err-merge g c =
       at = tt;
       refused = e.same;
       told = λ seen told events of.
-          (let stand = rows_stand s version events (m - 1) rows (seen FRAMES) at_m e.rows (omega (arith, of.len)) of.held (depth s m) deepest in
+          (let stand = rows_stand s version events (m - 1) rows (seen FRAMES) at_m e.rows (omega (arith, of.len)) of.weighed of.held (depth s m) deepest in
           failed_by _ (λ at is. no_break s version e.valid reached (seen FRAMES) (tallied_in s events) at are stand (e.malformed seen told at (ap Err is))));
       took = tt;
       durable = tt;
@@ -57,7 +57,7 @@ returns-in_err-sync_frames g c =
     let r = c.from_residual-in_err-sync_frames in
     let p = err_from_is_err_and r.result r.ensures.1 in
     let s = c.args.self.now.settings in
-    let version = written in
+    let version = c.args.self.now.version in
     let m = c.args.m in
     let rows = c.args.self.now.rows in
     let one = c.in_ok-merge.ensures in
@@ -86,7 +86,7 @@ returns-in_err-sync_frames g c =
 pub returns : goal.returns
 returns g c =
     let s = c.args.self.now.settings in
-    let version = written in
+    let version = c.args.self.now.version in
     let m = c.args.m in
     let rows = c.args.self.now.rows in
     let first = c.requires.first in
@@ -99,17 +99,17 @@ returns g c =
     let before = g.B.Bay.files c.args.bay.now in
     let has = one.made in
     record {
-      ok = c.move_on.ensures ∙ ap (λ (v : OnDisk). record { settings = v.settings; rows = moved v.settings m v.rows }) one.same;
+      ok = c.move_on.ensures ∙ ap (λ (v : OnDisk). record { settings = v.settings; version = v.version; rows = moved v.settings m v.rows }) one.same;
       at = subst (λ (v : OnDisk). IsAt v.settings m v.rows) (sym c.move_on.ensures)
           (subst (λ (v : OnDisk). IsAt v.settings m (moved v.settings m v.rows)) (sym one.same) (IsAt-moved s one.valid m first last rows at_m));
       refused = tt;
       told = λ seen told events of. (
-        λ after told_after. has_moved s one.valid m first last rows at_m one.rows young took before (g.B.Bay.files c.merge.new.bay) has one.rest.seen seen told events of
+        λ after told_after. has_moved s version one.valid m first last rows at_m one.rows young took before (g.B.Bay.files c.merge.new.bay) has one.rest.seen seen told events of
             after (sym two.seen ∙ told_after),
-        made_taken s one.valid m first last rows at_m young took (IsFrames before) has.made has.is (seen FRAMES) events
+        made_taken s version one.valid m first last rows at_m young took (IsFrames before) has.made has.is (seen FRAMES) events
             (record { seen = seen; told = told; is = refl }) one.rows of,
       );
-      took = made_took s one.valid m first last rows at_m young took (IsFrames before) has.made has.is;
+      took = made_took s version one.valid m first last rows at_m young took (IsFrames before) has.made has.is;
       durable = two.durable;
       rest = rest_on (bays g) (lawful g) (InNamed s version rows) c.args.bay.now c.merge.new.bay c.sync_frames.new.bay _ _ one.kept two.kept
           (rest_fewer (bays g) (AreApart s version m (take (depth s m) rows)) (InNamed s version rows) c.args.bay.now c.merge.new.bay
@@ -133,6 +133,7 @@ merge-requires g c = record {
   from = c.requires.from;
   to = c.requires.to;
   at = c.requires.at;
+  light = c.requires.light;
   none_taken = c.requires.none_taken;
 }
 

@@ -2,7 +2,7 @@ use Rattle.std.proofs.{Common.{ℕ, ◌≡◌, ◌+◌, ◌*◌, ◌-◌, ◌≤
 use Rattle.std.specs.{Prelude.{OnOk, vec_capacity}, List.All}
 use Rattle.lert_bay.specs.{declared.bay.TheConstants.FRAMES, Kept.{Bays, seen_by}}
 use Rattle.lert_levels.specs.{landing.Landings.AreOfLevels, declared.landing.landing.Landing.Landing, declared.rows.bin_at.BinAt.BinAt, rows.Landing.{AreApart, KeepsRest}, rows.Loading.OneBreaks}
-use Rattle.lert_levels.specs.{rows.Rows.AreRows, OnDisk.{OnDisk, written}, Ready.{AreReached, HasMade}}
+use Rattle.lert_levels.specs.{rows.Rows.AreRows, rows.Young.AreLight, OnDisk.OnDisk, Ready.{AreReached, HasMade}}
 use Rattle.lert_levels.proofs.{rows.MoveLaws.written_back, ReachLaws.{held, turned, reached_are, young_some}}
 use Rattle.lert_spec.specs.{Edges.{capacity, depth, span}, Bins.Bin, Limits.IsValid, declared.numbers.Numbers.Numbers}
 use Rattle.lert_levels.proofs.levels.Levels.merge.Given as given
@@ -43,7 +43,8 @@ pub merge_rows-reading-requires : goal.merge_rows-reading-requires
 merge_rows-reading-requires g c =
     let at = (goal.at.merge_rows-reading-requires g c).After-depth-depth in
     let s = c.args.self.now.settings in
-    let version = written in
+    let version = c.args.self.now.version in
+    let of = ap (λ (v : OnDisk). v.version) c.self.view_is in
     let t = c.args.zero.now.settings in
     let m = c.args.m in
     let rows = c.args.self.now.rows in
@@ -56,8 +57,8 @@ merge_rows-reading-requires g c =
     let narrow = subst (λ (n : Numbers). All (λ (bin : Bin). bin.to - bin.from ≤ span n 0) young) c.requires.same c.tables-tables.ensures.narrow in
     record {
       same = reading.0 ∙ same;
-      version = (omega arith, omega arith);
-      light = c.tables-tables.ensures.light written;
+      version = c.self.invariant.0.of_version;
+      light = subst (λ (v : ℕ). AreLight v young) (sym of) c.requires.light;
       ahead = subst (λ (n : Numbers). (n.levels + 1) * n.bins ≤ c.in-Some.reading.ahead.room) same reading.1;
       landings = subst (AreOfLevels t) (sym c.deref_mut.ensures.value)
           (subst (λ (n : Numbers). AreOfLevels n c.self.inside.writing.landings.items) same c.self.invariant.2.of_levels);
@@ -71,9 +72,10 @@ merge_rows-reading-requires g c =
       parts = subst (λ (n : Numbers). (n.levels + 1) * n.bins ≤ vec_capacity c.self.inside.writing.parts) same c.self.invariant.2.room;
       first = c.requires.first;
       last = subst (λ (n : Numbers). m ≤ capacity n) (sym c.requires.same) c.requires.last;
-      reached = subst (AreReached t written m young) (sym (lent_is g at c.deref.result.now c.deref.ensures.value))
+      reached = subst (AreReached t c.self.inside.version m young) (sym (lent_is g at c.deref.result.now c.deref.ensures.value))
+          (subst (λ (v : ℕ). AreReached t v m young (take (depth s m) rows)) (sym of)
           (subst (λ (n : Numbers). AreReached n version m young (take (depth s m) rows)) (sym c.requires.same)
-          (reached_are s version valid m c.requires.first c.requires.last rows c.requires.at are young some narrow));
+          (reached_are s version valid m c.requires.first c.requires.last rows c.requires.at are young some narrow)));
       none_taken = c.requires.none_taken;
     }
 
@@ -107,10 +109,10 @@ returns g c =
     let took = g.O.Totals.took c.merge_rows-reading.new.totals in
     let before = g.B.Bay.files c.args.bay.now in
     let after = g.B.Bay.files c.merge_rows-reading.new.bay in
-    let said : (P : Numbers → ℕ → List (List BinAt) → Type 0) → P c.args.zero.now.settings written (take c.depth-depth.result c.deref.result.now) →
-    P c.args.self.now.settings written (take (depth c.args.self.now.settings m) c.args.self.now.rows) =
-    λ P is. turned (λ n rs. P n written rs) c.args.self.now.settings c.args.zero.now.settings _ _ c.requires.same (lent_is g at c.deref.result.now c.deref.ensures.value)
-    is in
+    let said : (P : Numbers → ℕ → List (List BinAt) → Type 0) → P c.args.zero.now.settings c.self.inside.version (take c.depth-depth.result c.deref.result.now) →
+    P c.args.self.now.settings c.args.self.now.version (take (depth c.args.self.now.settings m) c.args.self.now.rows) =
+    λ P is. turned (λ n rs. P n c.args.self.now.version rs) c.args.self.now.settings c.args.zero.now.settings _ _ c.requires.same (lent_is g at c.deref.result.now c.deref.ensures.value)
+    (subst (λ (v : ℕ). P c.args.zero.now.settings v (take c.depth-depth.result c.deref.result.now)) (ap (λ (v : OnDisk). v.version) c.self.view_is) is) in
     let e = c.merge_rows-reading.ensures in
     record {
       same = c.self.view_is;

@@ -15,16 +15,17 @@ are_rows : (g : _) (c : After-deref g) → AreRows c.self.inside.settings
     (take c.self.inside.rows.len (c.move_rows.new.rows ++ drop (length c.move_rows.new.rows) c.self.inside.rows.items))
 are_rows g c =
     moved_rows c.self.inside.settings c.args.m c.self.inside.rows.items c.deref_mut.result.now c.move_rows.new.rows c.self.inside.rows.len c.deref_mut.ensures.value c.deref_mut.ensures.len
-    c.move_rows.ensures (subst IsValid c.numbers-valid.ensures.value c.numbers-valid.ensures.valid) c.args.self.now c.self.view_is c.self.invariant.0.are c.requires.first c.requires.last c.requires.at
+    c.move_rows.ensures c.self.inside.version (subst IsValid c.numbers-valid.ensures.value c.numbers-valid.ensures.valid)
+    c.args.self.now c.self.view_is c.self.invariant.0.are c.requires.first c.requires.last c.requires.at
 
 pub lay_directory-requires : goal.lay_directory-requires
 lay_directory-requires g c =
-    room_for c.self.inside.settings c.self.inside.rows.items c.self.inside.directory.items _ c.self.inside.reader c.self.invariant.0 _ c.deref.result.now c.deref.ensures.value
+    room_for c.self.inside.settings c.self.inside.version c.self.inside.rows.items c.self.inside.directory.items _ c.self.inside.reader c.self.invariant.0 _ c.deref.result.now c.deref.ensures.value
     (are_rows g (goal.at.lay_directory-requires g c).After-deref)
 
 pub invariant_of-self : goal.invariant_of-self
 invariant_of-self g c = (
-  kept_on c.self.inside.settings c.self.inside.rows.items c.self.inside.directory.items _ c.self.inside.reader c.self.invariant.0 _ c.deref.result.now c.deref.ensures.value
+  kept_on c.self.inside.settings c.self.inside.version c.self.inside.rows.items c.self.inside.directory.items _ c.self.inside.reader c.self.invariant.0 _ c.deref.result.now c.deref.ensures.value
       (are_rows g (goal.at.invariant_of-self g c).After-deref)
       c.lay_directory.new.directory.items _ c.lay_directory.ensures.text c.lay_directory.ensures.capacity,
   c.self.invariant.1,
@@ -35,5 +36,5 @@ pub returns : goal.returns
 returns g c =
     let back = moved_back c.self.inside.settings c.args.m c.self.inside.rows.items c.deref_mut.result.now c.move_rows.new.rows c.self.inside.rows.len c.deref_mut.ensures.value
     c.deref_mut.ensures.len c.move_rows.ensures in
-    (λ i. record { settings = c.self.inside.settings; rows = back i })
-    ∙ ap (λ (v : OnDisk). record { settings = v.settings; rows = moved v.settings c.args.m v.rows }) c.self.view_is
+    (λ i. record { settings = c.self.inside.settings; version = c.self.inside.version; rows = back i })
+    ∙ ap (λ (v : OnDisk). record { settings = v.settings; version = v.version; rows = moved v.settings c.args.m v.rows }) c.self.view_is

@@ -20,6 +20,7 @@ invariant_of-result g c =
     let s = c.args.settings.now in (
       record {
         are = subst (AreRows s) (sym (empty _ _ _ c.in_ok-rows.ensures c.numbers-numbers.ensures.value)) (AreRows-none s);
+        of_version = (omega arith, omega arith);
         directory_is = c.lay_directory.ensures.text ∙ ap directory_text c.deref.ensures.value;
         directory_room = subst (λ (n : Numbers). n.levels * (1 + n.bins) ≤ vec_capacity c.lay_directory.new.directory) c.numbers-numbers.ensures.value
             (omega (arith, c.in_ok-directory.ensures.capacity, c.lay_directory.ensures.capacity));
@@ -30,7 +31,7 @@ invariant_of-result g c =
     )
 
 pub returns : goal.returns
-returns g c = ap (λ rows. record { settings = c.args.settings.now; rows = rows }) (empty _ _ _ c.in_ok-rows.ensures c.numbers-numbers.ensures.value)
+returns g c = ap (λ rows. record { settings = c.args.settings.now; version = 1; rows = rows }) (empty _ _ _ c.in_ok-rows.ensures c.numbers-numbers.ensures.value)
 
 -- ---- the sums, and the refusals, at which there are no levels
 

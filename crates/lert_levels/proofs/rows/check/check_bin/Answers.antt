@@ -1,5 +1,6 @@
 use Rattle.std.proofs.Common.{ℕ, ◌≡◌, ◌∙◌, Some, None, subst, arith}
-use Rattle.std.specs.Prelude.{OnOk}
+use Rattle.std.specs.Prelude.{IfOk, OnOk}
+use Rattle.lert_spec.specs.Table.{total}
 use Rattle.lert_bay.specs.declared.bay.TheConstants.{FRAMES}
 use Rattle.lert_frames.specs.{Frame.{HoldsFrame, IsBin, frame_left, frame_pieces}, Place.tail_limit}
 use Rattle.lert_levels.specs.rows.Loading.{width_of}
@@ -27,6 +28,10 @@ returns g c =
       malformed = λ seen told at is.
           subst (λ (frame : ℕ). frame_left s c.args.version level frame (width_of bin) (seen FRAMES) ≡ Some at) c.from-frame.ensures
           (level_from (λ t l. frame_left t c.args.version l frame (width_of bin) (seen FRAMES) ≡ Some at) s _ level _ begun.settings begun.level (e.malformed seen told at is));
+      between = e.between;
+      sum = λ seen told.
+          subst (λ (frame : ℕ). IfOk c.check.result (λ sum. sum ≡ total (frame_pieces s c.args.version level frame (seen FRAMES)))) c.from-frame.ensures
+          (level_from (λ t l. IfOk c.check.result (λ sum. sum ≡ total (frame_pieces t c.args.version l frame (seen FRAMES)))) s _ level _ begun.settings begun.level (e.sum seen told));
       settings = e.settings ∙ begun.settings;
       only_reads = e.only_reads;
     }

@@ -1,4 +1,5 @@
-use Rattle.std.proofs.Common.{◌-◌, rules, arith}
+use Rattle.std.proofs.Common.{◌-◌, ◌∙◌, ap, rules, arith}
+use Rattle.lert_spec.specs.Table.{plus}
 use Rattle.lert_levels.proofs.{rows.YoungAdds.{Adds, add_place, add_fits, add_below, add_filled, add_bins}, rows.YoungBounds.added_bounded}
 use Rattle.lert_levels.proofs.rows.YoungNumbers.{IsNumbered, numbered, small_bins, small_end}
 use Rattle.lert_levels.proofs.rows.zero.Zero.add.Given as given
@@ -40,8 +41,8 @@ pub add-requires : goal.add-requires
 add-requires g c =
     let known = known g (goal.at.add-requires g c).After-grow in
     record {
-      some = omega arith;
-      few = omega arith;
+      some = omega (arith, c.from.ensures, c.requires.some);
+      few = omega (arith, c.from.ensures, c.ranges.weight.fits);
       has_room = add_fits known c.index_mut.result.now c.index_mut.ensures.value;
       below = add_below known c.index_mut.result.now c.index_mut.ensures.value c.args.tail c.requires.below;
     }
@@ -50,10 +51,12 @@ pub invariant_of-self : goal.invariant_of-self
 invariant_of-self g c =
     let at = (goal.at.invariant_of-self g c).After-grow in
     let known = known g at in
+    let pieces = c.add.ensures.pieces ∙ ap (plus (g.T.CountTable.pieces c.index_mut.result.now) c.args.tail) c.from.ensures in
     rw c.grow.ensures.to (
-      add_filled known c.index_mut.result.now c.add.new.self c.args.tail c.index_mut.ensures.value c.add.ensures.pieces c.add.ensures.adds c.add.ensures.room
+      add_filled known c.index_mut.result.now c.add.new.self c.args.tail c.args.weight c.requires.some (omega (arith, c.ranges.weight.fits))
+          c.index_mut.ensures.value pieces c.add.ensures.adds c.add.ensures.room
           c.add.ensures.quotient_bits c.add.ensures.width,
-      added_bounded known c.index_mut.result.now c.add.new.self c.args.tail 1 c.index_mut.ensures.value c.add.ensures.pieces
+      added_bounded known c.index_mut.result.now c.add.new.self c.args.tail c.args.weight c.index_mut.ensures.value pieces
           c.self.inside.bound c.add-2.new.self c.self.inside.earlier c.self.invariant.1 c.add-2.ensures.counts,
       (newest g at).numbers,
     )
@@ -61,4 +64,5 @@ invariant_of-self g c =
 pub returns : goal.returns
 returns g c =
     rw c.grow.ensures.to
-    (add_bins (known g (goal.at.returns g c).After-grow) c.index_mut.result.now c.add.new.self c.args.tail 1 c.index_mut.ensures.value c.add.ensures.pieces)
+    (add_bins (known g (goal.at.returns g c).After-grow) c.index_mut.result.now c.add.new.self c.args.tail c.args.weight c.index_mut.ensures.value
+    (c.add.ensures.pieces ∙ ap (plus (g.T.CountTable.pieces c.index_mut.result.now) c.args.tail) c.from.ensures))

@@ -1,5 +1,5 @@
 use Rattle.std.proofs.{Common.sym, lemmas.List.length-take-le}
-use Rattle.lert_levels.proofs.rows.LoadLaws.{used, used_within, used_are, used_rooms, used_of_zero, used_widths, used_light, used_narrow, used_some, used_few}
+use Rattle.lert_levels.proofs.rows.LoadLaws.{used, used_within, used_are, used_rooms, used_of_zero, used_light, used_narrow, used_some, used_few}
 use Rattle.lert_levels.proofs.rows.zero.Zero.tables.Goals as goal
 
 pub slice_bounds-result-end : goal.slice_bounds-result-end
@@ -13,7 +13,6 @@ returns g c =
       pieces = used_are used;
       of_zero = used_of_zero used;
       rooms = used_rooms used;
-      widths = used_widths used;
       light = used_light used;
       narrow = used_narrow used;
       some = used_some used;

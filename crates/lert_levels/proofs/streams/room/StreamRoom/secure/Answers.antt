@@ -2,8 +2,18 @@ use Rattle.std.proofs.Common.{ℕ, ◌≡◌, ◌∙◌, ◌≤◌, List, sym, s
 use Rattle.lert_bay.specs.declared.bay.TheConstants.{FRAMES}
 use Rattle.lert_frames.specs.Frame.{frame_left}
 use Rattle.lert_spec.{specs.declared.numbers.Numbers.Numbers, specs.Edges.span}
-use Rattle.lert_levels.proofs.streams.TableLaws.{reader_here, readers_with, when_ok}
+use Rattle.std.proofs.lemmas.Result.{err_from_is_err_and}
+use Rattle.lert_bay.{specs.Kept.{Bays, seen_by}, proofs.KeptLaws.{IsLawful, reads_as}}
+use Rattle.lert_frames.proofs.{FaultLaws.not_err, WriteLaws.same_err}
+use Rattle.lert_levels.proofs.streams.TableLaws.{reader_here, readers_with}
+use Rattle.lert_levels.proofs.streams.room.StreamRoom.secure.Given as given
 use Rattle.lert_levels.proofs.streams.room.StreamRoom.secure.Goals as goal
+
+abbrev bays : (g : given.Over) → Bays g.row.B.Denot
+bays g = seen_by g.B.Faulty g.B.Bay
+
+lawful : (g : given.Over) → IsLawful (bays g)
+lawful g = record { as_read = g.met.B.Bay.as_read; since_now = g.met.B.Bay.since_now; only_now = g.met.B.Bay.only_now; since_earlier = g.met.B.Bay.since_earlier }
 
 pub index_mut-reader-requires : goal.index_mut-reader-requires
 index_mut-reader-requires g c = omega (arith, c.self.invariant.readers_are.some, c.self.inside.readers.ok.0)
@@ -56,9 +66,27 @@ returns g c =
     let left : (file : List ℕ) → frame_left c.start_at.new.self.settings c.args.version c.start_at.new.self.level c.args.frame c.args.width file
     ≡ frame_left c.args.self.now c.args.version c.args.level c.args.frame c.args.width file =
     λ file i. frame_left (same i) c.args.version (c.start_at.ensures.level i) c.args.frame c.args.width file in
+    let e = c.in_ok-check.ensures in
     record {
-      secured = λ seen told long. when_ok c.check.result _ _ (λ whole. inr (sym (left (seen FRAMES)) ∙ whole)) (c.check.ensures.whole seen told);
-      malformed = λ seen told at is. sym (left (seen FRAMES)) ∙ c.check.ensures.malformed seen told at is;
+      secured = λ seen told long. inr (sym (left (seen FRAMES)) ∙ e.whole seen told);
+      malformed = λ seen told at is. absurd (not_err _ _ is);
       settings = c.self.view_is;
-      only_reads = c.check.ensures.only_reads;
+      only_reads = reads_as (bays g) (lawful g) c.args.bay.now c.check.new.bay _ _ (λ failed. absurd (not_err _ _ failed)) e.only_reads;
     }
+
+pub returns-in_err-check : goal.returns-in_err-check
+returns-in_err-check g c =
+    let p = err_from_is_err_and c.from_residual.result c.from_residual.ensures.1 in
+    let readers = c.self.invariant.readers_are in
+    let same = c.start_at.ensures.settings ∙ reader_here c.self.inside.settings c.self.inside.readers.items 0 c.index_mut-reader.result.now readers.of_settings readers.some
+    c.index_mut-reader.ensures.value ∙ c.self.view_is in
+    let left : (file : List ℕ) → frame_left c.start_at.new.self.settings c.args.version c.start_at.new.self.level c.args.frame c.args.width file
+    ≡ frame_left c.args.self.now c.args.version c.args.level c.args.frame c.args.width file =
+    λ file i. frame_left (same i) c.args.version (c.start_at.ensures.level i) c.args.frame c.args.width file in
+    let e = c.in_err-check.ensures in
+    rw (p.1, p.2) (record {
+      secured = λ seen told long. tt;
+      malformed = λ seen told at is. sym (left (seen FRAMES)) ∙ e.malformed seen told at (same_err _ _ is);
+      settings = c.self.view_is;
+      only_reads = reads_as (bays g) (lawful g) c.args.bay.now c.check.new.bay _ _ (λ failed. same_err _ _ failed) e.only_reads;
+    })
