@@ -1,13 +1,13 @@
 -- What a cone answers to a packet: it refuses it before the first step, or breaks off in the middle, or takes it.
+use Rattle.lert_spec.specs.Counts.{weighed}
 use Rattle.std.proofs.{Common.{◌≡◌, ℕ, ◌+◌, ◌<◌, true, false, List, [], ◌∷◌, ◌++◌, length, Some, Result, Err, OnOk, sym, ◌∙◌, subst, inl}, lemmas.Bool.false≢true}
 use Rattle.std.specs.{Prelude.{◌↔◌, IfOk, IfErr}, Result.IsErrAnd}
-use Rattle.lert_levels.specs.OnDisk.{written}
-use Rattle.lert_base.specs.Packet.{keys_of}
+use Rattle.lert_cone.specs.History.{written}
 use Rattle.lert_base.specs.{Packet.{Packet, events_of}, declared.cone_fault.ConeFault.ConeFault, declared.cone_fault.ConeFault.TheVariants.{Closed, Broken, CapacityFull}}
 use Rattle.lert_bay.specs.{Files.{Files, IfTold}, Kept.Bays}
 use Rattle.lert_gatelog.specs.Gated.{next_gate}
 use Rattle.lert_journal.specs.Payload.{payload_of}
-use Rattle.lert_spec.specs.{Edges.capacity, Timely.IsTimelySoFar}
+use Rattle.lert_spec.specs.{Edges.capacity, Timely.IsTimelySoFarIn}
 use Rattle.lert_cone.specs.{declared.acked.Acked.Acked, declared.state.ConeState.TheVariants.{Running, Finished}, Sound.IsSoundOver}
 use Rattle.lert_cone.specs.{Stands.{Standing, StandsFor, WasSound, Answers, is_broken, is_refusal}, Steps.StepsCone}
 use Rattle.lert_bay.proofs.KeptLaws.{IsLawful}
@@ -18,18 +18,18 @@ abbrev pub Admits : {B : Type 0} → Bays B → Packet → Standing B → Standi
 Admits bays packet old new result = record {
   stands_for : OnOk result ((h : List Packet) → StandsFor bays.files bays.leaves bays.faults old h → StandsFor bays.files bays.leaves bays.faults new (h ++ packet ∷ []));
   answers : IfOk result (λ acked. (h : List Packet) → StandsFor bays.files bays.leaves bays.faults old h → Answers bays.files old h packet acked);
-  acked : IfOk result (λ acked. acked ≡ record { from = old.events + 1; to = old.events + length (keys_of packet); reports = length new.reports });
+  acked : IfOk result (λ acked. acked ≡ record { from = old.events + 1; to = old.events + length packet.items; reports = length new.reports });
   taken : OnOk result (new ≡ record old {
     bay = new.bay;
-    listing = record old.listing { events = old.listing.events ++ keys_of packet };
+    listing = record old.listing { events = old.listing.events ++ packet.items };
     rows = new.rows;
     reports = new.reports;
-    events = old.events + length (keys_of packet);
+    events = old.events + length packet.items;
     gate = next_gate old.gate (payload_of written packet);
     log = new.log;
   });
   in_time_so_far : OnOk result ((h : List Packet) → StandsFor bays.files bays.leaves bays.faults old h → WasSound bays.files old → IfTold (bays.files old.bay)
-      (λ _. IsTimelySoFar old.listing.settings.threshold old.listing.settings.bins (events_of (h ++ packet ∷ [])) new.reports));
+      (λ _. IsTimelySoFarIn weighed old.listing.settings.threshold old.listing.settings.bins (events_of (h ++ packet ∷ [])) new.reports));
   step : StepsCone bays old new result;
   broke : IfErr result (λ fault. is_refusal fault ≡ false → new ≡ record old {
     bay = new.bay;
@@ -41,7 +41,7 @@ Admits bays packet old new result = record {
     gate = new.gate;
     log = new.log;
   });
-  full : (n len : ℕ) → (result ≡ Err (CapacityFull n len)) ↔ ((old.state ≡ Running) × (n ≡ old.events) × (len ≡ length (keys_of packet))
+  full : (n len : ℕ) → (result ≡ Err (CapacityFull n len)) ↔ ((old.state ≡ Running) × (n ≡ old.events) × (len ≡ length packet.items)
       × (capacity old.listing.settings < n + len));
   each_moment : is_broken old.state ≡ false → WasSound bays.files old → IfTold (bays.files old.bay) (λ _. (h : List Packet) → StandsFor bays.files bays.leaves bays.faults old h →
       (image : Files) → bays.left_since new.bay (bays.moment old.bay) image → IsSoundOver old.listing.settings old.listing.cone h (Some packet) image);
@@ -49,7 +49,7 @@ Admits bays packet old new result = record {
 
 -- before the first step
 pub not_admitted : {B : Type 0} {bays : Bays B} (lawful : IsLawful bays) (packet : Packet) {T : Type 0} {len : ℕ} {tested : Result T ConeFault} {given : Result Acked ConeFault}
-    {fault : ConeFault} (old : Standing B) → len ≡ length (keys_of packet) → tested ≡ Err fault → ((tested ≡ Err Closed) ↔ (old.state ≡ Finished)) →
+    {fault : ConeFault} (old : Standing B) → len ≡ length packet.items → tested ≡ Err fault → ((tested ≡ Err Closed) ↔ (old.state ≡ Finished)) →
     ((tested ≡ Err Broken) ↔ (is_broken old.state ≡ true)) →
     ((n more : ℕ) → (tested ≡ Err (CapacityFull n more)) ↔ ((old.state ≡ Running) × (n ≡ old.events) × (more ≡ len) × (capacity old.listing.settings < n + more))) →
     IfErr tested (λ f. is_refusal f ≡ true) → IsErrAnd given (λ g. g ≡ fault) → Admits bays packet old old given

@@ -1,12 +1,13 @@
 -- What a cone answers to a packet that it takes.
+use Rattle.lert_spec.specs.Counts.{weighed}
+use Rattle.lert_spec.specs.declared.item.Item.{Item}
 use Rattle.std.proofs.Common.{◌≡◌, ℕ, ◌+◌, ◌<◌, ◌≤◌, false, List, [], ◌∷◌, ◌++◌, length, Option, Ok, refl, sym, ap, ◌∙◌, subst, arith}
-use Rattle.lert_levels.specs.OnDisk.{written}
-use Rattle.lert_base.specs.Packet.{keys_of}
+use Rattle.lert_cone.specs.History.{written}
 use Rattle.lert_base.specs.Packet.{Packet, events_of}
 use Rattle.lert_bay.specs.{Files.IfTold, Kept.Bays}
 use Rattle.lert_gatelog.specs.Gated.{Log, next_gate}
 use Rattle.lert_journal.specs.Payload.{payload_of}
-use Rattle.lert_spec.specs.{declared.numbers.Numbers.Numbers, Edges.capacity, Look.look, Timely.IsTimelySoFar}
+use Rattle.lert_spec.specs.{declared.numbers.Numbers.Numbers, Edges.capacity, Look.look_of, Timely.IsTimelySoFarIn}
 use Rattle.lert_reports.specs.declared.log_point.LogPoint.{LogPoint}
 use Rattle.lert_cone.specs.{declared.state.ConeState.ConeState, declared.state.ConeState.TheVariants.Running, InStep.IsLogging, Listing.Listing, Record.LogPlace, Sound.IsSound}
 use Rattle.lert_cone.specs.{Stands.{Standing, StandsFor, WasSound, IsCone, IsSameCone, is_broken}, Takes.{TakesPacket, work_at}, Tally.Tallied}
@@ -16,13 +17,13 @@ use Rattle.lert_cone.proofs.{TimeLaws.timely_so_far, Admits.Admits, Stepping.pas
 
 module _ {B : Type 0} {bays : Bays B} (lawful : IsLawful bays) (packet : Packet) where
   module _ {bay bay_after : B} {tally after : Tallied} {room room_after : ℕ} {state : ConeState} {journal journal_after : Log} {log log_after : LogPlace} (made : B) (events : ℕ)
-      (over : Option Packet) (last : LogPoint) (running : state ≡ Running) (within : events + length (keys_of packet) ≤ capacity tally.listing.settings) where
-    -- with all its keys
-    module _ {events_after reports : ℕ} (events_are : events_after ≡ events + length (keys_of packet)) (some : 0 < length (keys_of packet)) (still : tally.listing.closed ≡ false)
+      (over : Option Packet) (last : LogPoint) (running : state ≡ Running) (within : events + length packet.items ≤ capacity tally.listing.settings) where
+    -- with all its items
+    module _ {events_after reports : ℕ} (events_are : events_after ≡ events + length packet.items) (some : 0 < length packet.items) (still : tally.listing.closed ≡ false)
         (reports_are : reports ≡ length after.due.reports) (did : TakesPacket bays packet (work_at bay tally log room)
         (work_at bay_after after log_after room_after) journal journal_after (Ok tt)) where
-      is : after.listing ≡ record tally.listing { events = tally.listing.events ++ keys_of packet }
-      is = did.listing ∙ ap (λ (keys : List ℕ). record tally.listing { events = keys }) did.taken
+      is : after.listing ≡ record tally.listing { events = tally.listing.events ++ packet.items }
+      is = did.listing ∙ ap (λ (keys : List Item). record tally.listing { events = keys }) did.taken
 
       same : IsSameCone (cone_at bay made tally events state over journal.gate log last)
           (cone_at bay_after made after events_after state over journal_after.gate log_after last)
@@ -43,19 +44,19 @@ module _ {B : Type 0} {bays : Bays B} (lawful : IsLawful bays) (packet : Packet)
           stands
 
       new_is : ◌≡◌ {A = Standing B} (cone_at bay_after made after events_after state over journal_after.gate log_after last)
-          (record (cone_at bay_after made after (events + length (keys_of packet)) state over (next_gate journal.gate (payload_of written packet)) log_after last) {
-            listing = record tally.listing { events = tally.listing.events ++ keys_of packet };
+          (record (cone_at bay_after made after (events + length packet.items) state over (next_gate journal.gate (payload_of written packet)) log_after last) {
+            listing = record tally.listing { events = tally.listing.events ++ packet.items };
           })
       new_is i = record (cone_at bay_after made after (events_are i) state over ((ap (λ (j : Log). j.gate) did.moved) i) log_after last) { listing = is i }
 
       timely_then : (h : List Packet) → StandsFor bays.files bays.leaves bays.faults (cone_at bay made tally events state over journal.gate log last) h →
           WasSound bays.files (cone_at bay made tally events state over journal.gate log last) →
-          IfTold (bays.files bay) (λ _. IsTimelySoFar tally.listing.settings.threshold tally.listing.settings.bins (events_of (h ++ packet ∷ [])) after.due.reports)
+          IfTold (bays.files bay) (λ _. IsTimelySoFarIn weighed tally.listing.settings.threshold tally.listing.settings.bins (events_of (h ++ packet ∷ [])) after.due.reports)
       timely_then h stands sound seen told =
           let then = did.seen.told seen told in
           let sound_then : WasSound bays.files (cone_at bay_after made after events_after state over journal_after.gate log_after last) =
           subst (λ (l : Listing). IfTold (bays.files made) (λ first. (history : List Packet) × IsSound l.settings l.cone history first)) (sym is) sound in
-          subst (λ (settings : Numbers). IsTimelySoFar settings.threshold settings.bins (events_of (h ++ packet ∷ [])) after.due.reports) (ap (λ (l : Listing). l.settings) is)
+          subst (λ (settings : Numbers). IsTimelySoFarIn weighed settings.threshold settings.bins (events_of (h ++ packet ∷ [])) after.due.reports) (ap (λ (l : Listing). l.settings) is)
           (timely_so_far (ap is_broken running) (ap (λ (l : Listing). l.closed) is ∙ still) (stands_then h stands) sound_then then.0 then.1)
 
       pub admitted : {seen : Standing B} → cone_at bay made tally events state over journal.gate log last ≡ seen →
@@ -74,7 +75,7 @@ module _ {B : Type 0} {bays : Bays B} (lawful : IsLawful bays) (packet : Packet)
                   reports_are
                   ∙ ap length (up.reports_are ∙ reports_running after.listing (events_of (h ++ packet ∷ [])) (ap (λ (l : Listing). l.closed) is ∙ still) (ap (λ (l : Listing). l.events) is
                   ∙ keys_more h packet tally.listing.events whole.keys))
-                  ∙ ap (λ (l : Listing). length (look l.settings (events_of (h ++ packet ∷ [])))) is;
+                  ∙ ap (λ (l : Listing). length (look_of weighed l.settings (events_of (h ++ packet ∷ [])))) is;
             };
             acked = λ i. record { from = events + 1; to = events_are i; reports = reports_are i };
             taken = new_is;
@@ -88,11 +89,11 @@ module _ {B : Type 0} {bays : Bays B} (lawful : IsLawful bays) (packet : Packet)
     -- and it is a cone again, whose buffer has the room that was lent
     pub still_cone : {events_after cone_room cone_room_after keys_room : ℕ} →
         TakesPacket bays packet (work_at bay tally log room)
-        (work_at bay_after after log_after room_after) journal journal_after (Ok tt) → events_after ≡ events + length (keys_of packet) → 0 < length (keys_of packet) →
+        (work_at bay_after after log_after room_after) journal journal_after (Ok tt) → events_after ≡ events + length packet.items → 0 < length packet.items →
         cone_room_after ≡ cone_room → room_after ≡ cone_room_after →
         IsCone bays.files bays.leaves bays.faults bays.mark (cone_at bay made tally events state over journal.gate log last) tally journal cone_room keys_room →
         IsCone bays.files bays.leaves bays.faults bays.mark (cone_at bay_after made after events_after state over journal_after.gate log_after last) after journal_after cone_room_after keys_room
     still_cone did events_are some room_is lent_is cone =
-        let is = did.listing ∙ ap (λ (keys : List ℕ). record tally.listing { events = keys }) did.taken in
+        let is = did.listing ∙ ap (λ (keys : List Item). record tally.listing { events = keys }) did.taken in
         more_cone packet running is did.counted events_are did.moved room_is some within did.kept.never_falls did.seen did.kept.mark did.shut
         (subst (λ (n : ℕ). IsLogging after log_after n) lent_is did.can_log.logging) did.can_log.log_shut cone

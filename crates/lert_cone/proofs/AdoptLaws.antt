@@ -1,4 +1,9 @@
 -- What sound files and what was read of their log make of a cone that goes through the journal anew.
+use Rattle.std.proofs.lemmas.List.Elements.{All-take}
+use Rattle.lert_spec.specs.Items.{most_weight, AreOfVersion}
+use Rattle.lert_cone.proofs.SoundLaws.{history_light}
+use Rattle.lert_spec.specs.Counts.{weighed}
+use Rattle.lert_spec.specs.declared.item.Item.{Item}
 use Rattle.std.proofs.Common.{◌≡◌, ℕ, ◌+◌, ◌-◌, ◌^◌, ◌<◌, ◌≤◌, Bool, true, false, cond, List, [], ◌∷◌, length, take, get_or, map, max, All, Option, Some, refl, sym, ap, ◌∙◌, subst, inl, inr, arith}
 use Rattle.std.proofs.{lemmas.Bool.{cases_Bool, cases_eq}, Math.Nat.mul-div-le, lemmas.List.{get_or-map, length-take-le, take_all}, lemmas.List.Elements.{All-nil, All-cons}}
 use Rattle.std.specs.Prelude.{slice_index_or}
@@ -10,41 +15,42 @@ use Rattle.lert_levels.specs.{declared.rows.bin_at.BinAt.BinAt, Flushed.InNamed,
 use Rattle.lert_levels.proofs.rows.RangeLaws.{bins-ranges}
 use Rattle.lert_reports.specs.{Log.{HasLog, listed_in, last_n0, last_directory, is_closed, most_record}, LogText.LogRecord}
 use Rattle.lert_reports.proofs.LogOnce.{one_log}
-use Rattle.lert_spec.specs.{declared.numbers.Numbers.Numbers, declared.report.Report.Report, Bins.{Bin, bins}, Edges.{offset as offset_of, span, edge}, Limits.IsValid, Look.{look, closing}}
+use Rattle.lert_spec.specs.{declared.numbers.Numbers.Numbers, declared.report.Report.Report, Bins.{Bin, bins_of}, Edges.{offset as offset_of, span, edge}, Limits.IsValid, Look.{look_of, closing_of}}
 use Rattle.lert_cone.specs.{Framed.{last_flush, flushed}, InStep.IsInStep, Logged.{IsLogOf, frames_of}, declared.journal_places.JournalPlace.JournalPlace}
 use Rattle.lert_cone.specs.{JournalPlaces.{HoldsPosition, IsPlaceIn, NamesRecord, first_place, last_place, places_from}, Replay.{IsLastOf, IsOnWay, IsPast}}
 use Rattle.lert_cone.specs.{Sound.{IsSound, HoldFrames, HoldsDirectory}, Unread.unread}
 use Rattle.lert_cone.proofs.{FlushLaws.last_flush_logged, JournalPlaceLaws.places_none, StepLaws.{journal_since, log_since, frames_since}, UnreadLaws.unread_is}
-use Rattle.lert_levels.specs.OnDisk.{written}
+use Rattle.lert_cone.specs.History.{written}
 
 -- ---- frames
 
 -- what the frames of a row hold, from what those of its directory do
-from_frames : (s : Numbers) (events file : List ℕ) (level : ℕ) (row : List BinAt) → HoldFrames s level file (map (λ bin. bin.frame) row) (map (filled s events) (map range_of row)) →
+from_frames : (s : Numbers) (events : List Item) (file : List ℕ) (level : ℕ) (row : List BinAt) → HoldFrames s level file (map (λ bin. bin.frame) row) (map (filled s events) (map range_of row)) →
     All (λ bin. HoldsFrame s written level bin.frame file (tallied_in s events bin)) row
 from_frames s events file level [] holds = All-nil (λ (bin : BinAt). HoldsFrame s written level bin.frame file (tallied_in s events bin))
 from_frames s events file level (bin ∷ row) holds =
     All-cons (λ (b : BinAt). HoldsFrame s written level b.frame file (tallied_in s events b)) bin row holds.0 (from_frames s events file level row holds.1)
 
 -- the frames of a directory are those of the rows that it was read into
-pub bins_there : (s : Numbers) (events : List ℕ) (rows : List (List BinAt)) (directory : List (List ℕ)) (file : List ℕ) → IsAt s (length events) rows → directory ≡ frames_of rows →
+pub bins_there : (s : Numbers) (events : List Item) (rows : List (List BinAt)) (directory : List (List ℕ)) (file : List ℕ) → IsAt s (length events) rows → directory ≡ frames_of rows →
     HoldsDirectory s events directory file → HoldsBins s written events rows file
 bins_there s events rows directory file at named holds level first last =
     let row = row_of rows level in
     let frames_are : slice_index_or directory (level - 1) [] ≡ map (λ (bin : BinAt). bin.frame) row =
     ap (λ (d : List (List ℕ)). get_or d (level - 1) []) named ∙ get_or-map (λ (r : List BinAt). map (λ (bin : BinAt). bin.frame) r) rows (level - 1) [] []
     (omega (arith, at.levels, first, last)) in
-    let bins_are : bins s events level ≡ map (filled s events) (map range_of row) =
+    let bins_are : bins_of weighed s events level ≡ map (filled s events) (map range_of row) =
     bins-ranges s events level ∙ ap (map (filled s events)) (sym (at.each level first last)) in
     from_frames s events file level row
     (subst (λ (bs : List Bin). HoldFrames s level file (map (λ (bin : BinAt). bin.frame) row) bs) bins_are
-    (subst (λ (frames : List ℕ). HoldFrames s level file frames (bins s events level)) frames_are (holds.each level first last)))
+    (subst (λ (frames : List ℕ). HoldFrames s level file frames (bins_of weighed s events level)) frames_are (holds.each level first last)))
 
 -- frames that are settled hold in each image what they hold as a read gives them
-pub frames_settled : (leaves : Files → Type 0) (seen : Files) (s : Numbers) (events : List ℕ) (rows : List (List BinAt)) → IsValid s → AreRows s rows → HoldsBins s written events rows (seen 2) →
+pub frames_settled : (leaves : Files → Type 0) (seen : Files) (s : Numbers) (events : List Item) (rows : List (List BinAt)) → IsValid s → AreRows s rows → AreOfVersion written events → HoldsBins
+    s written events rows (seen 2) →
     ((from to : ℕ) → InNamed s written rows from to → to ≤ length (seen 2) → IsSettled leaves seen 2 from to) → InEach leaves 2 (HoldsBins s written events rows)
-frames_settled leaves seen s events rows valid are holds settled =
-    frames_since (λ image. image ≡ seen) leaves seen s events rows valid are refl
+frames_settled leaves seen s events rows valid are light holds settled =
+    frames_since (λ image. image ≡ seen) leaves seen s events rows valid are light refl
     (λ image is. subst (λ (files : Files). HoldsBins s written events rows (files 2)) (sym is) holds)
     (λ from to named here. (settled from to named here.within).same)
 
@@ -111,30 +117,30 @@ module _ (leaves : Files → Type 0) (seen : Files) (s : Numbers) (cone : ℕ) (
   ]
 
   -- the reports of the records are those of the first n0 events
-  listed : listed_in records ≡ cond closed (closing s (take n0 (events_of history))) (look s (take n0 (events_of history)))
+  listed : listed_in records ≡ cond closed (closing_of weighed s (take n0 (events_of history))) (look_of weighed s (take n0 (events_of history)))
   listed =
       ap listed_in same
       ∙ (sound.reports_are
-      ∙ (ap (λ t. cond t (closing s (events_of history)) (look s (take (last_n0 sound.logged) (events_of history)))) (sym closed_is)
+      ∙ (ap (λ t. cond t (closing_of weighed s (events_of history)) (look_of weighed s (take (last_n0 sound.logged) (events_of history)))) (sym closed_is)
       ∙ elim (cases_Bool closed) [
         | inl ended ↦
-            ap (λ t. cond t (closing s (events_of history)) (look s (take (last_n0 sound.logged) (events_of history)))) ended
-            ∙ (ap (closing s) (sym (all_first ended))
-            ∙ sym (ap (λ t. cond t (closing s (take n0 (events_of history))) (look s (take n0 (events_of history)))) ended))
+            ap (λ t. cond t (closing_of weighed s (events_of history)) (look_of weighed s (take (last_n0 sound.logged) (events_of history)))) ended
+            ∙ (ap (closing_of weighed s) (sym (all_first ended))
+            ∙ sym (ap (λ t. cond t (closing_of weighed s (take n0 (events_of history))) (look_of weighed s (take n0 (events_of history)))) ended))
         | inr running ↦
-            ap (λ t. cond t (closing s (events_of history)) (look s (take (last_n0 sound.logged) (events_of history)))) running
-            ∙ (ap (λ n. look s (take n (events_of history))) (sym n0_is)
-            ∙ sym (ap (λ t. cond t (closing s (take n0 (events_of history))) (look s (take n0 (events_of history)))) running))
+            ap (λ t. cond t (closing_of weighed s (events_of history)) (look_of weighed s (take (last_n0 sound.logged) (events_of history)))) running
+            ∙ (ap (λ n. look_of weighed s (take n (events_of history))) (sym n0_is)
+            ∙ sym (ap (λ t. cond t (closing_of weighed s (take n0 (events_of history))) (look_of weighed s (take n0 (events_of history)))) running))
       ]))
 
-  listed_there : listed_in records ≡ cond closed (closing s (take n0 (events_of history))) (look s (flushed s (take n0 (events_of history))))
+  listed_there : listed_in records ≡ cond closed (closing_of weighed s (take n0 (events_of history))) (look_of weighed s (flushed s (take n0 (events_of history))))
   listed_there =
       listed
       ∙ elim (cases_Bool closed) [
         | inl ended ↦
-            ap (λ t. cond t (closing s (take n0 (events_of history))) (look s (take n0 (events_of history)))) ended
-            ∙ sym (ap (λ t. cond t (closing s (take n0 (events_of history))) (look s (flushed s (take n0 (events_of history))))) ended)
-        | inr running ↦ ap (λ keys. cond closed (closing s (take n0 (events_of history))) (look s keys)) (sym (flushed_first running))
+            ap (λ t. cond t (closing_of weighed s (take n0 (events_of history))) (look_of weighed s (take n0 (events_of history)))) ended
+            ∙ sym (ap (λ t. cond t (closing_of weighed s (take n0 (events_of history))) (look_of weighed s (flushed s (take n0 (events_of history))))) ended)
+        | inr running ↦ ap (λ keys. cond closed (closing_of weighed s (take n0 (events_of history))) (look_of weighed s keys)) (sym (flushed_first running))
       ]
 
   log_of : IsLogOf s cone (take n0 (events_of history)) rows closed records
@@ -173,7 +179,8 @@ module _ (leaves : Files → Type 0) (seen : Files) (s : Numbers) (cone : ℕ) (
     named_is = ap length last.reports_are;
     journal = journal_since leaves seen s cone history sound.journal journal_settled.same;
     log_there = log_since leaves seen s cone records log_end log log_settled.same;
-    frames = frames_settled leaves seen s (take n0 (events_of history)) rows valid are held named_settled;
+    frames = frames_settled leaves seen s (take n0 (events_of history)) rows valid are
+        (All-take (λ (item : Item). (1 ≤ item.weight) × (item.weight ≤ most_weight written)) n0 (events_of history) (history_light s cone history sound.journal.journaled)) held named_settled;
     journal_settled = journal_settled;
     log_settled = log_settled;
     reports_are = last.reports_are ∙ listed;
@@ -182,8 +189,8 @@ module _ (leaves : Files → Type 0) (seen : Files) (s : Numbers) (cone : ℕ) (
     reach = subst (λ n. first - 1 + 1 ≤ edge s 0 n + 1) (sym long) (omega (arith, early));
   }
 
-  -- it has the keys of the packets before that record
-  pub adopted : (keys : List ℕ) → length keys ≡ first - 1 → IsOnWay leaves seen history (record { settings = s; cone = cone; events = keys; closed = closed }) rows reports (record {
+  -- it has the items of the packets before that record
+  pub adopted : (keys : List Item) → length keys ≡ first - 1 → IsOnWay leaves seen history (record { settings = s; cone = cone; events = keys; closed = closed }) rows reports (record {
     gate = log_end;
     most = most_record s;
     named = length reports;

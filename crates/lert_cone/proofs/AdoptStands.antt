@@ -1,4 +1,5 @@
 -- A cone as it is adopted: what is so of it, and that it is on its way through its journal.
+use Rattle.lert_spec.specs.declared.item.Item.{Item}
 use Rattle.std.proofs.Common.{◌≡◌, ℕ, ◌*◌, ◌^◌, ◌≤◌, Bool, List, length, Option, Some, None, refl, sym, ap, ◌∙◌, subst, arith}
 use Rattle.lert_base.specs.Packet.{Packet}
 use Rattle.lert_bay.specs.Files.{Files, IfTold}
@@ -24,8 +25,8 @@ adopted_head s cone n0 offset first closed rows reports records log_end bytes he
 }
 
 module _ {B : Type 0} (files : B → Option Files) (leaves : B → Files → Type 0) (faults : B → ℕ) where
-  -- as it is adopted: it has the keys that it doesn't read
-  pub adopted_cone : (mark : B → ℕ) (bay made : B) (s : Numbers) (cone : ℕ) (keys : List ℕ) (n : ℕ) (tally : Tallied) (journal : Log) (log : LogPlace) (last : LogPoint)
+  -- as it is adopted: it has the items that it doesn't read
+  pub adopted_cone : (mark : B → ℕ) (bay made : B) (s : Numbers) (cone : ℕ) (keys : List Item) (n : ℕ) (tally : Tallied) (journal : Log) (log : LogPlace) (last : LogPoint)
       (room keys_room : ℕ) → IsValid s
       → tally.listing ≡ record { settings = s; cone = cone; events = keys; closed = last.closed } → length keys ≡ n → n ≤ capacity s → IsRecounted tally last.n0
       → journal.file ≡ 0 → journal.most ≡ most_payload s → journal.gate ≤ 2 ^ 46 → last.log_end ≤ 2 ^ 62
@@ -66,7 +67,7 @@ module _ {B : Type 0} (files : B → Option Files) (leaves : B → Files → Typ
       }
 
   -- what it is adopted with is on the way
-  pub adopted_replays : (bay made : B) (s : Numbers) (cone gate : ℕ) (keys : List ℕ) (n : ℕ) (tally : Tallied) (log : LogPlace) (last : LogPoint) (rows : List (List BinAt))
+  pub adopted_replays : (bay made : B) (s : Numbers) (cone gate : ℕ) (keys : List Item) (n : ℕ) (tally : Tallied) (log : LogPlace) (last : LogPoint) (rows : List (List BinAt))
       (reports : List Report) (history done : List Packet) (seen : Files)
       → tally.listing ≡ record { settings = s; cone = cone; events = keys; closed = last.closed } → tally.rows ≡ rows → tally.due.reports ≡ reports → gate ≡ last.offset → log ≡ record {
         gate = last.log_end;

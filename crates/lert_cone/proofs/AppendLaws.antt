@@ -1,4 +1,5 @@
 -- What goes together with memory through the append of a packet to the journal.
+use Rattle.lert_spec.specs.declared.item.Item.{Item}
 use Rattle.std.proofs.Common.{◌≡◌, ℕ, ◌+◌, ◌-◌, ◌^◌, ◌<◌, ◌≤◌, false, List, [], ◌∷◌, ◌++◌, length, Some, All, Result, Ok, Err, OnOk, refl, sym, ap, ◌∙◌, subst, inl, inr, arith, length-append}
 use Rattle.std.proofs.{Common.append-nil, lemmas.Bool.false≢true, lemmas.List.take_at, lemmas.List.Elements.{All-append, All-nil, All-cons}}
 use Rattle.std.specs.Result.{is_err}
@@ -14,7 +15,7 @@ use Rattle.lert_cone.specs.{Framed.last_flush, History.{most_payload, end_of}, I
 use Rattle.lert_cone.specs.{Sound.{IsJournal, IsSoundAs, IsSoundOver, but_last}, Stands.IsWhole, Tally.{Tallied, IsCounted}}
 use Rattle.lert_cone.proofs.{EndStep.{partway_all, late_all}, JournalPlaceLaws.{places_more, names_more}, SoundLaws.{events_more, counted_more, end_more}}
 use Rattle.lert_cone.proofs.StepLaws.{log_since, frames_since, sound_of, sound_as}
-use Rattle.lert_levels.specs.OnDisk.{written}
+use Rattle.lert_cone.specs.History.{written}
 
 -- ---- what goes together with memory
 
@@ -38,11 +39,11 @@ whole_of leaves seen history t gate log counted up read keys gate_is =
 but_last_more : (history : List Packet) (packet : Packet) → but_last (history ++ packet ∷ []) ≡ history
 but_last_more history packet = take_at history (packet ∷ []) (length (history ++ packet ∷ []) - 1) (omega (arith, length-append history (packet ∷ [])))
 
--- the keys of a packet more are still to come
-pub partway_packet : (s : Numbers) (history : List Packet) (packet : Packet) (events : List ℕ) → events ≡ events_of history → IsPartway s (history ++ packet ∷ []) events (keys_of packet)
+-- the items of a packet more are still to come
+pub partway_packet : (s : Numbers) (history : List Packet) (packet : Packet) (events : List Item) → events ≡ events_of history → IsPartway s (history ++ packet ∷ []) events packet.items
 partway_packet s history packet events keys = record {
   rest = [];
-  is = events_more history packet ∙ ap (λ ks. ks ++ keys_of packet) (sym keys) ∙ ap (λ ks. events ++ ks) (sym (append-nil (keys_of packet)));
+  is = events_more history packet ∙ ap (λ ks. ks ++ packet.items) (sym keys) ∙ ap (λ ks. events ++ ks) (sym (append-nil packet.items));
   late = omega (arith, ap (λ ks. last_flush s (length ks)) keys, ap (λ h. last_flush s (length (events_of h))) (but_last_more history packet));
 }
 
@@ -51,7 +52,7 @@ partway_packet s history packet events keys = record {
 module _ (leaves since : Files → Type 0) (seen : Files) (t : Tallied) (log : LogPlace) (gate : ℕ) (history : List Packet) (packet : Packet)
     (counted : IsCounted t) (still : t.listing.closed ≡ false) (read : leaves seen) (whole : IsWhole leaves seen t.listing t.rows t.due.reports gate log history)
     (journaled : IsJournaled written t.listing.settings t.listing.cone packet) (fit : All (λ key. key < 2 ^ 64) (keys_of packet)) (fits : length
-    (events_of history) + length (keys_of packet) ≤ capacity t.listing.settings)
+    (events_of history) + length packet.items ≤ capacity t.listing.settings)
     (others : KeepsOthers leaves since seen 0) (before : KeepsBefore leaves since seen 0 gate) where
   up : IsInStep leaves seen history t.listing t.rows t.due.reports log
   up = whole.in_step
@@ -70,7 +71,7 @@ module _ (leaves since : Files → Type 0) (seen : Files) (t : Tallied) (log : L
       (others 1 0 (length (seen 1)) (λ same. absurd (omega (arith, same))) up.log_settled)
 
   frames_then : InEach since 2 (HoldsBins t.listing.settings written t.listing.events t.rows)
-  frames_then = frames_since leaves since seen t.listing.settings t.listing.events t.rows counted.valid counted.are read up.frames
+  frames_then = frames_since leaves since seen t.listing.settings t.listing.events t.rows counted.valid counted.are counted.light read up.frames
       (λ from to named. others 2 from to (λ same. absurd (omega (arith, same))))
 
   pub records_there : InEach leaves 0 (λ bytes. HasPackets written (most_payload t.listing.settings) bytes 32 history gate)
@@ -112,7 +113,7 @@ module _ (leaves since : Files → Type 0) (seen : Files) (t : Tallied) (log : L
   partway_none : IsPartway t.listing.settings (history ++ packet ∷ []) t.listing.events []
   partway_none =
       let whole_packet = partway_packet t.listing.settings history packet t.listing.events whole.keys in
-      record { rest = keys_of packet ++ whole_packet.rest; is = whole_packet.is; late = whole_packet.late }
+      record { rest = packet.items ++ whole_packet.rest; is = whole_packet.is; late = whole_packet.late }
 
   -- the records say of the longer list what they said
   begins_more : NamesRecord t.listing.settings (history ++ packet ∷ []) (last_n0 up.logged) (last_place up.logged)
@@ -185,10 +186,10 @@ each_there leaves since s file most gate history packet file_is most_is each =
     (subst (λ (f : ℕ). InEach leaves f (λ bytes. HasPackets written most bytes 32 history gate) → InEach since f (HasPacketsOrOneMore written most 32 history gate packet)) file_is each)
 
 -- a packet more
-pub some_more : (history : List Packet) (packet : Packet) → All (λ p. 0 < length (keys_of p)) history → 0 < length (keys_of packet) → All (λ p. 0 < length (keys_of p)) (history ++ packet ∷ [])
-some_more history packet all some = All-append (λ p. 0 < length (keys_of p)) history (packet ∷ []) all (All-cons (λ p. 0 < length (keys_of p)) packet [] some (All-nil (λ p. 0 < length (keys_of p))))
+pub some_more : (history : List Packet) (packet : Packet) → All (λ p. 0 < length p.items) history → 0 < length packet.items → All (λ p. 0 < length p.items) (history ++ packet ∷ [])
+some_more history packet all some = All-append (λ p. 0 < length p.items) history (packet ∷ []) all (All-cons (λ p. 0 < length p.items) packet [] some (All-nil (λ p. 0 < length p.items)))
 
-pub keys_more : (history : List Packet) (packet : Packet) (events : List ℕ) → events ≡ events_of history → events ++ keys_of packet ≡ events_of (history ++ packet ∷ [])
-keys_more history packet events keys = ap (λ ks. ks ++ keys_of packet) keys ∙ sym (events_more history packet)
+pub keys_more : (history : List Packet) (packet : Packet) (events : List Item) → events ≡ events_of history → events ++ packet.items ≡ events_of (history ++ packet ∷ [])
+keys_more history packet events keys = ap (λ ks. ks ++ packet.items) keys ∙ sym (events_more history packet)
 
 -- turns in a row

@@ -49,7 +49,7 @@ module _ (s : Numbers) (valid : IsValid s) where
       let w = span s 0 in
       div-eq_of_lt-le {k = c} w {m = n + w - 1} (omega (arith, from, wide)) (omega (arith, to, wide, bin_more c w))
 
-  -- none without a key, and one more at the next bin's first key
+  -- none without an item, and one more at the next bin's first item
   pub begun_none : bins_begun s 0 ≡ 0
   begun_none = begun_is 0 0 (omega arith) (omega (arith, wide))
 
@@ -58,7 +58,7 @@ module _ (s : Numbers) (valid : IsValid s) where
 
   -- ---- level 0
 
-  -- its edge lies before the last key, no more bins behind than a level has
+  -- its edge lies before the last item, no more bins behind than a level has
   pub edge_steps : (n : ℕ) → edge s 0 n / span s 0 ≡ steps s 0 n
   edge_steps n = mul-div_right (steps s 0 n) {m = span s 0} wide
 
@@ -87,7 +87,7 @@ module _ (s : Numbers) (valid : IsValid s) where
         bin_more k w,
       )
 
-  -- bins stand behind it, at least one once a key is there
+  -- bins stand behind it, at least one once an item is there
   pub bins_some : (n : ℕ) → 1 ≤ n → steps s 0 n < bins_begun s n
   bins_some n some = bins_below (steps s 0 n) (bins_begun s n) (span s 0) (omega (arith, edge_before n some, begun_to n))
 

@@ -1,6 +1,5 @@
 -- What a cone answers to a packet in the middle of which it breaks off.
 use Rattle.std.proofs.{Common.{Result, ◌≡◌, ℕ, ◌+◌, ◌≤◌, length, Option, Some, Err, refl, sym, ap, ◌∙◌, subst, arith}, lemmas.Bool.false≢true}
-use Rattle.lert_base.specs.Packet.{keys_of}
 use Rattle.lert_base.specs.{Packet.Packet, declared.cone_fault.ConeFault.ConeFault, declared.cone_fault.ConeFault.TheVariants.CapacityFull}
 use Rattle.lert_gatelog.specs.Gated.{Log}
 use Rattle.lert_spec.specs.Edges.{capacity}
@@ -15,7 +14,7 @@ use Rattle.lert_cone.proofs.{FaultLaws.no_refusal, Admits.Admits, Stepping.break
 
 module _ {B : Type 0} {bays : Bays B} (lawful : IsLawful bays) (packet : Packet) where
   module _ {bay bay_after : B} {tally after : Tallied} {room room_after : ℕ} {state : ConeState} {journal journal_after : Log} {log log_after : LogPlace} (made : B) (events : ℕ)
-      (over : Option Packet) (last : LogPoint) (running : state ≡ Running) (within : events + length (keys_of packet) ≤ capacity tally.listing.settings) where
+      (over : Option Packet) (last : LogPoint) (running : state ≡ Running) (within : events + length packet.items ≤ capacity tally.listing.settings) where
     -- in the middle
     pub broken_off : {state_after : ConeState} {over_after : Option Packet} {fault : TakeFault} {seen : Standing B} {given : Result Acked ConeFault} → state_after ≡ broken_by fault →
         over_after ≡ Some packet → bays.faults made ≤ bays.faults bay → cone_at bay made tally events state over journal.gate log last ≡ seen → given ≡ Err (cone_fault fault) →

@@ -79,10 +79,13 @@ module _ (T C : RattleType) (k : table.Ghosts T.Denot C.Denot) where
   levels_inside c = recorded_send _ _ _ (levels.the_type T C k).to_one (struct_send (shape (levels.the_type T C k)) (
     search (sendable, crosses) depth 20,
     (
-      search (sendable, crosses) depth 20,
+      search sendable,
       (
         search (sendable, crosses) depth 20,
-        (reader_field, (let reading = reading_send c in search (sendable, crosses) depth 20, (writing_field, tt))),
+        (
+          search (sendable, crosses) depth 20,
+          (reader_field, (let reading = reading_send c in search (sendable, crosses) depth 20, (writing_field, tt))),
+        ),
       ),
     ),
   ))

@@ -1,22 +1,23 @@
 -- The end of a cone through the scan and the closing record.
+use Rattle.lert_spec.specs.Counts.{weighed}
+use Rattle.lert_spec.specs.declared.item.Item.{Item}
 use Rattle.std.proofs.Common.{◌≡◌, ℕ, ◌+◌, ◌-◌, ◌≤◌, Bool, true, false, List, [], ◌∷◌, ◌++◌, length, map, sym, ap, ◌∙◌, subst, inl, inr, arith, append-nil, take, drop, length-append}
 use Rattle.std.proofs.{lemmas.Bool.false≢true, lemmas.Grind.flat_map-append, lemmas.List.take-append-drop}
-use Rattle.lert_base.specs.Packet.{keys_of}
 use Rattle.lert_base.specs.Packet.{Packet, events_of}
 use Rattle.lert_bay.specs.Files.{Files}
 use Rattle.lert_gatelog.specs.{Gated.{IsGated, next_gate}, Kept.{InEach, KeepsOthers, KeepsBefore, IsWhollySettled, IsWithOrWithout}}
 use Rattle.lert_levels.specs.{declared.rows.bin_at.BinAt.BinAt, rows.Rows.{HoldsBins, directory_text}}
 use Rattle.lert_reports.specs.{declared.log.LogKind.LogKind, Log.{HasLog, last_n0, listed_in, most_record}, LogText.{LogRecord, log_payload_of}}
-use Rattle.lert_spec.specs.{declared.numbers.Numbers.Numbers, Edges.edge, Look.closing}
+use Rattle.lert_spec.specs.{declared.numbers.Numbers.Numbers, Edges.edge, Look.closing_of}
 use Rattle.lert_cone.specs.{InStep.{IsInStep, IsPartway}, Listing.{Listing, reports_of}, Logged.{IsLogOf, next_record}}
 use Rattle.lert_cone.specs.{JournalPlaces.{ArePlacesIn, Places, MayName, NamesRecord, last_place, oldest_place}, Record.{LogPlace, payload_at}, Sound.{IsJournal, IsSound, but_last}}
 use Rattle.lert_cone.specs.Tally.{Tallied, IsCounted}
 use Rattle.lert_cone.proofs.{KeyStep.{next_payload, journal_beside, frames_beside, log_beside, log_behind}, LogLaws.{LogsNext, log_at_close}, FlushLaws.last_flush_grows}
 use Rattle.lert_cone.proofs.{JournalPlaceLaws.{may_name, names_pushed, oldest_names}, StepLaws.sound_of}
-use Rattle.lert_levels.specs.OnDisk.{written}
+use Rattle.lert_cone.specs.History.{written}
 
--- all keys are taken
-pub partway_all : (s : Numbers) (history : List Packet) (events : List ℕ) → events ≡ events_of history → length (events_of (but_last history)) ≤ length events →
+-- all items are taken
+pub partway_all : (s : Numbers) (history : List Packet) (events : List Item) → events ≡ events_of history → length (events_of (but_last history)) ≤ length events →
     IsPartway s history events []
 partway_all s history events all late = record { rest = []; is = sym all ∙ sym (append-nil events); late = last_flush_grows s (length (events_of (but_last history))) (length events) late }
 
@@ -43,13 +44,13 @@ pub record IsEnding (leaves : Files → Type 0) (seen : Files) (history : List P
 
 module _ (leaves : Files → Type 0) (seen : Files) (history : List Packet) (t a : Tallied) (log : LogPlace) (logged : List LogRecord)
     (before : IsCounted t) (ending : IsEnding leaves seen history t a log logged) (few : length a.due.reports ≤ t.listing.settings.room) where
-  closed_reports : a.due.reports ≡ closing t.listing.settings t.listing.events
+  closed_reports : a.due.reports ≡ closing_of weighed t.listing.settings t.listing.events
   closed_reports = ending.reports_are ∙ ap reports_of ending.listing_is
 
   abbrev last : LogRecord
   last = next_record LogKind.Closing (length t.listing.events) (oldest_place log.places) t.rows logged a.due.reports
 
-  -- it names the journal's record that holds the first key of level 0
+  -- it names the journal's record that holds the first item of level 0
   names : NamesRecord t.listing.settings history (length t.listing.events) (oldest_place log.places)
   names = oldest_names t.listing.settings before.valid history log.places (length t.listing.events) ending.same ending.passed ending.reach ending.placed
 
@@ -88,7 +89,7 @@ module _ (leaves : Files → Type 0) (seen : Files) (history : List Packet) (t a
     frames_then =
         frames_beside leaves since seen t.listing.settings t.listing.cone history logged last log.gate payload ending.read ending.journal ending.journal_settled ending.log_there next.is.rules
         payload_here others earlier
-        t.listing.events t.rows before.valid before.are ending.frames
+        t.listing.events t.rows before.valid before.are before.light ending.frames
 
     -- in each image of each moment of the append
     pub sound_close : InEach since 1 (IsWithOrWithout (most_record t.listing.settings) 8 (map log_payload_of logged) log.gate payload) → (image : Files) → since image →
@@ -103,7 +104,7 @@ module _ (leaves : Files → Type 0) (seen : Files) (history : List Packet) (t a
         ]
 
     -- and after it
-    of_listing : (P : Numbers → ℕ → List ℕ → List (List BinAt) → Bool → Type 0) → P t.listing.settings t.listing.cone t.listing.events t.rows true →
+    of_listing : (P : Numbers → ℕ → List Item → List (List BinAt) → Bool → Type 0) → P t.listing.settings t.listing.cone t.listing.events t.rows true →
         P a.listing.settings a.listing.cone a.listing.events a.rows a.listing.closed
     of_listing P holds = subst (λ (l : Listing). P l.settings l.cone l.events a.rows l.closed) (sym ending.listing_is)
         (subst (λ (rows : List (List BinAt)). P t.listing.settings t.listing.cone t.listing.events rows true) (sym ending.rows_are) holds)
@@ -134,13 +135,13 @@ module _ (leaves : Files → Type 0) (seen : Files) (history : List Packet) (t a
 
 -- ---- where a bay tells its files
 
--- all packets but the last have no more keys than all
-pub late_all : (history : List Packet) (events : List ℕ) → events ≡ events_of history → length (events_of (but_last history)) ≤ length events
+-- all packets but the last have no more items than all
+pub late_all : (history : List Packet) (events : List Item) → events ≡ events_of history → length (events_of (but_last history)) ≤ length events
 late_all history events all =
     let front = take (length history - 1) history in
     let back = drop (length history - 1) history in
     let split : events_of history ≡ events_of front ++ events_of back = ap events_of (sym (take-append-drop (length history - 1) history))
-    ∙ flat_map-append (λ (p : Packet). (keys_of p)) front back in
+    ∙ flat_map-append (λ (p : Packet). p.items) front back in
     omega (arith, ap length all, ap length split, length-append (events_of front) (events_of back))
 
 -- after calls that read alone

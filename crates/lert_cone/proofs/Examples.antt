@@ -1,14 +1,15 @@
 -- The definitions, computed on the files that three keys 7 leave.
+use Rattle.lert_spec.specs.Counts.{weighed}
 use Rattle.std.proofs.{Common.{◌≡◌, ℕ, zero, suc, ◌+◌, ◌-◌, ◌^◌, ◌<◌, ◌≤◌, All, List, [], ◌∷◌, ◌++◌, drop, map, take, Some, None, refl, sym, arith}, lemmas.List.Elements.{All-nil, All-cons}}
 use Rattle.std.specs.Prelude.{slice_index_or}
-use Rattle.lert_levels.specs.OnDisk.{written}
+use Rattle.lert_cone.specs.History.{written}
 use Rattle.lert_base.specs.Packet.{keys_of}
 use Rattle.lert_spec.specs.Items.{units}
 use Rattle.lert_spec.proofs.ItemLaws.{units_of_version}
 use Rattle.lert_base.specs.Packet.{Packet, events_of}
 use Rattle.lert_bay.specs.Files.{Files}
 use Rattle.lert_journal.specs.Payload.{IsJournaled}
-use Rattle.lert_spec.specs.{declared.numbers.Numbers.Numbers, Mix.{mix, cone_of}, Bins.bins, Edges.edge, Look.closing}
+use Rattle.lert_spec.specs.{declared.numbers.Numbers.Numbers, Mix.{mix, cone_of}, Bins.bins_of, Edges.edge, Look.closing_of}
 use Rattle.lert_cone.specs.{Framed.last_flush, declared.journal_places.JournalPlace.JournalPlace, History.{most_payload, end_of}, JournalPlaces.{HoldsPosition, first_place, oldest_place}}
 use Rattle.lert_cone.specs.{Sound.{IsSoundClosed, HoldFrames}, Unread.unread}
 use Rattle.lert_reports.specs.{declared.log.LogKind.LogKind, Log.{HasLog, before_of, last_directory, listed_in}, LogRules.{AreFrames, KeepsRules}, LogText.{LogRecord, bin_count}}
@@ -47,7 +48,7 @@ files (suc zero) = log_bytes
 files (suc (suc number)) = []
 
 -- two packets of these, and where they end
-events_of_two : events_of (sevens ∷ sevens ∷ []) ≡ 7 ∷ 7 ∷ 7 ∷ 7 ∷ 7 ∷ 7 ∷ []
+events_of_two : events_of (sevens ∷ sevens ∷ []) ≡ units (7 ∷ 7 ∷ 7 ∷ 7 ∷ 7 ∷ 7 ∷ [])
 events_of_two = refl
 
 end_of_one : end_of (sevens ∷ []) ≡ 69
@@ -131,13 +132,13 @@ log = record {
 }
 
 no_bins : (level : ℕ) → 1 ≤ level → level ≤ 2 → HoldFrames small level [] (slice_index_or (last_directory small (ending ∷ [])) (level - 1) [])
-    (bins small (take 3 (events_of (sevens ∷ []))) level)
+    (bins_of weighed small (take 3 (events_of (sevens ∷ []))) level)
 no_bins zero first last = absurd (omega (arith, first))
 no_bins (suc zero) first last = tt
 no_bins (suc (suc zero)) first last = tt
 no_bins (suc (suc (suc level))) first last = absurd (omega (arith, last))
 
-listed : listed_in (ending ∷ []) ≡ closing small (events_of (sevens ∷ []))
+listed : listed_in (ending ∷ []) ≡ closing_of weighed small (events_of (sevens ∷ []))
 unfolding mix
 listed = refl
 
@@ -247,9 +248,9 @@ oldest_before : oldest_place (record { settings = small; places = drop 1 late; p
 unfolding oldest_place
 oldest_before = refl
 
--- ---- keys that a reopening doesn't read
+-- ---- items that a reopening doesn't read
 
--- behind the three keys 7 a packet with the keys 5 and 9, whose record begins at 69
+-- behind the three items 7 a packet with the items 5 and 9, whose record begins at 69
 abbrev two_packets : List ℕ
 two_packets =
     take 69 journal_bytes
@@ -262,19 +263,19 @@ abbrev two_files : Files
 two_files zero = two_packets
 two_files (suc number) = []
 
-unread_of_one : unread small 0 3 (Some two_files) ≡ 7 ∷ 7 ∷ 7 ∷ []
+unread_of_one : unread small 0 3 (Some two_files) ≡ units (7 ∷ 7 ∷ 7 ∷ [])
 unfolding unread mix unmixed
 unread_of_one = refl
 
-unread_of_two : unread small 0 5 (Some two_files) ≡ 7 ∷ 7 ∷ 7 ∷ 5 ∷ 9 ∷ []
+unread_of_two : unread small 0 5 (Some two_files) ≡ units (7 ∷ 7 ∷ 7 ∷ 5 ∷ 9 ∷ [])
 unfolding unread mix unmixed
 unread_of_two = refl
 
--- where the journal has no more keys, or isn't told, they are keys of the cone all the same
-unread_behind : unread small 0 6 (Some two_files) ≡ 7 ∷ 7 ∷ 7 ∷ 5 ∷ 9 ∷ 0 ∷ []
+-- where the journal has no more items, or isn't told, they are items of the cone all the same
+unread_behind : unread small 0 6 (Some two_files) ≡ units (7 ∷ 7 ∷ 7 ∷ 5 ∷ 9 ∷ 0 ∷ [])
 unfolding unread mix unmixed
 unread_behind = refl
 
-unread_untold : unread small 0 2 None ≡ 0 ∷ 0 ∷ []
+unread_untold : unread small 0 2 None ≡ units (0 ∷ 0 ∷ [])
 unfolding unread mix unmixed
 unread_untold = refl

@@ -1,4 +1,5 @@
 -- The flushes of a cone: the last one up to a position, and how many there were.
+use Rattle.lert_spec.specs.declared.item.Item.{Item}
 use Rattle.std.proofs.Common.{ℕ, zero, suc, ◌≡◌, ◌≢◌, ◌+◌, ◌-◌, ◌*◌, ◌/◌, ◌<◌, ◌≤◌, true, false, cond, List, [], ◌∷◌, ◌++◌, length, refl, ap, ap₂, sym, ◌∙◌, arith, inl, inr, subst, length-append}
 use Rattle.std.proofs.{Math.Nat.{mul-div-le, div-add-mod, mod-lt, mul-suc, mul_comm, mul-div_right, pow-zero}, lemmas.Bool.{cases_lt, cases_eq, eq-eqb, ne_eqb, false≢true}, lemmas.Nat.mul-le}
 use Rattle.lert_levels.specs.declared.rows.bin_at.BinAt.{BinAt}
@@ -35,8 +36,8 @@ module _ (s : Numbers) where
         | inr moves ↦ absurd (omega (arith, passed, ap (last_flush s) next, flush_there n moves))
       ]
 
-pub longer : (events : List ℕ) (key : ℕ) → length (events ++ key ∷ []) ≡ suc (length events)
-longer events key = omega (arith, length-append events (key ∷ []))
+pub longer : (events : List Item) (item : Item) → length (events ++ item ∷ []) ≡ suc (length events)
+longer events item = omega (arith, length-append events (item ∷ []))
 
 -- ---- how many flushes there are
 
@@ -155,7 +156,7 @@ module _ (s : Numbers) (valid : IsValid s) where
         ap (last_flush s) n0_is ∙ flush_again (flushes_in front) ∙ sym n0_is)
   ]
 
-  module _ (cone : ℕ) (events : List ℕ) (rows : List (List BinAt)) (records : List LogRecord) (is : IsLogOf s cone events rows false records) where
+  module _ (cone : ℕ) (events : List Item) (rows : List (List BinAt)) (records : List LogRecord) (is : IsLogOf s cone events rows false records) where
     n : ℕ
     n = length events
 

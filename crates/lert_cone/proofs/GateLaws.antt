@@ -1,7 +1,8 @@
 -- What stands at the gates of a journal that is read anew: the packets of its history in turn, and nothing else.
+use Rattle.lert_spec.specs.declared.item.Item.{Item}
 use Rattle.std.proofs.Common.{◌≡◌, ℕ, ◌+◌, ◌<◌, ◌≤◌, ◌^◌, Bool, true, false, List, [], ◌∷◌, ◌++◌, length, take, drop, map, All, sym, ap, ◌∙◌, subst, inl, inr, ◌⊎◌, arith, length-append, append-nil}
 use Rattle.std.proofs.{Common.append_assoc, Math.Seq.get_or-append_seam, lemmas.Bool.false≢true, lemmas.Grind.flat_map-append, lemmas.List.take-append-drop}
-use Rattle.lert_levels.specs.OnDisk.{written}
+use Rattle.lert_cone.specs.History.{written}
 use Rattle.lert_base.specs.Packet.{keys_of}
 use Rattle.lert_base.specs.Packet.{Packet, events_of}
 use Rattle.lert_gatelog.specs.Gated.{IsOpen, IsClosed, Records, next_gate}
@@ -15,32 +16,32 @@ use Rattle.lert_cone.proofs.SoundLaws.{events_more, end_more}
 -- ---- from packet to packet
 
 -- one packet more
-pub past_more : (history done : List Packet) (events : List ℕ) (gate : ℕ) (packet : Packet) → IsPast history done events gate → IsNext history done packet →
-    IsPast history (done ++ packet ∷ []) (events ++ keys_of packet) (next_gate gate (payload_of written packet))
+pub past_more : (history done : List Packet) (events : List Item) (gate : ℕ) (packet : Packet) → IsPast history done events gate → IsNext history done packet →
+    IsPast history (done ++ packet ∷ []) (events ++ packet.items) (next_gate gate (payload_of written packet))
 past_more history done events gate packet past next = record {
   rest = next.rest;
   is = next.is ∙ sym (append_assoc done (packet ∷ []) next.rest);
-  keys = ap (λ keys. keys ++ keys_of packet) past.keys ∙ sym (events_more done packet);
+  keys = ap (λ keys. keys ++ packet.items) past.keys ∙ sym (events_more done packet);
   gate_is = ap (λ g. next_gate g (payload_of written packet)) past.gate_is ∙ end_more done packet;
 }
 
--- the keys so far begin those of the history
-pub keys_past : (history done : List Packet) (events : List ℕ) (gate : ℕ) (past : IsPast history done events gate) → events_of history ≡ events ++ events_of past.rest
+-- the items so far begin those of the history
+pub keys_past : (history done : List Packet) (events : List Item) (gate : ℕ) (past : IsPast history done events gate) → events_of history ≡ events ++ events_of past.rest
 keys_past history done events gate past =
     ap events_of past.is
-    ∙ (flat_map-append (λ (p : Packet). (keys_of p)) done past.rest
+    ∙ (flat_map-append (λ (p : Packet). p.items) done past.rest
     ∙ ap (λ keys. keys ++ events_of past.rest) (sym past.keys))
 
 -- and behind them come those of the next packet
-pub keys_next : (history done : List Packet) (events : List ℕ) (gate : ℕ) (packet : Packet) → IsPast history done events gate → (next : IsNext history done packet) →
-    events_of history ≡ events ++ ((keys_of packet) ++ events_of next.rest)
+pub keys_next : (history done : List Packet) (events : List Item) (gate : ℕ) (packet : Packet) → IsPast history done events gate → (next : IsNext history done packet) →
+    events_of history ≡ events ++ (packet.items ++ events_of next.rest)
 keys_next history done events gate packet past next =
     ap events_of next.is
-    ∙ (flat_map-append (λ (p : Packet). (keys_of p)) done (packet ∷ next.rest)
-    ∙ ap (λ keys. keys ++ ((keys_of packet) ++ events_of next.rest)) (sym past.keys))
+    ∙ (flat_map-append (λ (p : Packet). p.items) done (packet ∷ next.rest)
+    ∙ ap (λ keys. keys ++ (packet.items ++ events_of next.rest)) (sym past.keys))
 
 -- the first of them are taken, the others are still to come
-pub keys_cut : (history : List Packet) (events keys rest : List ℕ) (count : ℕ) → events_of history ≡ events ++ (keys ++ rest) → events_of history ≡ (events ++ take count keys) ++
+pub keys_cut : (history : List Packet) (events keys rest : List Item) (count : ℕ) → events_of history ≡ events ++ (keys ++ rest) → events_of history ≡ (events ++ take count keys) ++
     (drop count keys ++ rest)
 keys_cut history events keys rest count is =
     is
@@ -65,9 +66,9 @@ pub packet_or_leaves : (s : Numbers) (cone n0 : ℕ) (closed : Bool) (n : ℕ) (
 packet_or_leaves s cone n0 closed n bytes gate at packet holds may (In_record leaves) = packet_or_left written s cone (most_payload s) bytes gate at packet holds leaves
 packet_or_leaves s cone n0 closed n bytes gate at packet holds may (Too_few shut few at_is) = open_or_closed (most_payload s) bytes gate (payload_of written packet) holds.stands shut
 packet_or_leaves s cone n0 closed n bytes gate at packet holds may (Past_the_end other there ended goes at_is) =
-    absurd (omega (arith, goes, ap (λ (p : Packet). length (keys_of p)) (one_packet s cone bytes gate packet other holds there), may.before_closing ended))
+    absurd (omega (arith, goes, ap (λ (p : Packet). length p.items) (one_packet s cone bytes gate packet other holds there), may.before_closing ended))
 packet_or_leaves s cone n0 closed n bytes gate at packet holds may (Too_many other there running many at_is) =
-    absurd (omega (arith, many, ap (λ (p : Packet). length (keys_of p)) (one_packet s cone bytes gate packet other holds there), may.within))
+    absurd (omega (arith, many, ap (λ (p : Packet). length p.items) (one_packet s cone bytes gate packet other holds there), may.within))
 
 -- a closed gate behind enough events, or a place
 pub closed_or_leaves : (s : Numbers) (cone n0 : ℕ) (closed : Bool) (n : ℕ) (bytes : List ℕ) (gate at : ℕ) → IsClosed bytes gate → n0 ≤ n →
@@ -133,7 +134,7 @@ abbrev pub NextOrEnd : Numbers → ℕ → List ℕ → List Packet → List Pac
 NextOrEnd s cone bytes history done gate =
     ((done ≡ history) × IsClosed bytes gate) ⊎ ((packet : Packet) × IsNext history done packet × HoldsPacket written s cone (most_payload s) bytes gate packet)
 
-module _ (s : Numbers) (cone : ℕ) (bytes : List ℕ) (history done : List Packet) (events : List ℕ) (gate : ℕ) (journal : IsJournal s cone history bytes)
+module _ (s : Numbers) (cone : ℕ) (bytes : List ℕ) (history done : List Packet) (events : List Item) (gate : ℕ) (journal : IsJournal s cone history bytes)
     (past : IsPast history done events gate) where
   next_by : (rest : List Packet) → history ≡ done ++ rest → NextOrEnd s cone bytes history done gate
   next_by [] is =
@@ -163,15 +164,15 @@ module _ (s : Numbers) (cone : ℕ) (bytes : List ℕ) (history done : List Pack
     | inr there ↦ subst (IsNext history done) (one_packet s cone bytes gate there.0 packet there.2 holds) there.1
   ]
 
-  -- the keys with its own are no more than those of the history, so it may stand there
-  pub next_within : (packet : Packet) → HoldsPacket written s cone (most_payload s) bytes gate packet → length events + length (keys_of packet) ≤ length (events_of history)
+  -- the items with its own are no more than those of the history, so it may stand there
+  pub next_within : (packet : Packet) → HoldsPacket written s cone (most_payload s) bytes gate packet → length events + length packet.items ≤ length (events_of history)
   next_within packet holds =
       let next = is_next packet holds in
       omega (
         arith,
         ap length (keys_next history done events gate packet past next),
-        length-append events ((keys_of packet) ++ events_of next.rest),
-        length-append (keys_of packet) (events_of next.rest),
+        length-append events (packet.items ++ events_of next.rest),
+        length-append packet.items (events_of next.rest),
       )
 
   pub next_follows : (n0 : ℕ) (closed : Bool) → (closed ≡ true → n0 ≡ length (events_of history)) → (packet : Packet) → HoldsPacket written s cone (most_payload s) bytes gate packet →

@@ -1,10 +1,10 @@
--- The places of the newest bins, as keys are passed and bins begin, and what the oldest of level 0 names.
+-- The places of the newest bins, as items are passed and bins begin, and what the oldest of level 0 names.
+use Rattle.lert_spec.specs.declared.item.Item.{Item}
 use Rattle.std.proofs.Common.{◌≡◌, ℕ, zero, suc, ◌+◌, ◌-◌, ◌*◌, ◌/◌, ◌<◌, ◌≤◌, cond, List, [], ◌∷◌, ◌++◌, All, length, get_or, take, drop, refl, ap, sym, ◌∙◌, subst, inl, inr, arith, length-append}
 use Rattle.std.proofs.{Common.{length-drop, length-take, append_assoc, get_or-set_other, get_or-set_same}, Math.ListN.set, Math.Nat.{add-mul, mul-le-mul_right}, lemmas.Bool.{cases_lt, eq-eqb, ne_eqb}}
 use Rattle.std.proofs.{lemmas.Grind.flat_map-append, lemmas.List.{get_or-append-add, get_or-take}}
 use Rattle.lert_cone.proofs.SoundLaws.{some_keys_of}
-use Rattle.lert_levels.specs.OnDisk.{written}
-use Rattle.lert_base.specs.Packet.{keys_of}
+use Rattle.lert_cone.specs.History.{written}
 use Rattle.lert_base.specs.Packet.{Packet, events_of}
 use Rattle.lert_journal.specs.Payload.{IsJournaled}
 use Rattle.lert_reports.specs.{Log.last_n0, LogText.LogRecord}
@@ -16,11 +16,11 @@ use Rattle.lert_cone.specs.JournalPlaces.{ArePlacesIn, AreOfRecord, HasPassed, H
 use Rattle.lert_cone.specs.{Replay.{IsPast, IsNext}, Short.few}
 use Rattle.lert_cone.proofs.BinLaws.{begun_from, begun_none, begun_to, bin_more, bins_below, bins_between, bins_few, bins_some, bins_within, edge_bins, edge_steps, wide}
 
--- the packets before it have no more keys than all
+-- the packets before it have no more items than all
 events_within : (history : List Packet) (place : JournalPlace) (p : ℕ) (holds : HoldsPosition history place p) → length (events_of holds.done) ≤ length (events_of history)
 events_within history place p holds =
-    let split = ap events_of holds.is ∙ flat_map-append (λ (q : Packet). (keys_of q)) holds.done (holds.packet ∷ holds.rest) in
-    omega (arith, ap (length {A = ℕ}) split, length-append (events_of holds.done) (events_of (holds.packet ∷ holds.rest)))
+    let split = ap events_of holds.is ∙ flat_map-append (λ (q : Packet). q.items) holds.done (holds.packet ∷ holds.rest) in
+    omega (arith, ap (length {A = Item}) split, length-append (events_of holds.done) (events_of (holds.packet ∷ holds.rest)))
 
 -- ---- a history that grows
 
@@ -54,7 +54,7 @@ names_pushed s history logged one names =
     subst (λ n. NamesRecord s history n (last_place (logged ++ one ∷ []))) (sym (last_n0-push logged one))
     (subst (λ (m : JournalPlace). NamesRecord s history one.n0 m) (sym mark_is) names)
 
--- ---- before the first key that is seen
+-- ---- before the first item that is seen
 
 pub names_none : (s : Numbers) (history : List Packet) → NamesRecord s history 0 first_place
 names_none s history = record { none = λ _. refl; some = λ some. absurd (omega (arith, some)) }
@@ -65,12 +65,12 @@ places_none history places from_is = record {
   each = λ k j known few low high. absurd (omega (arith, from_is, known, low, add-mul k j (span places.settings 0)));
 }
 
--- ---- the keys of a record
+-- ---- the items of a record
 
 -- a packet that stands behind others, at its gate and with its first position
 module _ (history done : List Packet) (packet : Packet) (rest : List Packet) (is : history ≡ done ++ packet ∷ rest) (place : JournalPlace) (n : ℕ) (gate_is : place.gate ≡ end_of done)
     (n_is : n ≡ length (events_of done)) (first_is : place.first ≡ n + 1) where
-  pub packet_holds : AreOfRecord history place n (n + length (keys_of packet))
+  pub packet_holds : AreOfRecord history place n (n + length packet.items)
   packet_holds = record {
     each = λ p low high. record {
       done = done;
@@ -86,14 +86,15 @@ module _ (history done : List Packet) (packet : Packet) (rest : List Packet) (is
 
 -- the packet behind a list
 pub last_holds : (history : List Packet) (packet : Packet) (place : JournalPlace) (n : ℕ) → place.gate ≡ end_of history → n ≡ length (events_of history) → place.first ≡ n + 1 →
-    AreOfRecord (history ++ packet ∷ []) place n (n + length (keys_of packet))
+    AreOfRecord (history ++ packet ∷ []) place n (n + length packet.items)
 last_holds history packet place n gate_is n_is first_is = packet_holds (history ++ packet ∷ []) history packet [] refl place n gate_is n_is first_is
 
 -- the packet that is read next
-pub next_holds : (history done : List Packet) (events : List ℕ) (gate : ℕ) (packet : Packet) (keys : List ℕ) (place : JournalPlace) → IsPast history done events gate → IsNext history done packet →
-    keys ≡ keys_of packet → place.gate ≡ gate → place.first ≡ length events + 1 → AreOfRecord history place (length events) (length events + length keys)
+pub next_holds : (history done : List Packet) (events : List Item) (gate : ℕ) (packet : Packet) (keys : List Item) (place : JournalPlace) → IsPast history done events gate → IsNext history done
+    packet →
+    keys ≡ packet.items → place.gate ≡ gate → place.first ≡ length events + 1 → AreOfRecord history place (length events) (length events + length keys)
 next_holds history done events gate packet keys place past next keys_are gate_is first_is =
-    subst (λ (ks : List ℕ). AreOfRecord history place (length events) (length events + length ks)) (sym keys_are)
+    subst (λ (ks : List Item). AreOfRecord history place (length events) (length events + length ks)) (sym keys_are)
     (packet_holds history done packet next.rest next.is place (length events) (gate_is ∙ past.gate_is) (ap length past.keys) first_is)
 
 -- a part of the positions
@@ -148,7 +149,7 @@ module _ (s : Numbers) (valid : IsValid s) where
   -- ---- a step
 
   module _ (history : List Packet) (old new : Places) (settings_are : old.settings ≡ s) (are : ArePlacesIn history old) where
-    -- a bin begins, whose first key the record at a place holds
+    -- a bin begins, whose first item the record at a place holds
     module _ (place : JournalPlace) (new_settings : new.settings ≡ old.settings) (passed : new.passed ≡ bins_begun s old.passed * span s 0 + 1) (from_is : new.from ≡ old.from)
         (newest : get_or new.places 0 first_place ≡ place)
         (others : (j : ℕ) → j < 16 → get_or new.places (j + 1) first_place ≡ get_or old.places j first_place)
@@ -211,7 +212,7 @@ module _ (s : Numbers) (valid : IsValid s) where
   oldest_none places none =
       ap (λ t. cond t first_place (get_or places.places (bins_behind places.settings places.passed) first_place)) (eq-eqb places.passed 0 none)
 
-  -- it names the record that holds the bin's first key, where that bin is known
+  -- it names the record that holds the bin's first item, where that bin is known
   pub oldest_names : (history : List Packet) (places : Places) (n : ℕ) → places.settings ≡ s → places.passed ≡ n → places.from ≤ edge s 0 n + 1 → ArePlacesIn history places →
       NamesRecord s history n (oldest_place places)
   oldest_names history places n settings_are passed_is reach are = record {

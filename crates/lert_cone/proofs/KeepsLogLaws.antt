@@ -10,7 +10,7 @@ use Rattle.lert_reports.specs.{Log.{HasRecords, last_directory, last_n0, most_re
 use Rattle.lert_spec.specs.declared.numbers.Numbers.{Numbers}
 use Rattle.lert_cone.specs.{Framed.HoldsSome, KeepsLog.{AreNextFlushes, IsNextFlush, InDirectory, NamesRows, HoldsNamed, KeepsRecords, KeepsLog}, Wrote.IsShut}
 use Rattle.lert_cone.proofs.{StepLaws.first_same, WroteLaws.torn_behind}
-use Rattle.lert_levels.specs.OnDisk.{written}
+use Rattle.lert_cone.specs.History.{written}
 
 -- ---- rows, by what a directory names
 
@@ -43,6 +43,7 @@ pub named_some : (s : Numbers) (records : List LogRecord) (rows : List (List Bin
 named_some s records rows file names holds = record {
   events = holds.some.events;
   len = holds.some.len;
+  light = holds.some.light;
   holds = λ level first last.
       let same : row_of holds.rows level ≡ row_of rows level = row_same (row_of holds.rows level) (row_of rows level)
       (level_frames s records holds.rows holds.names level first last ∙ sym (level_frames s records rows names level first last))

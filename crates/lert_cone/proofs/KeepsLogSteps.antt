@@ -13,7 +13,7 @@ use Rattle.lert_cone.specs.{JournalPlaces.oldest_place, Record.{LogPlace, payloa
 use Rattle.lert_cone.proofs.Calls.{now_since}
 use Rattle.lert_cone.proofs.KeepsLogLaws.{begins_each, gate_within, in_named, keeps_log_none, keeps_log_on, named_some, one_end, records_each, records_on, records_push, records_same}
 use Rattle.lert_cone.proofs.{LogLaws.{directory_is, frames_are}, RecordLaws.payload_is_at, StepLaws.frames_since, TakeLaws.ok_holds}
-use Rattle.lert_levels.specs.OnDisk.{written}
+use Rattle.lert_cone.specs.History.{written}
 
 -- the step from files that were told to those that are
 pub step_of : (step : Files → Files → Type 0) (before after : Option Files) → Turns step before after → (seen : Files) → before ≡ Some seen → (now : Files) → after ≡ Some now → step seen now
@@ -107,7 +107,8 @@ module _ {B : Type 0} (bays : Bays B) (lawful : IsLawful bays) (s : Numbers) whe
             record {
               events = some.events;
               len = some.len;
-              holds = frames_since (λ (image : Files). image ≡ seen) (λ (image : Files). image ≡ now) seen s some.events rows valid are refl
+              light = some.light;
+              holds = frames_since (λ (image : Files). image ≡ seen) (λ (image : Files). image ≡ now) seen s some.events rows valid are some.light refl
                   (λ image image_is. subst (λ (files : Files). HoldsBins s written some.events rows (files 2)) (sym image_is) some.holds)
                   (λ from to named settled image image_is. ap (λ (files : Files). part (files 2) from to) image_is ∙ leaves.rest from to named settled.within) now refl;
             }
@@ -265,6 +266,7 @@ module _ {B : Type 0} (bays : Bays B) (lawful : IsLawful bays) (s : Numbers) whe
                   let some : HoldsSome s n rows (seen 2) = (let last = named_some s records rows (seen 2) is.names holds in record {
                     events = last.events;
                     len = last.len ∙ is.newest;
+                    light = last.light;
                     holds = last.holds;
                   }) in
                   record {

@@ -1,71 +1,71 @@
--- Keys of a cone: one by one, and by their tails.
-use Rattle.std.proofs.Common.{ℕ, ◌≡◌, ◌≢◌, ◌+◌, ◌-◌, ◌*◌, ◌/◌, ◌%◌, ◌^◌, ◌<◌, ◌≤◌, zero, suc, cond, eqb, List, [], ◌∷◌, ◌++◌, take, drop, refl, ap, sym, ◌∙◌, arith, inl, inr, slice_range}
-use Rattle.std.proofs.{lemmas.Bool.{cases_eq, eq-eqb, ne_eqb}, lemmas.List.Sums.sum_by-cons, lemmas.Nat.{mul-add-lt, shr_high, mod_low, pow-add}}
+-- Items of a cone: one by one, and by the tails of their keys.
+use Rattle.std.proofs.Common.{ℕ, ◌≡◌, ◌≢◌, ◌+◌, ◌-◌, ◌*◌, ◌/◌, ◌%◌, ◌^◌, ◌<◌, ◌≤◌, cond, List, [], ◌∷◌, ◌++◌, drop, refl, ap, sym, ◌∙◌, arith, inl, inr, slice_range, sum_by}
+use Rattle.std.proofs.{lemmas.List.Elements.{All-nil, All-cons, All-head, All-tail, All-append}, lemmas.Bool.{cases_eq, eq-eqb, ne_eqb}}
+use Rattle.std.proofs.{lemmas.List.Sums.sum_by-cons, lemmas.Nat.{mul-add-lt, shr_high, mod_low, pow-add}}
+use Rattle.std.specs.List.{All}
 use Rattle.lert_spec.specs.Edges.{tail_bits}
-use Rattle.lert_spec.specs.{declared.numbers.Numbers.Numbers, Bins.tallied, Counts.count, Mix.{mix, cone_of, tail_of}, Table.count_of}
-use Rattle.lert_spec.proofs.{LookLaws.AreKeys, MixLaws.{unmixed_below, mix-unmixed, one_key, tail_below}, ReportLaws.{times, times-cons_same, times-cons_other}, TailLaws.{AreOfCone, key_with}}
-use Rattle.lert_spec.proofs.TallyLaws.{tails, count_of-tallied}
+use Rattle.lert_spec.specs.{declared.item.Item.Item, declared.numbers.Numbers.Numbers, Bins.tally}
+use Rattle.lert_spec.specs.{Counts.{weighed, weight_for, weight_in}, Items.{keys_in, most_weight, AreOfVersion}, Mix.{mix, cone_of, tail_of}, Table.count_of}
+use Rattle.lert_spec.proofs.{LookLaws.HaveKeys, MixLaws.{unmixed_below, mix-unmixed, one_key, tail_below}, TailLaws.{HaveKeys-take, HaveKeys-drop, IsPartOf, IsPartOf-take, IsPartOf-drop, key_with}}
+use Rattle.lert_spec.proofs.TallyLaws.{tail_weight, tails_in, count_of-tally}
+use Rattle.lert_levels.proofs.rows.WeightLaws.{WeighAll, weigh_slice}
 
-pub AreKeys-push : (events : List ℕ) (key : ℕ) → AreKeys events → key < 2 ^ 64 → AreKeys (events ++ key ∷ [])
-AreKeys-push [] key fit below = (below, tt)
-AreKeys-push (event ∷ events) key fit below = (fit.0, AreKeys-push events key fit.1 below)
+pub HaveKeys-push : (events : List Item) (item : Item) → HaveKeys weighed events → item.key < 2 ^ 64 → HaveKeys weighed (events ++ item ∷ [])
+HaveKeys-push [] item fit below = (below, tt)
+HaveKeys-push (event ∷ events) item fit below = (fit.0, HaveKeys-push events item fit.1 below)
 
-pub AreOfCone-push : (s : Numbers) (cone : ℕ) (events : List ℕ) (key : ℕ) → AreOfCone s cone events → cone_of s key ≡ cone → AreOfCone s cone (events ++ key ∷ [])
-AreOfCone-push s cone [] key own is = (is, tt)
-AreOfCone-push s cone (event ∷ events) key own is = (own.0, AreOfCone-push s cone events key own.1 is)
+pub IsPartOf-push : (s : Numbers) (cone : ℕ) (events : List Item) (item : Item) → IsPartOf weighed s cone events → cone_of s item.key ≡ cone → IsPartOf weighed s cone (events ++ item ∷ [])
+IsPartOf-push s cone [] item own is = (is, tt)
+IsPartOf-push s cone (event ∷ events) item own is = (own.0, IsPartOf-push s cone events item own.1 is)
 
-AreKeys-take : (n : ℕ) (keys : List ℕ) → AreKeys keys → AreKeys (take n keys)
-AreKeys-take zero keys fit = tt
-AreKeys-take (suc n) [] fit = tt
-AreKeys-take (suc n) (key ∷ keys) fit = (fit.0, AreKeys-take n keys fit.1)
+pub AreOfVersion-push : (version : ℕ) (events : List Item) (item : Item) → AreOfVersion version events → 1 ≤ item.weight → item.weight ≤ most_weight version →
+    AreOfVersion version (events ++ item ∷ [])
+AreOfVersion-push version events item are some most =
+    let P : Item → Type 0 = λ i. (1 ≤ i.weight) × (i.weight ≤ most_weight version) in
+    All-append P events (item ∷ []) are (All-cons P item [] (some, most) (All-nil P))
 
-AreKeys-drop : (n : ℕ) (keys : List ℕ) → AreKeys keys → AreKeys (drop n keys)
-AreKeys-drop zero keys fit = fit
-AreKeys-drop (suc n) [] fit = tt
-AreKeys-drop (suc n) (key ∷ keys) fit = AreKeys-drop n keys fit.1
-
-AreOfCone-take : (s : Numbers) (cone n : ℕ) (keys : List ℕ) → AreOfCone s cone keys → AreOfCone s cone (take n keys)
-AreOfCone-take s cone zero keys own = tt
-AreOfCone-take s cone (suc n) [] own = tt
-AreOfCone-take s cone (suc n) (key ∷ keys) own = (own.0, AreOfCone-take s cone n keys own.1)
-
-AreOfCone-drop : (s : Numbers) (cone n : ℕ) (keys : List ℕ) → AreOfCone s cone keys → AreOfCone s cone (drop n keys)
-AreOfCone-drop s cone zero keys own = own
-AreOfCone-drop s cone (suc n) [] own = tt
-AreOfCone-drop s cone (suc n) (key ∷ keys) own = AreOfCone-drop s cone n keys own.1
-
--- among keys of a cone a tail occurs as often as its key
-tails-times : (s : Numbers) (cone key : ℕ) (keys : List ℕ) → key < 2 ^ 64 → cone_of s key ≡ cone → AreKeys keys → AreOfCone s cone keys →
-    tails s (tail_of s key) keys ≡ times key keys
-tails-times s cone key [] below is fit own = refl
-tails-times s cone key (other ∷ others) below is fit own =
-    let rest = tails-times s cone key others below is fit.1 own.1 in
-    let parts = sum_by-cons (λ k. cond {A = ℕ} (eqb (tail_of s k) (tail_of s key)) 1 0) other others in
-    elim (cases_eq other key) [
+-- among items of a cone a tail weighs as much as its key
+tails-weigh : (s : Numbers) (cone key : ℕ) (items : List Item) → key < 2 ^ 64 → cone_of s key ≡ cone → HaveKeys weighed items → IsPartOf weighed s cone items →
+    tails_in weighed s (tail_of s key) items ≡ sum_by (weight_for weighed key) items
+tails-weigh s cone key [] below is fit own = refl
+tails-weigh s cone key (other ∷ others) below is fit own =
+    let rest = tails-weigh s cone key others below is fit.1 own.1 in
+    let tails = sum_by-cons (tail_weight weighed s (tail_of s key)) other others in
+    let keys = sum_by-cons (weight_for weighed key) other others in
+    elim (cases_eq other.key key) [
       | inl same ↦ omega (
         arith,
-        parts,
+        tails,
+        keys,
         rest,
-        times-cons_same key other others same,
-        ap (λ t. cond {A = ℕ} t 1 0) (eq-eqb (tail_of s other) (tail_of s key) (ap (tail_of s) same)),
+        ap (λ t. cond {A = ℕ} t other.weight 0) (eq-eqb (tail_of s other.key) (tail_of s key) (ap (tail_of s) same)),
+        ap (λ t. cond {A = ℕ} t other.weight 0) (eq-eqb other.key key same),
       )
       | inr differs ↦ omega (
         arith,
-        parts,
+        tails,
+        keys,
         rest,
-        times-cons_other key other others differs,
-        ap (λ t. cond {A = ℕ} t 1 0) (ne_eqb (tail_of s other) (tail_of s key)
-            (λ tails_same. differs (one_key s other key fit.0 below (own.0 ∙ sym is) tails_same))),
+        ap (λ t. cond {A = ℕ} t other.weight 0)
+            (ne_eqb (tail_of s other.key) (tail_of s key) (λ tails_same. differs (one_key s other.key key fit.0 below (own.0 ∙ sym is) tails_same))),
+        ap (λ t. cond {A = ℕ} t other.weight 0) (ne_eqb other.key key differs),
       )
     ]
 
--- how often a key occurs in a window is the count of its tail
-pub count-tail : (s : Numbers) (cone key from to : ℕ) (events : List ℕ) → key < 2 ^ 64 → cone_of s key ≡ cone → AreKeys events → AreOfCone s cone events →
-    count_of (tallied s (slice_range events from to)) (tail_of s key) ≡ count key events from to
-count-tail s cone key from to events below is fit own =
-    count_of-tallied s (slice_range events from to) (tail_of s key)
-    ∙ tails-times s cone key (slice_range events from to) below is (AreKeys-take (to - from) (drop from events) (AreKeys-drop from events fit))
-    (AreOfCone-take s cone (to - from) (drop from events) (AreOfCone-drop s cone from events own))
+-- what a key weighs in a window is the count of its tail
+pub count-tail : (s : Numbers) (cone key from to : ℕ) (events : List Item) → key < 2 ^ 64 → cone_of s key ≡ cone → HaveKeys weighed events →
+    IsPartOf weighed s cone events → WeighAll events →
+    count_of (tally weighed s (slice_range events from to)) (tail_of s key) ≡ weight_in weighed key events from to
+count-tail s cone key from to events below is fit own some =
+    count_of-tally weighed s (slice_range events from to) (tail_of s key) (weigh_slice events from to some)
+    ∙ tails-weigh s cone key (slice_range events from to) below is (HaveKeys-take weighed (to - from) (drop from events) (HaveKeys-drop weighed from events fit))
+    (IsPartOf-take weighed s cone (to - from) (drop from events) (IsPartOf-drop weighed s cone from events own))
+
+-- what holds of the keys of items holds of each item's key
+pub of_keys : (P : ℕ → Type 0) (items : List Item) → All P (keys_in items) → All (λ item. P item.key) items
+of_keys P [] all = All-nil (λ (item : Item). P item.key)
+of_keys P (item ∷ items) all =
+    All-cons (λ (i : Item). P i.key) item items (All-head P item.key (keys_in items) all) (of_keys P items (All-tail P item.key (keys_in items) all))
 
 -- the key that has a cone and a tail
 module _ (s : Numbers) (cone : ℕ) (bits : s.cone_bits ≤ 64) (named : cone < 2 ^ s.cone_bits) where

@@ -1,4 +1,7 @@
--- A key and the end through the calls that they make: the files stay sound, and go together with memory again.
+-- An item and the end through the calls that they make: the files stay sound, and go together with memory again.
+use Rattle.lert_spec.specs.Items.{AreOfVersion}
+use Rattle.lert_spec.specs.Counts.{weighed}
+use Rattle.lert_spec.specs.declared.item.Item.{Item}
 use Rattle.std.proofs.Common.{◌≡◌, ◌≢◌, ℕ, suc, ◌+◌, ◌-◌, ◌≤◌, Bool, false, cond, List, [], ◌∷◌, ◌++◌, length, drop, map, Some, sym, ap, ◌∙◌, subst, inl, inr, ◌⊎◌, arith, length-append, append_assoc}
 use Rattle.std.proofs.{lemmas.Bool.{false≢true, ne_eqb}, lemmas.List.take_all}
 use Rattle.lert_base.specs.Packet.{Packet}
@@ -7,25 +10,25 @@ use Rattle.lert_bay.proofs.KeptLaws.{IsLawful}
 use Rattle.lert_gatelog.specs.{Gated.{IsGated, next_gate}, Kept.{InEach, KeepsOthers, KeepsBefore, IsWhollySettled, IsWithOrWithout}}
 use Rattle.lert_levels.specs.{declared.rows.bin_at.BinAt.BinAt, Flushed.InNamed, rows.Landing.KeepsRest, rows.Rows.{IsAt, AreRows, HoldsBins, directory_text}}
 use Rattle.lert_reports.specs.{declared.log.LogKind.LogKind, Log.{HasLog, AreRecords, last_n0, listed_in, most_record}, LogText.{LogRecord, log_payload, log_payload_of}}
-use Rattle.lert_spec.specs.{declared.numbers.Numbers.Numbers, declared.report.Report.Report, Edges.{edge, capacity}, Limits.IsValid, Look.{look, closing}}
-use Rattle.lert_spec.proofs.{LookLaws.AreKeys, TailLaws.AreOfCone}
+use Rattle.lert_spec.specs.{declared.numbers.Numbers.Numbers, declared.report.Report.Report, Edges.{edge, capacity}, Limits.IsValid, Look.{look_of, closing_of}}
+use Rattle.lert_spec.proofs.{LookLaws.HaveKeys, TailLaws.IsPartOf}
 use Rattle.lert_cone.specs.{Framed.last_flush, InStep.{IsInStep, IsPartway}, Listing.{Listing, reports_of}, Logged.{IsLogOf, next_record}}
 use Rattle.lert_cone.specs.{JournalPlaces.{ArePlacesIn, Places, MayName, NamesRecord, last_place, oldest_place}, Record.{LogPlace, payload_at}, Sound.{IsJournal, IsSound}}
 use Rattle.lert_cone.specs.Tally.{Tallied, IsCounted, IsHeld}
 use Rattle.lert_cone.proofs.{LogLaws.{LogsNext, log_between, log_at_flush, payload_is}, FlushLaws.last_flush_grows, JournalPlaceLaws.{edge_grows, may_name, names_pushed, oldest_names}}
 use Rattle.lert_cone.proofs.{RecordLaws.payload_is_at, Calls.{alone_rest, now_since, settled_alone}}
 use Rattle.lert_cone.proofs.StepLaws.{journal_since, log_since, frames_since, sound_of, with_or_without, with_record, header_since}
-use Rattle.lert_levels.specs.OnDisk.{written}
+use Rattle.lert_cone.specs.History.{written}
 
--- a part of the keys is taken
-pub partway_less : (s : Numbers) (history : List Packet) (events more : List ℕ) → IsPartway s history events more → IsPartway s history events []
+-- a part of the items is taken
+pub partway_less : (s : Numbers) (history : List Packet) (events more : List Item) → IsPartway s history events more → IsPartway s history events []
 partway_less s history events more partway = record { rest = more ++ partway.rest; is = partway.is; late = partway.late }
 
-pub partway_more : (s : Numbers) (history : List Packet) (events : List ℕ) (key : ℕ) → IsPartway s history events (key ∷ []) → IsPartway s history (events ++ key ∷ []) []
-partway_more s history events key partway = record {
+pub partway_more : (s : Numbers) (history : List Packet) (events : List Item) (item : Item) → IsPartway s history events (item ∷ []) → IsPartway s history (events ++ item ∷ []) []
+partway_more s history events item partway = record {
   rest = partway.rest;
-  is = partway.is ∙ sym (append_assoc events (key ∷ []) partway.rest);
-  late = omega (arith, partway.late, last_flush_grows s (length events) (length (events ++ key ∷ [])) (omega (arith, length-append events (key ∷ []))));
+  is = partway.is ∙ sym (append_assoc events (item ∷ []) partway.rest);
+  late = omega (arith, partway.late, last_flush_grows s (length events) (length (events ++ item ∷ [])) (omega (arith, length-append events (item ∷ []))));
 }
 
 -- the payload that is appended is that of the next record
@@ -49,7 +52,7 @@ module _ (leaves since : Files → Type 0) (seen : Files) (history : List Packet
   log_here = log_since since seen t.listing.settings t.listing.cone up.logged log.gate (up.log_there seen read) log_keeps
 
   pub frames_here : InEach since 2 (HoldsBins t.listing.settings written t.listing.events t.rows)
-  frames_here = frames_since leaves since seen t.listing.settings t.listing.events t.rows counted.valid counted.are read up.frames frames_keep
+  frames_here = frames_since leaves since seen t.listing.settings t.listing.events t.rows counted.valid counted.are counted.light read up.frames frames_keep
 
   -- they stay sound
   pub sound_here : t.listing.closed ≡ false → IsPartway t.listing.settings history t.listing.events [] → (image : Files) → since image →
@@ -69,8 +72,9 @@ module _ (leaves since : Files → Type 0) (seen : Files) (s : Numbers) (cone : 
   pub journal_beside : InEach since 0 (IsJournal s cone history)
   journal_beside = journal_since since seen s cone history (journal seen read) (others 0 0 (length (seen 0)) (λ same. absurd (omega (arith, same))) journal_settled)
 
-  pub frames_beside : (events : List ℕ) (rows : List (List BinAt)) → IsValid s → AreRows s rows → InEach leaves 2 (HoldsBins s written events rows) → InEach since 2 (HoldsBins s written events rows)
-  frames_beside events rows valid are holds = frames_since leaves since seen s events rows valid are read holds (λ from to named. others 2 from to (λ same. absurd (omega (arith, same))))
+  pub frames_beside : (events : List Item) (rows : List (List BinAt)) → IsValid s → AreRows s rows → AreOfVersion written events → InEach leaves 2 (HoldsBins s written events rows) → InEach
+      since 2 (HoldsBins s written events rows)
+  frames_beside events rows valid are light holds = frames_since leaves since seen s events rows valid are light read holds (λ from to named. others 2 from to (λ same. absurd (omega (arith, same))))
 
   pub log_beside : InEach since 1 (IsWithOrWithout (most_record s) 8 (map log_payload_of logged) gate payload) → (image : Files) → since image →
       HasLog s cone (image 1) logged gate ⊎ HasLog s cone (image 1) (logged ++ one ∷ []) (next_gate gate payload)
@@ -86,12 +90,12 @@ module _ (leaves since : Files → Type 0) (seen : Files) (s : Numbers) (cone : 
 
 -- ---- a key
 
--- what is known once a key is taken, of the bay then (`leaves`, `seen`), where memory and the files went together before (`t`)
+-- what is known once an item is taken, of the bay then (`leaves`, `seen`), where memory and the files went together before (`t`)
 -- and no record is written yet
-pub record IsTaken (leaves : Files → Type 0) (seen : Files) (history : List Packet) (t a : Tallied) (log : LogPlace) (logged : List LogRecord) (key : ℕ) : Type 0 where
+pub record IsTaken (leaves : Files → Type 0) (seen : Files) (history : List Packet) (t a : Tallied) (log : LogPlace) (logged : List LogRecord) (item : Item) : Type 0 where
   pub log_of : IsLogOf t.listing.settings t.listing.cone t.listing.events t.rows false logged
   pub named_is : log.named ≡ length (listed_in logged)
-  pub listing_is : a.listing ≡ record t.listing { events = t.listing.events ++ key ∷ [] }
+  pub listing_is : a.listing ≡ record t.listing { events = t.listing.events ++ item ∷ [] }
   pub read : leaves seen
   pub journal : InEach leaves 0 (IsJournal t.listing.settings t.listing.cone history)
   pub journal_settled : IsWhollySettled leaves seen 0
@@ -106,27 +110,30 @@ pub record IsTaken (leaves : Files → Type 0) (seen : Files) (history : List Pa
   pub passed : log.places.passed ≡ suc (length t.listing.events)
   pub reach : log.places.from ≤ edge t.listing.settings 0 (suc (length t.listing.events)) + 1
 
-module _ (leaves : Files → Type 0) (seen : Files) (history : List Packet) (t a : Tallied) (log : LogPlace) (logged : List LogRecord) (key : ℕ)
-    (still : t.listing.closed ≡ false) (before : IsCounted t) (counted : IsCounted a) (taken : IsTaken leaves seen history t a log logged key) where
-  all : List ℕ
-  all = t.listing.events ++ key ∷ []
+module _ (leaves : Files → Type 0) (seen : Files) (history : List Packet) (t a : Tallied) (log : LogPlace) (logged : List LogRecord) (item : Item)
+    (still : t.listing.closed ≡ false) (before : IsCounted t) (counted : IsCounted a) (taken : IsTaken leaves seen history t a log logged item) where
+  all : List Item
+  all = t.listing.events ++ item ∷ []
 
-  long : length (t.listing.events ++ key ∷ []) ≡ suc (length t.listing.events)
-  long = length-append t.listing.events (key ∷ []) ∙ omega arith
+  long : length (t.listing.events ++ item ∷ []) ≡ suc (length t.listing.events)
+  long = length-append t.listing.events (item ∷ []) ∙ omega arith
 
-  -- what holds of the keys and the rows holds of what memory has of them
-  module _ (P : Numbers → ℕ → List ℕ → Bool → Type 0) where
-    of_listing : P t.listing.settings t.listing.cone (t.listing.events ++ key ∷ []) t.listing.closed → P a.listing.settings a.listing.cone a.listing.events a.listing.closed
+  -- what holds of the items and the rows holds of what memory has of them
+  module _ (P : Numbers → ℕ → List Item → Bool → Type 0) where
+    of_listing : P t.listing.settings t.listing.cone (t.listing.events ++ item ∷ []) t.listing.closed → P a.listing.settings a.listing.cone a.listing.events a.listing.closed
     of_listing holds = subst (λ (l : Listing). P l.settings l.cone l.events l.closed) (sym taken.listing_is) holds
 
-    to_listing : P a.listing.settings a.listing.cone a.listing.events a.listing.closed → P t.listing.settings t.listing.cone (t.listing.events ++ key ∷ []) t.listing.closed
+    to_listing : P a.listing.settings a.listing.cone a.listing.events a.listing.closed → P t.listing.settings t.listing.cone (t.listing.events ++ item ∷ []) t.listing.closed
     to_listing holds = subst (λ (l : Listing). P l.settings l.cone l.events l.closed) taken.listing_is holds
 
-  log_as : (rows : List (List BinAt)) (records : List LogRecord) → IsLogOf t.listing.settings t.listing.cone (t.listing.events ++ key ∷ []) rows false records →
+  all_light : AreOfVersion written (t.listing.events ++ item ∷ [])
+  all_light = to_listing (λ s cone events closed. AreOfVersion written events) counted.light
+
+  log_as : (rows : List (List BinAt)) (records : List LogRecord) → IsLogOf t.listing.settings t.listing.cone (t.listing.events ++ item ∷ []) rows false records →
       IsLogOf a.listing.settings a.listing.cone a.listing.events rows a.listing.closed records
   log_as rows records is =
       of_listing (λ s cone events closed. IsLogOf s cone events rows closed records)
-      (subst (λ closed. IsLogOf t.listing.settings t.listing.cone (t.listing.events ++ key ∷ []) rows closed records) (sym still) is)
+      (subst (λ closed. IsLogOf t.listing.settings t.listing.cone (t.listing.events ++ item ∷ []) rows closed records) (sym still) is)
 
   journal_now : InEach leaves 0 (IsJournal a.listing.settings a.listing.cone history)
   journal_now image may = of_listing (λ s cone events closed. IsJournal s cone history (image 0)) (taken.journal image may)
@@ -145,7 +152,7 @@ module _ (leaves : Files → Type 0) (seen : Files) (history : List Packet) (t a
       record {
         logged = logged;
         log_of = subst (λ (rows : List (List BinAt)). IsLogOf a.listing.settings a.listing.cone a.listing.events rows a.listing.closed logged) (sym rows_are)
-            (log_as t.rows logged (log_between t.listing.settings t.listing.cone t.listing.events key t.rows logged (ap (edge t.listing.settings 0) (sym n_is) ∙ stays ∙ ap
+            (log_as t.rows logged (log_between t.listing.settings t.listing.cone t.listing.events item t.rows logged (ap (edge t.listing.settings 0) (sym n_is) ∙ stays ∙ ap
             (edge t.listing.settings 0) before_is) taken.log_of));
         named_is = taken.named_is;
         journal = journal_now;
@@ -169,14 +176,14 @@ module _ (leaves : Files → Type 0) (seen : Files) (history : List Packet) (t a
         let before_is : length a.listing.events - 1 ≡ length t.listing.events = omega (arith, n_is) in
         moves (ap (edge t.listing.settings 0) n_is ∙ same ∙ ap (edge t.listing.settings 0) (sym before_is))
 
-    looked : a.due.reports ≡ look t.listing.settings (t.listing.events ++ key ∷ [])
-    looked = taken.reports_are ∙ ap reports_of taken.listing_is ∙ ap (λ b. cond b (closing t.listing.settings (t.listing.events ++ key ∷ [])) (look t.listing.settings
-        (t.listing.events ++ key ∷ []))) still
+    looked : a.due.reports ≡ look_of weighed t.listing.settings (t.listing.events ++ item ∷ [])
+    looked = taken.reports_are ∙ ap reports_of taken.listing_is ∙ ap (λ b. cond b (closing_of weighed t.listing.settings (t.listing.events ++ item ∷ [])) (look_of weighed t.listing.settings
+        (t.listing.events ++ item ∷ []))) still
 
     abbrev pub one : LogRecord
     one = next_record LogKind.Flush (suc (length t.listing.events)) (oldest_place log.places) a.rows logged a.due.reports
 
-    -- it names the journal's record that holds the first key of level 0
+    -- it names the journal's record that holds the first item of level 0
     names : NamesRecord t.listing.settings history (suc (length t.listing.events)) (oldest_place log.places)
     names = oldest_names t.listing.settings before.valid history log.places (suc (length t.listing.events)) taken.same taken.passed taken.reach
         taken.placed
@@ -195,13 +202,13 @@ module _ (leaves : Files → Type 0) (seen : Files) (history : List Packet) (t a
     rows_at : IsAt t.listing.settings (suc (length t.listing.events)) a.rows
     rows_at = subst (λ n. IsAt t.listing.settings n a.rows) long (to_listing (λ s cone events closed. IsAt s (length events) a.rows) counted.rows)
 
-    pub next : LogsNext t.listing.settings t.listing.cone (t.listing.events ++ key ∷ []) a.rows false logged
+    pub next : LogsNext t.listing.settings t.listing.cone (t.listing.events ++ item ∷ []) a.rows false logged
         (next_record LogKind.Flush (suc (length t.listing.events)) (oldest_place log.places) a.rows logged a.due.reports)
     next =
-        log_at_flush t.listing.settings before.valid t.listing.cone t.listing.events key (oldest_place log.places) t.rows a.rows logged a.due.reports may
+        log_at_flush t.listing.settings before.valid t.listing.cone t.listing.events item (oldest_place log.places) t.rows a.rows logged a.due.reports may
         (omega (arith, long, to_listing (λ s cone events closed. length events ≤ capacity s) counted.fits)) moves_here
-        (to_listing (λ s cone events closed. AreKeys events) counted.keys)
-        (to_listing (λ s cone events closed. AreOfCone s cone events) counted.own)
+        (to_listing (λ s cone events closed. HaveKeys weighed events) counted.keys)
+        (to_listing (λ s cone events closed. IsPartOf weighed s cone events) counted.own)
         rows_at rows_are looked few taken.log_of
 
     module _ (since : Files → Type 0) (payload : List ℕ) (payload_is : payload ≡ payload_at log LogKind.Flush (length a.listing.events) (directory_text a.rows) a.due.reports)
@@ -210,12 +217,12 @@ module _ (leaves : Files → Type 0) (seen : Files) (history : List Packet) (t a
       payload_here = payload_is ∙ ap (λ n. payload_at log LogKind.Flush n (directory_text a.rows) a.due.reports) n_is ∙ next_payload log LogKind.Flush (suc
           (length t.listing.events)) a.rows logged a.due.reports taken.named_is
 
-      frames_new : InEach leaves 2 (HoldsBins t.listing.settings written (t.listing.events ++ key ∷ []) a.rows)
+      frames_new : InEach leaves 2 (HoldsBins t.listing.settings written (t.listing.events ++ item ∷ []) a.rows)
       frames_new image may = to_listing (λ s cone events closed. HoldsBins s written events a.rows (image 2)) (taken.frames image may)
 
       -- in each image of each moment of the append
       pub sound_append : InEach since 1 (IsWithOrWithout (most_record t.listing.settings) 8 (map log_payload_of logged) log.gate payload) → IsPartway t.listing.settings history t.listing.events
-          (key ∷ []) →
+          (item ∷ []) →
           (image : Files) → since image → IsSound t.listing.settings t.listing.cone history image
       sound_append each partway image may =
           let s = t.listing.settings in
@@ -227,11 +234,11 @@ module _ (leaves : Files → Type 0) (seen : Files) (history : List Packet) (t a
           elim (log_beside leaves since seen s cone history logged one log.gate payload taken.read taken.journal taken.journal_settled taken.log_there next.is.rules payload_here others earlier
           each image may) [
             | inl without ↦ sound_of s cone history t.listing.events t.rows false logged log.gate before.valid before.rows
-                (partway_less t.listing.settings history t.listing.events (key ∷ []) partway)
-                (λ never. absurd (false≢true never)) taken.log_of taken.begins image journal without (beside t.listing.events t.rows before.valid before.are taken.frames_before image may)
-            | inr with_it ↦ sound_of s cone history (t.listing.events ++ key ∷ []) a.rows false (logged ++ one ∷ []) (next_gate log.gate payload) before.valid
-                (subst (λ n. IsAt t.listing.settings n a.rows) (sym long) rows_at) (partway_more t.listing.settings history t.listing.events key partway)
-                (λ never. absurd (false≢true never)) next.is named_then image journal with_it (beside (t.listing.events ++ key ∷ []) a.rows before.valid rows_are frames_new image may)
+                (partway_less t.listing.settings history t.listing.events (item ∷ []) partway)
+                (λ never. absurd (false≢true never)) taken.log_of taken.begins image journal without (beside t.listing.events t.rows before.valid before.are before.light taken.frames_before image may)
+            | inr with_it ↦ sound_of s cone history (t.listing.events ++ item ∷ []) a.rows false (logged ++ one ∷ []) (next_gate log.gate payload) before.valid
+                (subst (λ n. IsAt t.listing.settings n a.rows) (sym long) rows_at) (partway_more t.listing.settings history t.listing.events item partway)
+                (λ never. absurd (false≢true never)) next.is named_then image journal with_it (beside (t.listing.events ++ item ∷ []) a.rows before.valid rows_are all_light frames_new image may)
           ]
 
       -- and after it
@@ -243,11 +250,11 @@ module _ (leaves : Files → Type 0) (seen : Files) (history : List Packet) (t a
       up_flushed after seen_after log_after now named_is places_are stands journal_settled log_settled =
           let s = t.listing.settings in
           let cone = t.listing.cone in
-          let last : last_flush s (length (t.listing.events ++ key ∷ [])) ≡ length (t.listing.events ++ key ∷ []) =
+          let last : last_flush s (length (t.listing.events ++ item ∷ [])) ≡ length (t.listing.events ++ item ∷ []) =
           ap (last_flush s) long ∙ ap (λ b. cond b (last_flush s (length t.listing.events)) (suc (length t.listing.events))) (ne_eqb (edge s 0 (suc (length t.listing.events))) (edge s 0
           (length t.listing.events)) moves_here) ∙ sym long in
           let listed : listed_in (logged ++ one ∷ []) ≡ a.due.reports =
-          next.is.reports_are ∙ ap (look s) (take_all (last_flush s (length (t.listing.events ++ key ∷ []))) (t.listing.events ++ key ∷ []) (omega (arith, last))) ∙ sym looked in
+          next.is.reports_are ∙ ap (look_of weighed s) (take_all (last_flush s (length (t.listing.events ++ item ∷ []))) (t.listing.events ++ item ∷ []) (omega (arith, last))) ∙ sym looked in
           record {
             logged = logged ++ one ∷ [];
             log_of = log_as a.rows (logged ++ one ∷ []) next.is;
@@ -260,7 +267,7 @@ module _ (leaves : Files → Type 0) (seen : Files) (history : List Packet) (t a
                 after log_after.gate now stands image may);
             frames = λ image may. of_listing (λ s cone events closed. HoldsBins s written events a.rows (image 2))
                 (frames_beside leaves since seen s cone history logged one log.gate payload taken.read taken.journal taken.journal_settled taken.log_there next.is.rules payload_here others earlier
-                (t.listing.events ++ key ∷ []) a.rows before.valid rows_are frames_new image (now image may));
+                (t.listing.events ++ item ∷ []) a.rows before.valid rows_are all_light frames_new image (now image may));
             journal_settled = journal_settled;
             log_settled = log_settled;
             reports_are = taken.reports_are;
@@ -292,18 +299,18 @@ module _ {B : Type 0} (bays : Bays B) (lawful : IsLawful bays) (bay bay_after : 
   frames_kept : (from to : ℕ) → InNamed t.listing.settings written t.rows from to → IsSettled (bays.leaves bay) seen 2 from to → Keeps (bays.left_since bay_after (bays.moment bay)) seen 2 from to
   frames_kept from to named settled = rest.settled seen told 2 from to (inr named) settled
 
-  pub sound_rest : (more : List ℕ) → IsPartway t.listing.settings history t.listing.events more → (image : Files) → bays.left_since bay_after (bays.moment bay) image →
+  pub sound_rest : (more : List Item) → IsPartway t.listing.settings history t.listing.events more → (image : Files) → bays.left_since bay_after (bays.moment bay) image →
       IsSound t.listing.settings t.listing.cone history image
   sound_rest more partway = sound_here (bays.leaves bay) (bays.left_since bay_after (bays.moment bay)) seen history t log counted up (lawful.as_read bay seen told) journal_kept log_kept
       frames_kept still
       (partway_less t.listing.settings history t.listing.events more partway)
 
-  pub taken_of : (a : Tallied) (key : ℕ) → a.listing ≡ record t.listing { events = t.listing.events ++ key ∷ [] } → (after : Files) → bays.files bay_after ≡ Some after →
+  pub taken_of : (a : Tallied) (item : Item) → a.listing ≡ record t.listing { events = t.listing.events ++ item ∷ [] } → (after : Files) → bays.files bay_after ≡ Some after →
       bays.leaves bay_after after →
       InEach (bays.leaves bay_after) 2 (HoldsBins a.listing.settings written a.listing.events a.rows) → a.due.reports ≡ reports_of a.listing →
       (places : Places) → ArePlacesIn history places → places.settings ≡ t.listing.settings → places.passed ≡ suc (length t.listing.events) → places.from ≡ log.places.from →
-      IsTaken (bays.leaves bay_after) after history t a (record log { places = places }) up.logged key
-  taken_of a key listing_is after told_after read_after frames reports places placed same passed from_is = record {
+      IsTaken (bays.leaves bay_after) after history t a (record log { places = places }) up.logged item
+  taken_of a item listing_is after told_after read_after frames reports places placed same passed from_is = record {
     log_of = subst (λ closed. IsLogOf t.listing.settings t.listing.cone t.listing.events t.rows closed up.logged) still up.log_of;
     named_is = up.named_is;
     listing_is = listing_is;
@@ -332,7 +339,7 @@ module _ {B : Type 0} (bays : Bays B) (lawful : IsLawful bays) (bay bay_after : 
 -- ---- keys in turn
 
 -- what goes together with memory is sound
-pub sound_now : (leaves : Files → Type 0) (seen : Files) (history : List Packet) (t : Tallied) (log : LogPlace) (more : List ℕ) → IsCounted t → t.listing.closed ≡ false →
+pub sound_now : (leaves : Files → Type 0) (seen : Files) (history : List Packet) (t : Tallied) (log : LogPlace) (more : List Item) → IsCounted t → t.listing.closed ≡ false →
     IsInStep leaves seen history t.listing t.rows t.due.reports log →
     IsPartway t.listing.settings history t.listing.events more → (image : Files) → leaves image → IsSound t.listing.settings t.listing.cone history image
 sound_now leaves seen history t log more counted still up partway image may =
@@ -340,7 +347,7 @@ sound_now leaves seen history t log more counted still up partway image may =
     (partway_less t.listing.settings history t.listing.events more partway)
     (λ ended. absurd (false≢true (sym still ∙ ended))) up.log_of up.begins image (up.journal image may) (up.log_there image may) (up.frames image may)
 
--- in each image of each moment of a key behind others: either it was left before, or since the key began
+-- in each image of each moment of an item behind others: either it was left before, or since the item began
 pub sound_behind : (listing first : Listing) (history : List Packet) (image : Files) → listing.settings ≡ first.settings → listing.cone ≡ first.cone →
     IsSound listing.settings listing.cone history image → IsSound first.settings first.cone history image
 sound_behind listing first history image settings cone sound = subst (λ n. IsSound first.settings n history image) cone

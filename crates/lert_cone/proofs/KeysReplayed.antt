@@ -1,4 +1,7 @@
 -- Keys of a journal that are taken again: all are counted again, or others stand behind those.
+use Rattle.lert_spec.specs.Items.{most_weight}
+use Rattle.lert_cone.specs.History.{written}
+use Rattle.lert_spec.specs.declared.item.Item.{Item}
 use Rattle.std.proofs.Common.{◌≡◌, ℕ, ◌+◌, ◌-◌, ◌<◌, ◌≤◌, Bool, true, false, List, ◌++◌, All, length, take, drop, min, max, Result, Ok, refl, sym, ap, ◌∙◌, subst, arith, length-append, length-take}
 use Rattle.std.proofs.{Common.{length-drop, append_assoc}, lemmas.List.{take_all, take-append-drop}, lemmas.List.Elements.All-drop}
 use Rattle.lert_base.specs.Packet.{Packet}
@@ -8,7 +11,7 @@ use Rattle.lert_reports.specs.Log.{most_record}
 use Rattle.lert_spec.specs.{declared.numbers.Numbers.Numbers, Edges.capacity, Mix.cone_of}
 use Rattle.lert_cone.specs.{declared.journal_places.JournalPlace.JournalPlace, declared.tally.TakeFault.TakeFault, Due.Dues, KeepsLog.{KeepsLogOf, LogHead}, Framed.{HoldsSome, last_flush}}
 use Rattle.lert_cone.specs.{Listing.Listing, JournalPlaces.{ArePlacesIn, AreOfRecord, HasPassed, Places}, Record.LogPlace, Replay.IsOnWay}
-use Rattle.lert_cone.specs.{Takes.{work_at, Workplace, AreNext, CanLog, CanTake, CanReplay, TakesKeys, ReplaysKeys, replayed_head, taken_head}, Tally.{Tallied, IsRecounted}}
+use Rattle.lert_cone.specs.{Takes.{work_at, Workplace, AreNext, CanLog, CanTake, CanReplay, TakesItems, ReplaysItems, replayed_head, taken_head}, Tally.{Tallied, IsRecounted}}
 use Rattle.lert_bay.proofs.KeptLaws.{IsLawful, keeps_none}
 use Rattle.lert_cone.proofs.{Calls.alone_none, KeepsLogSteps.{log_as, log_none}, KeysTaken.map_ok, KeyStep.sound_behind, JournalPlaceLaws.record_part, RecountLaws.recounted_behind}
 use Rattle.lert_cone.proofs.{ReplayLaws.{on_way_places, sound_recounted}, ReplayStep.{way_counted, way_in_step, way_partway, way_taken, enough_counted, told_once}, SomeLaws.some_counted}
@@ -18,14 +21,14 @@ never_true : (b : Bool) → (b ≡ true → ⊥) → b ≡ false
 never_true true never = absurd (never refl)
 never_true false never = refl
 
--- `counts` is what the cone counted once the first keys are counted again, and nothing else changed
-module _ {B : Type 0} {bays : Bays B} (lawful : IsLawful bays) (place : JournalPlace) {old : Workplace B} {n0 count : ℕ} {keys front back : List ℕ} (can : CanReplay bays n0 keys old)
+-- `counts` is what the cone counted once the first items are counted again, and nothing else changed
+module _ {B : Type 0} {bays : Bays B} (lawful : IsLawful bays) (place : JournalPlace) {old : Workplace B} {n0 count : ℕ} {keys front back : List Item} (can : CanReplay bays n0 keys old)
     (front_is : front ≡ take count keys) (back_is : back ≡ drop count keys) (count_is : count ≡ min (n0 - length old.counts.listing.events) (length keys)) {counts : Tallied}
     (front_taken : counts.listing ≡ record old.counts.listing { events = old.counts.listing.events ++ front })
     (rows_are : counts.rows ≡ old.counts.rows) (due_is : counts.due ≡ old.counts.due) (recounted : IsRecounted counts n0) {at : ℕ} {places : Places} {log_mid : LogPlace}
     (at_is : at ≡ length counts.listing.events) (passed : HasPassed at place old.log.places places) (rest_is : log_mid ≡ record old.log { places = places }) where
   listing_is : counts.listing ≡ record old.counts.listing { events = old.counts.listing.events ++ take count keys }
-  listing_is = front_taken ∙ ap (λ (ks : List ℕ). record old.counts.listing { events = old.counts.listing.events ++ ks }) front_is
+  listing_is = front_taken ∙ ap (λ (ks : List Item). record old.counts.listing { events = old.counts.listing.events ++ ks }) front_is
 
   over : HasPassed (length counts.listing.events) place old.log.places places
   over = subst (λ n. HasPassed n place old.log.places places) at_is passed
@@ -55,7 +58,7 @@ module _ {B : Type 0} {bays : Bays B} (lawful : IsLawful bays) (place : JournalP
     log_shut = can.can_log.log_shut;
   }
 
-  -- the keys that were counted are of the record, and those that are left
+  -- the items that were counted are of the record, and those that are left
   placed : (history : List Packet) → AreNext history place old keys → ArePlacesIn history old.log.places → ArePlacesIn history places
   placed history next = over.places history
       (record_part history place (length old.counts.listing.events) (length old.counts.listing.events + length keys) old.log.places.passed (length counts.listing.events)
@@ -74,14 +77,14 @@ module _ {B : Type 0} {bays : Bays B} (lawful : IsLawful bays) (place : JournalP
       on_way_places (bays.leaves old.bay) seen history old.counts.listing old.counts.rows old.counts.due.reports old.log n0 on_way places (placed history next on_way.in_step.placed)
       over.from
 
-  -- all keys are counted again
-  pub all_again : length back ≡ 0 → ReplaysKeys bays n0 place keys old (work_at old.bay counts log_mid old.room) (Ok tt)
+  -- all items are counted again
+  pub all_again : length back ≡ 0 → ReplaysItems bays n0 place keys old (work_at old.bay counts log_mid old.room) (Ok tt)
   all_again empty =
-      let none : length (drop count keys) ≡ 0 = ap (length {A = ℕ}) (sym back_is) ∙ empty in
+      let none : length (drop count keys) ≡ 0 = ap (length {A = Item}) (sym back_is) ∙ empty in
       let whole : take count keys ≡ keys = take_all count keys (omega (arith, none, length-drop count keys)) in
       let events_are : counts.listing.events ≡ old.counts.listing.events ++ take count keys = ap (λ (l : Listing). l.events) listing_is in
-      subst (λ (l : LogPlace). ReplaysKeys bays n0 place keys old (work_at old.bay counts l old.room) (Ok tt)) (sym rest_is) (record {
-        listing = listing_is ∙ ap (λ (ks : List ℕ). record old.counts.listing { events = ks })
+      subst (λ (l : LogPlace). ReplaysItems bays n0 place keys old (work_at old.bay counts l old.room) (Ok tt)) (sym rest_is) (record {
+        listing = listing_is ∙ ap (λ (ks : List Item). record old.counts.listing { events = ks })
             (sym events_are);
         taken = events_are ∙ ap (λ ks. old.counts.listing.events ++ ks) whole;
         recounted = recounted;
@@ -120,13 +123,13 @@ module _ {B : Type 0} {bays : Bays B} (lawful : IsLawful bays) (place : JournalP
   -- others stand behind those
   module _ (some_back : 0 < length back) where
     some : 0 < length (drop count keys)
-    some = omega (arith, some_back, ap (length {A = ℕ}) back_is)
+    some = omega (arith, some_back, ap (length {A = Item}) back_is)
 
     enough : n0 ≤ length counts.listing.events
     enough = enough_counted old.counts counts n0 count keys count_is some listing_is
 
     pub can_take_ahead : CanTake bays back (work_at old.bay counts log_mid old.room)
-    can_take_ahead = subst (λ (ks : List ℕ). CanTake bays ks (work_at old.bay counts log_mid old.room)) (sym back_is)
+    can_take_ahead = subst (λ (ks : List Item). CanTake bays ks (work_at old.bay counts log_mid old.room)) (sym back_is)
         (subst (λ (l : LogPlace). CanTake bays (drop count keys) (work_at old.bay counts l old.room)) (sym rest_is) (record {
           still = never_true counts.listing.closed (λ closed. absurd (omega (
             arith,
@@ -138,22 +141,23 @@ module _ {B : Type 0} {bays : Bays B} (lawful : IsLawful bays) (place : JournalP
             length-take count keys,
             length-drop count keys,
           )));
-          own = subst (λ (l : Listing). All (λ key. cone_of l.settings key ≡ l.cone) (drop count keys)) (sym listing_is)
-              (All-drop (λ key. cone_of old.counts.listing.settings key ≡ old.counts.listing.cone) count keys can.own);
+          own = subst (λ (l : Listing). All (λ item. cone_of l.settings item.key ≡ l.cone) (drop count keys)) (sym listing_is)
+              (All-drop (λ item. cone_of old.counts.listing.settings item.key ≡ old.counts.listing.cone) count keys can.own);
+          light = All-drop (λ (item : Item). (1 ≤ item.weight) × (item.weight ≤ most_weight written)) count keys can.light;
           fits = subst (λ (l : Listing). length l.events + length (drop count keys) ≤ capacity l.settings) (sym listing_is)
               (omega (arith, can.fits, length-append old.counts.listing.events (take count keys), length-take count keys, length-drop count keys, some));
           counted = recounted.behind enough;
           can_log = can_log_then;
         }))
 
-    pub others_ahead : {new : Workplace B} {result : Result (Unit {0}) TakeFault} → TakesKeys bays place back (work_at old.bay counts log_mid old.room) new result →
-        ReplaysKeys bays n0 place keys old new result
+    pub others_ahead : {new : Workplace B} {result : Result (Unit {0}) TakeFault} → TakesItems bays place back (work_at old.bay counts log_mid old.room) new result →
+        ReplaysItems bays n0 place keys old new result
     others_ahead {new = new} {result = result} takes =
-        let did = subst (λ (ks : List ℕ). TakesKeys bays place ks (work_at old.bay counts log_then old.room) new result) back_is
-        (subst (λ (l : LogPlace). TakesKeys bays place back (work_at old.bay counts l old.room) new result) rest_is takes) in
+        let did = subst (λ (ks : List Item). TakesItems bays place ks (work_at old.bay counts log_then old.room) new result) back_is
+        (subst (λ (l : LogPlace). TakesItems bays place back (work_at old.bay counts l old.room) new result) rest_is takes) in
         let up_to : max n0 (length old.counts.listing.events) ≡ length counts.listing.events = omega (arith, count_is, counted, enough, length-take count keys) in
-        let then_most : (ks : List ℕ) → ks ≡ counts.listing.events ++ drop count keys → length ks ≡ max n0 (length ks) =
-        λ ks is. (let long : length ks ≡ length counts.listing.events + length (drop count keys) = ap (length {A = ℕ}) is ∙ length-append counts.listing.events (drop count keys) in omega
+        let then_most : (ks : List Item) → ks ≡ counts.listing.events ++ drop count keys → length ks ≡ max n0 (length ks) =
+        λ ks is. (let long : length ks ≡ length counts.listing.events + length (drop count keys) = ap (length {A = Item}) is ∙ length-append counts.listing.events (drop count keys) in omega
         (arith, long, enough)) in
         record {
           listing = did.listing ∙ ap (λ (l : Listing). record l { events = new.counts.listing.events }) listing_is;
@@ -162,7 +166,7 @@ module _ {B : Type 0} {bays : Bays B} (lawful : IsLawful bays) (place : JournalP
               ∙ ap (λ ks. old.counts.listing.events ++ ks) (take-append-drop count keys)) did.taken;
           recounted = on_ok _ _ (IsRecounted new.counts n0) result did.counted did.taken
               (λ now (took : new.counts.listing.events ≡ counts.listing.events ++ drop count keys). recounted_behind new.counts n0 now
-              (omega (arith, enough, ap (length {A = ℕ}) took, length-append counts.listing.events (drop count keys))));
+              (omega (arith, enough, ap (length {A = Item}) took, length-append counts.listing.events (drop count keys))));
           can_log = did.can_log;
           on_way = λ seen told history rest is next on_way.
               let step = way_in_step (bays.leaves old.bay) seen history old.counts counts log_then n0 count keys rest (turned seen history next on_way) is early listing_is rows_are due_is enough in
@@ -172,7 +176,7 @@ module _ {B : Type 0} {bays : Bays B} (lawful : IsLawful bays) (place : JournalP
               way_taken (bays.leaves old.bay) seen history old.counts counts log_then n0 count keys rest (turned seen history next on_way) is early listing_is rows_are due_is enough
               (bays.leaves new.bay) after new.counts
               new.log
-              (did.listing ∙ ap (λ (ks : List ℕ). record counts.listing { events = ks }) took)
+              (did.listing ∙ ap (λ (ks : List Item). record counts.listing { events = ks }) took)
               (up after told_after));
           sound = λ seen told history rest is next on_way.
               did.sound seen told history (next_ahead history next)

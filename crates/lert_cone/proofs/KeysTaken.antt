@@ -1,4 +1,8 @@
 -- Keys in turn: none, one more, and one that isn't taken.
+use Rattle.lert_spec.specs.Items.{most_weight}
+use Rattle.lert_cone.specs.History.{written}
+use Rattle.lert_spec.specs.declared.item.Item.{Item}
+use Rattle.lert_spec.specs.Items.{unit}
 use Rattle.std.proofs.Common.{◌≡◌, ℕ, ◌+◌, ◌<◌, ◌≤◌, List, [], ◌∷◌, ◌++◌, All, length, take, drop, get_or, Result, Ok, Err, OnOk, refl, sym, ap, ◌∙◌, subst, inl, inr, arith, length-append}
 use Rattle.std.proofs.{Common.{append_assoc, append-nil, length-take}, lemmas.List.{take_all, take_more, take-append-drop}, lemmas.List.Elements.{All-nil, All-cons}, lemmas.Option.same_Some}
 use Rattle.std.specs.Result.{IsErrAnd}
@@ -6,7 +10,7 @@ use Rattle.lert_base.specs.Packet.{Packet}
 use Rattle.lert_bay.specs.{Files.Files, Kept.Bays}
 use Rattle.lert_spec.specs.{declared.numbers.Numbers.Numbers, Edges.capacity, Mix.cone_of}
 use Rattle.lert_cone.specs.{declared.journal_places.JournalPlace.JournalPlace, declared.tally.TakeFault.TakeFault, Framed.{HoldsSome, last_flush}, InStep.IsPartway, KeepsLog.KeepsLogOf}
-use Rattle.lert_cone.specs.{Listing.Listing, Takes.{Workplace, CanTake, AreInStep, AreNext, TakesKeys, taken_head}}
+use Rattle.lert_cone.specs.{Listing.Listing, Takes.{Workplace, CanTake, AreInStep, AreNext, TakesItems, taken_head}}
 use Rattle.lert_bay.proofs.KeptLaws.{IsLawful, keeps_none, keeps_on}
 use Rattle.lert_cone.proofs.{Calls.{alone_none, alone_on}, KeepsLogSteps.{log_none, log_on}, KeyStep.{sound_now, sound_behind}, FlushLaws.last_flush_grows, JournalPlaceLaws.record_part}
 use Rattle.lert_cone.proofs.TakeLaws.{handed_on}
@@ -18,27 +22,27 @@ map_ok (Err fault) goes holds = tt
 
 -- ---- keys still to come
 
-partway_front : (s : Numbers) (history : List Packet) (events front back : List ℕ) → IsPartway s history events (front ++ back) → IsPartway s history events front
+partway_front : (s : Numbers) (history : List Packet) (events front back : List Item) → IsPartway s history events (front ++ back) → IsPartway s history events front
 partway_front s history events front back partway = record {
   rest = back ++ partway.rest;
   is = partway.is ∙ ap (λ keys. events ++ keys) (append_assoc front back partway.rest);
   late = partway.late;
 }
 
-partway_back : (s : Numbers) (history : List Packet) (events front back : List ℕ) → IsPartway s history events (front ++ back) → IsPartway s history (events ++ front) back
+partway_back : (s : Numbers) (history : List Packet) (events front back : List Item) → IsPartway s history events (front ++ back) → IsPartway s history (events ++ front) back
 partway_back s history events front back partway = record {
   rest = partway.rest;
   is = partway.is ∙ ap (λ keys. events ++ keys) (append_assoc front back partway.rest) ∙ sym (append_assoc events front (back ++ partway.rest));
   late = omega (arith, partway.late, last_flush_grows s (length events) (length (events ++ front)) (omega (arith, length-append events front)));
 }
 
--- where no flush position lies among some keys none lies among the first of them
-front_passed : (s : Numbers) (n : ℕ) (front back : List ℕ) → last_flush s (n + length (front ++ back)) ≤ n → last_flush s (n + length front) ≤ n
+-- where no flush position lies among some items none lies among the first of them
+front_passed : (s : Numbers) (n : ℕ) (front back : List Item) → last_flush s (n + length (front ++ back)) ≤ n → last_flush s (n + length front) ≤ n
 front_passed s n front back passed = omega (arith, passed, last_flush_grows s (n + length front) (n + length (front ++ back)) (omega (arith, length-append front back)))
 
 module _ {B : Type 0} {bays : Bays B} (lawful : IsLawful bays) (place : JournalPlace) where
-  -- no key
-  pub takes_none : {at : Workplace B} {keys : List ℕ} → CanTake bays keys at → TakesKeys bays place [] at at (Ok tt)
+  -- no item
+  pub takes_none : {at : Workplace B} {keys : List Item} → CanTake bays keys at → TakesItems bays place [] at at (Ok tt)
   takes_none {at = at} can = record {
     listing = refl;
     taken = sym (append-nil at.counts.listing.events);
@@ -61,22 +65,22 @@ module _ {B : Type 0} {bays : Bays B} (lawful : IsLawful bays) (place : JournalP
     };
   }
 
-  -- the first of some keys are of the record, too
-  next_front : (at : Workplace B) (front back : List ℕ) (history : List Packet) → AreNext history place at (front ++ back) → AreNext history place at front
+  -- the first of some items are of the record, too
+  next_front : (at : Workplace B) (front back : List Item) (history : List Packet) → AreNext history place at (front ++ back) → AreNext history place at front
   next_front at front back history next =
       record_part history place (length at.counts.listing.events) (length at.counts.listing.events + length (front ++ back)) (length at.counts.listing.events)
       (length at.counts.listing.events + length front) (omega arith) (omega (arith, length-append front back)) next
 
   -- some, and then others
-  module _ {old mid new : Workplace B} {front back : List ℕ} {result : Result (Unit {0}) TakeFault} (first : TakesKeys bays place front old mid (Ok tt))
-      (second : TakesKeys bays place back mid new result)
+  module _ {old mid new : Workplace B} {front back : List Item} {result : Result (Unit {0}) TakeFault} (first : TakesItems bays place front old mid (Ok tt))
+      (second : TakesItems bays place back mid new result)
     where
       mid_is : mid.counts.listing ≡ record old.counts.listing { events = old.counts.listing.events ++ front }
-      mid_is = first.listing ∙ ap (λ (keys : List ℕ). record old.counts.listing { events = keys })
+      mid_is = first.listing ∙ ap (λ (keys : List Item). record old.counts.listing { events = keys })
           first.taken
 
       mid_long : length mid.counts.listing.events ≡ length old.counts.listing.events + length front
-      mid_long = ap (length {A = ℕ}) first.taken ∙ length-append old.counts.listing.events front
+      mid_long = ap (length {A = Item}) first.taken ∙ length-append old.counts.listing.events front
 
       back_passed : last_flush old.counts.listing.settings (length old.counts.listing.events + length (front ++ back)) ≤ length old.counts.listing.events →
           last_flush mid.counts.listing.settings (length mid.counts.listing.events + length back) ≤ length mid.counts.listing.events
@@ -90,11 +94,11 @@ module _ {B : Type 0} {bays : Bays B} (lawful : IsLawful bays) (place : JournalP
           record_part history place (length old.counts.listing.events) (length old.counts.listing.events + length (front ++ back)) (length mid.counts.listing.events)
           (length mid.counts.listing.events + length back) (omega (arith, mid_long)) (omega (arith, mid_long, length-append front back)) next
 
-      pub takes_more : TakesKeys bays place (front ++ back) old new result
+      pub takes_more : TakesItems bays place (front ++ back) old new result
       takes_more = record {
         listing = second.listing ∙ ap (λ (l : Listing). record l { events = new.counts.listing.events }) first.listing;
         taken = map_ok result (λ (took : new.counts.listing.events ≡ mid.counts.listing.events ++ back).
-            took ∙ ap (λ (keys : List ℕ). keys ++ back) first.taken ∙ append_assoc old.counts.listing.events front back) second.taken;
+            took ∙ ap (λ (keys : List Item). keys ++ back) first.taken ∙ append_assoc old.counts.listing.events front back) second.taken;
         counted = second.counted;
         can_log = second.can_log;
         in_step = λ seen told history next up.
@@ -132,8 +136,9 @@ module _ {B : Type 0} {bays : Bays B} (lawful : IsLawful bays) (place : JournalP
         };
       }
 
-  -- where a key isn't taken no other is
-  takes_fewer : {old new : Workplace B} {front : List ℕ} {fault : TakeFault} (back : List ℕ) → TakesKeys bays place front old new (Err fault) → TakesKeys bays place (front ++ back) old new (Err fault)
+  -- where an item isn't taken no other is
+  takes_fewer : {old new : Workplace B} {front : List Item} {fault : TakeFault} (back : List Item) → TakesItems bays place front old new (Err fault) → TakesItems bays place (front ++ back) old
+      new (Err fault)
   takes_fewer {old = old} {front = front} back did = record {
     listing = did.listing;
     taken = tt;
@@ -152,35 +157,38 @@ module _ {B : Type 0} {bays : Bays B} (lawful : IsLawful bays) (place : JournalP
 
   -- ---- a list of keys, up to a place
 
-  module _ {old mid : Workplace B} (keys : List ℕ) (i : ℕ) (first : TakesKeys bays place (take i keys) old mid (Ok tt)) where
-    pub next_can : CanTake bays keys old → i < length keys → CanTake bays (get_or keys i 0 ∷ []) mid
+  module _ {old mid : Workplace B} (keys : List Item) (i : ℕ) (first : TakesItems bays place (take i keys) old mid (Ok tt)) where
+    pub next_can : CanTake bays keys old → i < length keys → CanTake bays (get_or keys i (unit 0) ∷ []) mid
     next_can can within =
-        let is = first.listing ∙ ap (λ (ks : List ℕ). record old.counts.listing { events = ks })
+        let is = first.listing ∙ ap (λ (ks : List Item). record old.counts.listing { events = ks })
         first.taken in
         record {
           still = ap (λ (l : Listing). l.closed) is ∙ can.still;
-          own = subst (λ (l : Listing). All (λ key. cone_of l.settings key ≡ l.cone) (get_or keys i 0 ∷ [])) (sym is)
-              (All-cons (λ key. cone_of old.counts.listing.settings key ≡ old.counts.listing.cone) (get_or keys i 0) [] (can.own i 0 within) (All-nil
-              (λ key. cone_of old.counts.listing.settings key ≡ old.counts.listing.cone)));
+          own = subst (λ (l : Listing). All (λ item. cone_of l.settings item.key ≡ l.cone) (get_or keys i (unit 0) ∷ [])) (sym is)
+              (All-cons (λ item. cone_of old.counts.listing.settings item.key ≡ old.counts.listing.cone) (get_or keys i (unit 0)) [] (can.own i (unit 0) within) (All-nil
+              (λ item. cone_of old.counts.listing.settings item.key ≡ old.counts.listing.cone)));
+          light = All-cons (λ (item : Item). (1 ≤ item.weight) × (item.weight ≤ most_weight written)) (get_or keys i (unit 0)) [] (can.light i (unit 0) within)
+              (All-nil (λ (item : Item). (1 ≤ item.weight) × (item.weight ≤ most_weight written)));
           fits = subst (λ (l : Listing). length l.events + 1 ≤ capacity l.settings) (sym is)
               (omega (arith, can.fits, within, length-append old.counts.listing.events (take i keys), length-take i keys));
           counted = first.counted;
           can_log = first.can_log;
         }
 
-    pub next_takes : {new : Workplace B} → i < length keys → TakesKeys bays place (get_or keys i 0 ∷ []) mid new (Ok tt) → TakesKeys bays place (take (i + 1) keys) old new (Ok tt)
+    pub next_takes : {new : Workplace B} → i < length keys → TakesItems bays place (get_or keys i (unit 0) ∷ []) mid new (Ok tt) → TakesItems bays place (take (i + 1) keys) old new (Ok tt)
     next_takes {new = new} within second =
-        subst (λ (front : List ℕ). TakesKeys bays place front old new (Ok tt)) (sym (take_more keys i 0 within)) (takes_more first second)
+        subst (λ (front : List Item). TakesItems bays place front old new (Ok tt)) (sym (take_more keys i (unit 0) within)) (takes_more first second)
 
     pub next_refused : {new : Workplace B} {result given : Result (Unit {0}) TakeFault} {fault : TakeFault} → i < length keys → result ≡ Err fault →
-        TakesKeys bays place (get_or keys i 0 ∷ []) mid new result → IsErrAnd given (λ g. g ≡ fault) → TakesKeys bays place keys old new given
+        TakesItems bays place (get_or keys i (unit 0) ∷ []) mid new result → IsErrAnd given (λ g. g ≡ fault) → TakesItems bays place keys old new given
     next_refused {new = new} {given = given} {fault = fault} within is second given_is =
-        let failed : TakesKeys bays place (get_or keys i 0 ∷ []) mid new (Err fault) = subst (λ (r : Result (Unit {0}) TakeFault). TakesKeys bays place (get_or keys i 0 ∷ []) mid new r) is second in
-        let split : (take i keys ++ get_or keys i 0 ∷ []) ++ drop (i + 1) keys ≡ keys = ap (λ front. front ++ drop (i + 1) keys) (sym (take_more keys i 0 within))
+        let failed : TakesItems bays place (get_or keys i (unit 0) ∷ []) mid new (Err fault) = subst (λ (r : Result (Unit {0}) TakeFault). TakesItems bays place (get_or keys i (unit 0) ∷ []) mid
+        new r) is second in
+        let split : (take i keys ++ get_or keys i (unit 0) ∷ []) ++ drop (i + 1) keys ≡ keys = ap (λ front. front ++ drop (i + 1) keys) (sym (take_more keys i (unit 0) within))
         ∙ take-append-drop (i + 1) keys in
-        subst (λ (r : Result (Unit {0}) TakeFault). TakesKeys bays place keys old new r) (handed_on given fault given_is)
-        (subst (λ (all : List ℕ). TakesKeys bays place all old new (Err fault)) split
+        subst (λ (r : Result (Unit {0}) TakeFault). TakesItems bays place keys old new r) (handed_on given fault given_is)
+        (subst (λ (all : List Item). TakesItems bays place all old new (Err fault)) split
         (takes_fewer (drop (i + 1) keys) (takes_more first failed)))
 
-    pub all_taken : length keys ≤ i → TakesKeys bays place keys old mid (Ok tt)
-    all_taken over = subst (λ (all : List ℕ). TakesKeys bays place all old mid (Ok tt)) (take_all i keys over) first
+    pub all_taken : length keys ≤ i → TakesItems bays place keys old mid (Ok tt)
+    all_taken over = subst (λ (all : List Item). TakesItems bays place all old mid (Ok tt)) (take_all i keys over) first

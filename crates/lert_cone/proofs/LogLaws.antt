@@ -1,4 +1,6 @@
 -- The records of a cone's log as events come: none at first, one more at each flush, and the closing one.
+use Rattle.lert_spec.specs.Counts.{weighed}
+use Rattle.lert_spec.specs.declared.item.Item.{Item}
 use Rattle.std.proofs.Common.{ℕ, zero, suc, ◌≡◌, ◌≢◌, ◌+◌, ◌-◌, ◌*◌, ◌/◌, ◌<◌, ◌≤◌, Bool, true, false, ltb, List, [], ◌∷◌, ◌++◌, length, take, drop, get_or, map, min, max, All, refl, ap, sym, ◌∙◌}
 use Rattle.std.proofs.{Common.{arith, inl, inr, subst, length-append, append_assoc}, Math.Numerals.add-one, Math.Seq.drop-append_seam}
 use Rattle.std.proofs.{lemmas.List.{append-nil, length-map, take-append-le, take_all, get_or-map, get_or_at, get_or-append-add}, lemmas.List.Elements.All-map, lemmas.List.Folds.flat_map-map}
@@ -8,8 +10,8 @@ use Rattle.lert_levels.specs.{declared.rows.bin_at.BinAt.BinAt, rows.Ranges.{Ran
 use Rattle.lert_reports.specs.{declared.log.LogKind.LogKind, Log.{AreRecords, is_closed, last_n0, last_at, listed_in, before_of, flushes_in}, LogRules.{IsInTurn, AreFrames, AreNew, KeepsRules}}
 use Rattle.lert_reports.specs.LogText.{LogRecord, bin_count, directory_bytes, log_payload, log_payload_of, next_flush}
 use Rattle.lert_reports.proofs.LogLaws.{records_none, records_more, ends, listed_in-push, last_n0-push, is_closed-push, last_directory-push, last_at-push}
-use Rattle.lert_spec.specs.{declared.numbers.Numbers.Numbers, declared.report.Report.Report, Edges.{span, edge, capacity}, Limits.IsValid, Look.{look, closing}}
-use Rattle.lert_spec.proofs.{LookLaws.AreKeys, TailLaws.AreOfCone}
+use Rattle.lert_spec.specs.{declared.numbers.Numbers.Numbers, declared.report.Report.Report, Edges.{span, edge, capacity}, Limits.IsValid, Look.{look_of, closing_of}}
+use Rattle.lert_spec.proofs.{LookLaws.HaveKeys, TailLaws.IsPartOf}
 use Rattle.lert_cone.specs.{declared.journal_places.JournalPlace.JournalPlace, Framed.{last_flush, flushed}, Logged.{frames_of, next_record, IsLogOf}, JournalPlaces.MayName}
 use Rattle.lert_cone.proofs.FlushLaws.{before_next, flush_stays, flush_there, flushes_are, flushes_at, last_flush_within, longer}
 use Rattle.lert_cone.proofs.MadeReports.{AreReports, BeginsWith, IsReport, apart, closing_are, closing_begins, count_map, flushed_begin, look_are}
@@ -45,20 +47,20 @@ log_none s cone = record {
   reports_are = refl;
 }
 
-pub log_between : (s : Numbers) (cone : ℕ) (events : List ℕ) (key : ℕ) (rows : List (List BinAt)) (records : List LogRecord) →
-    edge s 0 (suc (length events)) ≡ edge s 0 (length events) → IsLogOf s cone events rows false records → IsLogOf s cone (events ++ key ∷ []) rows false records
-log_between s cone events key rows records stays is =
+pub log_between : (s : Numbers) (cone : ℕ) (events : List Item) (item : Item) (rows : List (List BinAt)) (records : List LogRecord) →
+    edge s 0 (suc (length events)) ≡ edge s 0 (length events) → IsLogOf s cone events rows false records → IsLogOf s cone (events ++ item ∷ []) rows false records
+log_between s cone events item rows records stays is =
     let n = length events in
-    let all = events ++ key ∷ [] in
-    let last : last_flush s (length all) ≡ last_flush s n = ap (last_flush s) (longer events key) ∙ flush_stays s n stays in
+    let all = events ++ item ∷ [] in
+    let last : last_flush s (length all) ≡ last_flush s n = ap (last_flush s) (longer events item) ∙ flush_stays s n stays in
     let same : flushed s all ≡ flushed s events =
-    ap (λ k. take k all) last ∙ take-append-le (last_flush s n) events (key ∷ []) (last_flush_within s n) in
+    ap (λ k. take k all) last ∙ take-append-le (last_flush s n) events (item ∷ []) (last_flush_within s n) in
     record {
       rules = is.rules;
       closed_is = is.closed_is;
       n0_is = is.n0_is ∙ sym last;
       directory_is = is.directory_is;
-      reports_are = is.reports_are ∙ ap (look s) (sym same);
+      reports_are = is.reports_are ∙ ap (look_of weighed s) (sym same);
     }
 
 -- ---- the frames of a record
@@ -146,7 +148,7 @@ rest_is listed reports begun =
     ∙ sym begun.is
 
 -- a record that keeps the rules behind others, and what the log holds with it
-pub record LogsNext (s : Numbers) (cone : ℕ) (events : List ℕ) (rows : List (List BinAt)) (closed : Bool) (records : List LogRecord) (one : LogRecord) : Type 0 where
+pub record LogsNext (s : Numbers) (cone : ℕ) (events : List Item) (rows : List (List BinAt)) (closed : Bool) (records : List LogRecord) (one : LogRecord) : Type 0 where
   pub keeps : KeepsRules s cone (before_of records) one
   pub is : IsLogOf s cone events rows closed (records ++ one ∷ [])
 
@@ -184,24 +186,25 @@ module _ (s : Numbers) (valid : IsValid s) (cone : ℕ) (kind : LogKind) (n0 : �
   all_listed = listed_in-push records one ∙ whole
 
 -- a flush adds the record of the rows that it made, and lists the reports that were made up to there
-pub log_at_flush : (s : Numbers) (valid : IsValid s) (cone : ℕ) (events : List ℕ) (key : ℕ) (place : JournalPlace) (rows_before rows : List (List BinAt)) (records : List LogRecord)
+pub log_at_flush : (s : Numbers) (valid : IsValid s) (cone : ℕ) (events : List Item) (item : Item) (place : JournalPlace) (rows_before rows : List (List BinAt)) (records : List LogRecord)
     (reports : List Report) →
-    MayName s (suc (length events)) place → suc (length events) ≤ capacity s → edge s 0 (suc (length events)) ≢ edge s 0 (length events) → AreKeys (events ++ key ∷ []) → AreOfCone s cone
-    (events ++ key ∷ []) →
-    IsAt s (suc (length events)) rows → AreRows s rows → reports ≡ look s (events ++ key ∷ []) → length reports ≤ s.room → IsLogOf s cone events rows_before false records →
-    LogsNext s cone (events ++ key ∷ []) rows false records (next_record LogKind.Flush (suc (length events)) place rows records reports)
-log_at_flush s valid cone events key place rows_before rows records reports may within moves keys own at are_rows reports_are few is =
+    MayName s (suc (length events)) place → suc (length events) ≤ capacity s → edge s 0 (suc (length events)) ≢ edge s 0 (length events) → HaveKeys weighed (events ++ item ∷ []) → IsPartOf
+    weighed s cone
+    (events ++ item ∷ []) →
+    IsAt s (suc (length events)) rows → AreRows s rows → reports ≡ look_of weighed s (events ++ item ∷ []) → length reports ≤ s.room → IsLogOf s cone events rows_before false records →
+    LogsNext s cone (events ++ item ∷ []) rows false records (next_record LogKind.Flush (suc (length events)) place rows records reports)
+log_at_flush s valid cone events item place rows_before rows records reports may within moves keys own at are_rows reports_are few is =
     let n = length events in
-    let all = events ++ key ∷ [] in
+    let all = events ++ item ∷ [] in
     let one = next_record LogKind.Flush (suc n) place rows records reports in
     let positive : 1 ≤ s.threshold = omega (arith, valid.limits.threshold_from) in
-    let long = longer events key in
+    let long = longer events item in
     let last : last_flush s (length all) ≡ suc n = ap (last_flush s) long ∙ flush_there s n moves in
     let turn : suc n ≡ next_flush s (flushes_in records) = (flushes_at s valid n moves).place ∙ ap (next_flush s) (sym (flushes_are s valid cone events rows_before records is)) in
     let are : AreReports s cone (suc n) reports =
     subst (λ k. AreReports s cone k reports) long (subst (AreReports s cone (length all)) (sym reports_are) (look_are s all valid (omega (arith, within, long)) cone keys own)) in
     let begun : BeginsWith (listed_in records) reports =
-    subst (λ rs. BeginsWith rs reports) (sym is.reports_are) (subst (BeginsWith (look s (flushed s events))) (sym reports_are) (flushed_begin s events (key ∷ []) positive keys)) in
+    subst (λ rs. BeginsWith rs reports) (sym is.reports_are) (subst (BeginsWith (look_of weighed s (flushed s events))) (sym reports_are) (flushed_begin s events (item ∷ []) positive keys)) in
     let flushed_all : flushed s all ≡ all = take_all (last_flush s (length all)) all (omega (arith, last, long)) in
     record {
       keeps = keeps_rules s valid cone LogKind.Flush (suc n) place rows records reports may within turn at are_rows are few begun is.rules is.closed_is;
@@ -211,13 +214,14 @@ log_at_flush s valid cone events key place rows_before rows records reports may 
         n0_is = last_n0-push records one ∙ sym last;
         directory_is = last_directory-push s records one;
         reports_are = all_listed s valid cone LogKind.Flush (suc n) place rows records reports may within turn at are_rows are few begun is.rules is.closed_is ∙ reports_are
-            ∙ ap (look s) (sym flushed_all);
+            ∙ ap (look_of weighed s) (sym flushed_all);
       };
     }
 
 -- closing adds a record after all events, with the rows of the last flush, and lists all reports
-pub log_at_close : (s : Numbers) (valid : IsValid s) (cone : ℕ) (events : List ℕ) (place : JournalPlace) (rows : List (List BinAt)) (records : List LogRecord) (reports : List Report) →
-    MayName s (length events) place → length events ≤ capacity s → AreKeys events → AreOfCone s cone events → IsAt s (length events) rows → AreRows s rows → reports ≡ closing s events →
+pub log_at_close : (s : Numbers) (valid : IsValid s) (cone : ℕ) (events : List Item) (place : JournalPlace) (rows : List (List BinAt)) (records : List LogRecord) (reports : List Report) →
+    MayName s (length events) place → length events ≤ capacity s → HaveKeys weighed events → IsPartOf weighed s cone events → IsAt s (length events) rows → AreRows s rows → reports ≡ closing_of
+    weighed s events →
     length reports ≤ s.room →
     IsLogOf s cone events rows false records →
     LogsNext s cone events rows true records (next_record LogKind.Closing (length events) place rows records reports)
@@ -228,11 +232,12 @@ log_at_close s valid cone events place rows records reports may within keys own 
     let early : last_n0 records ≤ n = omega (arith, is.n0_is, last_flush_within s n) in
     let next : n < next_flush s (flushes_in records) = subst (λ k. n < next_flush s k) (sym (flushes_are s valid cone events rows records is)) (before_next s valid n) in
     let are : AreReports s cone n reports = subst (AreReports s cone n) (sym reports_are) (closing_are s events valid within cone keys own) in
-    let looked : BeginsWith (look s (flushed s events)) (look s events) =
-    subst (λ xs. BeginsWith (look s (flushed s events)) (look s xs)) (append-nil events) (flushed_begin s events [] positive (subst AreKeys (sym (append-nil events)) keys)) in
+    let looked : BeginsWith (look_of weighed s (flushed s events)) (look_of weighed s events) =
+    subst (λ xs. BeginsWith (look_of weighed s (flushed s events)) (look_of weighed s xs)) (append-nil events) (flushed_begin s events [] positive (subst (HaveKeys weighed)
+    (sym (append-nil events)) keys)) in
     let begun : BeginsWith (listed_in records) reports =
     subst (λ rs. BeginsWith rs reports) (sym is.reports_are)
-    (subst (BeginsWith (look s (flushed s events))) (sym reports_are) (closing_begins s events (look s (flushed s events)) looked)) in
+    (subst (BeginsWith (look_of weighed s (flushed s events))) (sym reports_are) (closing_begins s events (look_of weighed s (flushed s events)) looked)) in
     record {
       keeps = keeps_rules s valid cone LogKind.Closing n place rows records reports may within (early, next) at are_rows are few begun is.rules is.closed_is;
       is = record {

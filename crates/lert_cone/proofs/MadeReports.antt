@@ -4,10 +4,10 @@ use Rattle.std.proofs.{Common.{subst, length-append, append_assoc}, lemmas.Bool.
 use Rattle.std.proofs.{lemmas.List.{append-nil, length-map, length-take, take-append-le, take-append-drop, get_or-map}, lemmas.List.Elements.{All-nil, All-cons, All-append, All-map, All-weaker}}
 use Rattle.std.proofs.lemmas.List.Sums.{sum_by-cons}
 use Rattle.std.specs.{Prelude.count_by, List.AllPairs, List.Sorted.IsNonDecreasing}
-use Rattle.lert_spec.specs.{declared.numbers.Numbers.Numbers, declared.report.Report.Report, Counts.{count, plain}, Edges.{capacity, lookback}, Limits.IsValid}
-use Rattle.lert_spec.specs.{Look.{insert_mixed, mixed_order, is_due, with_due, look_to, look, closing}, Mix.{mix, cone_of}, Timely.times_listed}
-use Rattle.lert_spec.proofs.{LookLaws.{AreKeys, AreKeys-mixed_order, AreKeys-filter, look_to-append}, ReportLaws.{insert_before, insert_same, insert_behind}}
-use Rattle.lert_spec.proofs.{TailLaws.{AreOfCone, AreKeys-take, AreKeys-drop}, TimeBound.{IsTimely-closing, IsTimelySoFar-look}}
+use Rattle.lert_spec.specs.{declared.numbers.Numbers.Numbers, declared.report.Report.Report, Counts.{weighed, weight_in}, declared.item.Item.Item, Edges.{capacity, lookback}, Limits.IsValid}
+use Rattle.lert_spec.specs.{Look.{insert_mixed, mixed_in, is_due_in, with_due_in, look_up_to, look_of, closing_of}, Mix.{mix, cone_of}, Timely.times_listed}
+use Rattle.lert_spec.proofs.{LookLaws.{AreKeys, HaveKeys, AreKeys-mixed_order, AreKeys-filter, look_to-append}, ReportLaws.{insert_before, insert_same, insert_behind}}
+use Rattle.lert_spec.proofs.{TailLaws.{AreOfCone, IsPartOf, HaveKeys-take, HaveKeys-drop}, TimeBound.{timely_closing, timely_so_far}}
 use Rattle.lert_cone.specs.Framed.{last_flush, flushed}
 use Rattle.lert_cone.proofs.FlushLaws.{last_flush_within}
 
@@ -71,9 +71,9 @@ module _ (s : Numbers) (cone : ℕ) where
         ]
       ]
 
-  own_mixed : (events : List ℕ) → AreOfCone s cone events → AreOfCone s cone (mixed_order events)
+  own_mixed : (events : List Item) → IsPartOf weighed s cone events → AreOfCone s cone (mixed_in weighed events)
   own_mixed [] own = tt
-  own_mixed (event ∷ events) own = own_insert event (mixed_order events) own.0 (own_mixed events own.1)
+  own_mixed (event ∷ events) own = own_insert event.key (mixed_in weighed events) own.0 (own_mixed events own.1)
 
   own_filter : (test : ℕ → Bool) (keys : List ℕ) → AreOfCone s cone keys → AreOfCone s cone (filter test keys)
   own_filter test [] own = tt
@@ -92,26 +92,26 @@ module _ (s : Numbers) (cone : ℕ) where
       (keys_each at keys from fit.1 own.1)
 
   -- those that a window adds, behind earlier ones
-  due_each : (threshold from to n : ℕ) (events : List ℕ) (reports : List Report) → n ≤ to → 1 ≤ to → AreKeys events → AreOfCone s cone events →
+  due_each : (threshold from to n : ℕ) (events : List Item) (reports : List Report) → n ≤ to → 1 ≤ to → HaveKeys weighed events → IsPartOf weighed s cone events →
       All (IsReport s cone n) reports →
-      All (IsReport s cone to) (with_due threshold events from to reports)
+      All (IsReport s cone to) (with_due_in weighed threshold events from to reports)
   due_each threshold from to n events reports later some fit own are =
-      let test : ℕ → Bool = is_due threshold events from to reports in
-      let due = filter test (mixed_order events) in
+      let test : ℕ → Bool = is_due_in weighed threshold events from to reports in
+      let due = filter test (mixed_in weighed events) in
       All-append (IsReport s cone to) reports (map (λ key. record { key = key; at = to }) due)
       (All-weaker (IsReport s cone n) (IsReport s cone to) (λ report is. record { fits = is.fits; own = is.own; from = is.from; to = omega (arith, is.to, later) }) reports are)
       (All-map (IsReport s cone to) (λ (key : ℕ). record { key = key; at = to }) due
-      (keys_each to due some (AreKeys-filter test (mixed_order events) (AreKeys-mixed_order plain events fit)) (own_filter test (mixed_order events) (own_mixed events own))))
+      (keys_each to due some (AreKeys-filter test (mixed_in weighed events) (AreKeys-mixed_order weighed events fit)) (own_filter test (mixed_in weighed events) (own_mixed events own))))
 
-  look_each : (events : List ℕ) (m : ℕ) → AreKeys events → AreOfCone s cone events → All (IsReport s cone m) (look_to s events m)
+  look_each : (events : List Item) (m : ℕ) → HaveKeys weighed events → IsPartOf weighed s cone events → All (IsReport s cone m) (look_up_to weighed s events m)
   look_each events zero fit own = All-nil (IsReport s cone 0)
-  look_each events (suc m) fit own = due_each s.threshold (lookback s (suc m)) (suc m) m events (look_to s events m) (omega arith) (omega arith) fit own (look_each events m fit own)
+  look_each events (suc m) fit own = due_each s.threshold (lookback s (suc m)) (suc m) m events (look_up_to weighed s events m) (omega arith) (omega arith) fit own (look_each events m fit own)
 
-  closing_each : (events : List ℕ) → AreKeys events → AreOfCone s cone events → All (IsReport s cone (length events)) (closing s events)
+  closing_each : (events : List Item) → HaveKeys weighed events → IsPartOf weighed s cone events → All (IsReport s cone (length events)) (closing_of weighed s events)
   closing_each [] fit own = All-nil (IsReport s cone 0)
   closing_each (event ∷ events) fit own =
       let all = event ∷ events in
-      due_each s.threshold 0 (length all) (length all) all (look s all) (omega arith) (omega arith) fit own (look_each all (length all) fit own)
+      due_each s.threshold 0 (length all) (length all) all (look_of weighed s all) (omega arith) (omega arith) fit own (look_each all (length all) fit own)
 
 ascend : (reports : List Report) → IsNonDecreasing (map (λ report. report.at) reports) → AllPairs (λ one other. one.at ≤ other.at) reports
 ascend reports order i j d less within =
@@ -123,11 +123,11 @@ ascend reports order i j d less within =
       get_or-map at reports j d (at d) within,
     )
 
-module _ (s : Numbers) (events : List ℕ) (valid : IsValid s) (fits : length events ≤ capacity s) where
-  look_once : (key : ℕ) → times_listed key (look s events) ≤ 1
+module _ (s : Numbers) (events : List Item) (valid : IsValid s) (fits : length events ≤ capacity s) where
+  look_once : (key : ℕ) → times_listed key (look_of weighed s events) ≤ 1
   look_once key =
-      let timely = IsTimelySoFar-look s events valid fits in
-      elim (cases_lt (count key events 0 (length events)) s.threshold) [
+      let timely = timely_so_far weighed s events valid fits in
+      elim (cases_lt (weight_in weighed key events 0 (length events)) s.threshold) [
         | inl light ↦ omega (arith, timely.light key light)
         | inr heavy ↦ elim (timely.heavy key heavy) [
           | inl reported ↦ omega (arith, reported.once)
@@ -135,27 +135,27 @@ module _ (s : Numbers) (events : List ℕ) (valid : IsValid s) (fits : length ev
         ]
       ]
 
-  closing_once : (key : ℕ) → times_listed key (closing s events) ≤ 1
+  closing_once : (key : ℕ) → times_listed key (closing_of weighed s events) ≤ 1
   closing_once key =
-      let timely = IsTimely-closing s events valid fits in
-      elim (cases_lt (count key events 0 (length events)) s.threshold) [
+      let timely = timely_closing weighed s events valid fits in
+      elim (cases_lt (weight_in weighed key events 0 (length events)) s.threshold) [
         | inl light ↦ omega (arith, timely.light key light)
         | inr heavy ↦ omega (arith, (timely.heavy key heavy).once)
       ]
 
-  module _ (cone : ℕ) (keys : AreKeys events) (own : AreOfCone s cone events) where
-    pub look_are : AreReports s cone (length events) (look s events)
+  module _ (cone : ℕ) (keys : HaveKeys weighed events) (own : IsPartOf weighed s cone events) where
+    pub look_are : AreReports s cone (length events) (look_of weighed s events)
     look_are = record {
       each = look_each s cone events (length events) keys own;
-      ascending = ascend (look s events) (IsTimelySoFar-look s events valid fits).in_order;
-      distinct = apart (λ (report : Report). report.key) (look s events) look_once;
+      ascending = ascend (look_of weighed s events) (timely_so_far weighed s events valid fits).in_order;
+      distinct = apart (λ (report : Report). report.key) (look_of weighed s events) look_once;
     }
 
-    pub closing_are : AreReports s cone (length events) (closing s events)
+    pub closing_are : AreReports s cone (length events) (closing_of weighed s events)
     closing_are = record {
       each = closing_each s cone events keys own;
-      ascending = ascend (closing s events) (IsTimely-closing s events valid fits).in_order;
-      distinct = apart (λ (report : Report). report.key) (closing s events) closing_once;
+      ascending = ascend (closing_of weighed s events) (timely_closing weighed s events valid fits).in_order;
+      distinct = apart (λ (report : Report). report.key) (closing_of weighed s events) closing_once;
     }
 
 -- ---- earlier reports begin later ones
@@ -164,42 +164,44 @@ pub record BeginsWith (front reports : List Report) : Type 0 where
   pub more : List Report
   pub is : reports ≡ front ++ more
 
-pub look_begins : (s : Numbers) (events : List ℕ) (a n : ℕ) → a ≤ n → BeginsWith (look_to s events a) (look_to s events n)
+pub look_begins : (s : Numbers) (events : List Item) (a n : ℕ) → a ≤ n → BeginsWith (look_up_to weighed s events a) (look_up_to weighed s events n)
 look_begins s events a zero early =
     let none : a ≡ 0 = omega arith in
-    subst (λ k. BeginsWith (look_to s events k) (look_to s events 0)) (sym none) (record { more = []; is = refl })
+    subst (λ k. BeginsWith (look_up_to weighed s events k) (look_up_to weighed s events 0)) (sym none) (record { more = []; is = refl })
 look_begins s events a (suc n) early =
     elim (cases_lt a (suc n)) [
       | inl before ↦ (
           let begun = look_begins s events a n (omega arith) in
-          let due = map (λ key. record { key = key; at = suc n }) (filter (is_due s.threshold events (lookback s (suc n)) (suc n) (look_to s events n)) (mixed_order events)) in
-          record { more = begun.more ++ due; is = ap (λ reports. reports ++ due) begun.is ∙ append_assoc (look_to s events a) begun.more due })
+          let due = map (λ key. record { key = key; at = suc n }) (filter (is_due_in weighed s.threshold events (lookback s (suc n)) (suc n) (look_up_to weighed s events n)) (mixed_in weighed
+          events)) in
+          record { more = begun.more ++ due; is = ap (λ reports. reports ++ due) begun.is ∙ append_assoc (look_up_to weighed s events a) begun.more due })
       | inr now ↦ (
           let here : a ≡ suc n = omega arith in
-          record { more = []; is = ap (look_to s events) (sym here) ∙ sym (append-nil (look_to s events a)) })
+          record { more = []; is = ap (look_up_to weighed s events) (sym here) ∙ sym (append-nil (look_up_to weighed s events a)) })
     ]
 
 -- reports of the first events are the first reports
-pub look_first : (s : Numbers) (events : List ℕ) (n : ℕ) → 1 ≤ s.threshold → AreKeys events → n ≤ length events → look s (take n events) ≡ look_to s events n
+pub look_first : (s : Numbers) (events : List Item) (n : ℕ) → 1 ≤ s.threshold → HaveKeys weighed events → n ≤ length events → look_of weighed s (take n events) ≡ look_up_to weighed s events n
 look_first s events n positive keys within =
     let first = take n events in
     let long : length first ≡ n = length-take n events ∙ omega (arith, within) in
-    ap (look_to s first) long
-    ∙ sym (look_to-append plain s first (drop n events) n positive (AreKeys-take n events keys) (AreKeys-drop n events keys) (omega (arith, long)))
-    ∙ ap (λ xs. look_to s xs n) (take-append-drop n events)
+    ap (look_up_to weighed s first) long
+    ∙ sym (look_to-append weighed s first (drop n events) n positive (HaveKeys-take weighed n events keys) (HaveKeys-drop weighed n events keys) (omega (arith, long)))
+    ∙ ap (λ xs. look_up_to weighed s xs n) (take-append-drop n events)
 
 -- what the log lists begins the reports that are made later
-pub flushed_begin : (s : Numbers) (events more : List ℕ) → 1 ≤ s.threshold → AreKeys (events ++ more) → BeginsWith (look s (flushed s events)) (look s (events ++ more))
+pub flushed_begin : (s : Numbers) (events more : List Item) → 1 ≤ s.threshold → HaveKeys weighed (events ++ more) → BeginsWith (look_of weighed s (flushed s events)) (look_of weighed s
+    (events ++ more))
 flushed_begin s events more positive keys =
     let all = events ++ more in
     let last = last_flush s (length events) in
     let within = last_flush_within s (length events) in
     let long = length-append events more in
-    let first : look s (flushed s events) ≡ look_to s all last =
-    ap (look s) (sym (take-append-le last events more within)) ∙ look_first s all last positive keys (omega (arith, within, long)) in
-    subst (λ reports. BeginsWith reports (look s all)) (sym first) (look_begins s all last (length all) (omega (arith, within, long)))
+    let first : look_of weighed s (flushed s events) ≡ look_up_to weighed s all last =
+    ap (look_of weighed s) (sym (take-append-le last events more within)) ∙ look_first s all last positive keys (omega (arith, within, long)) in
+    subst (λ reports. BeginsWith reports (look_of weighed s all)) (sym first) (look_begins s all last (length all) (omega (arith, within, long)))
 
-pub closing_begins : (s : Numbers) (events : List ℕ) (reports : List Report) → BeginsWith reports (look s events) → BeginsWith reports (closing s events)
+pub closing_begins : (s : Numbers) (events : List Item) (reports : List Report) → BeginsWith reports (look_of weighed s events) → BeginsWith reports (closing_of weighed s events)
 closing_begins s events reports begun =
-    let due = map (λ key. record { key = key; at = length events }) (filter (is_due s.threshold events 0 (length events) (look s events)) (mixed_order events)) in
+    let due = map (λ key. record { key = key; at = length events }) (filter (is_due_in weighed s.threshold events 0 (length events) (look_of weighed s events)) (mixed_in weighed events)) in
     record { more = begun.more ++ due; is = ap (λ rs. rs ++ due) begun.is ∙ append_assoc reports begun.more due }

@@ -1,16 +1,17 @@
--- A packet through the calls that it makes: it isn't appended, or it is, and its keys are taken.
+-- A packet through the calls that it makes: it isn't appended, or it is, and its items are taken.
 use Rattle.std.specs.{Prelude.IsErr, Result.IsErrAnd}
 use Rattle.std.proofs.Common.{◌≡◌, ℕ, ◌+◌, ◌^◌, ◌<◌, ◌≤◌, List, [], ◌∷◌, ◌++◌, All, length, Result, Ok, Err, OnOk, OnErr, Some, refl, ap, ◌∙◌, subst, inl, inr, arith, sym}
-use Rattle.lert_levels.specs.OnDisk.{written}
+use Rattle.lert_cone.specs.History.{written}
 use Rattle.lert_base.specs.Packet.{keys_of}
 use Rattle.lert_base.specs.Packet.{Packet, events_of}
 use Rattle.lert_bay.specs.{Files.{Files, IfTold, Turns}, Kept.{Bays, KeepsBay}}
 use Rattle.lert_gatelog.specs.{Gated.{IsClosed, Log, next_gate}, Kept.{InEach, KeepsOthers, KeepsBefore, IsWhollySettled, OthersStay}}
 use Rattle.lert_io.specs.declared.faulty.Failed.{Failed as Fault}
 use Rattle.lert_journal.specs.{Journal.{HasPackets, HasPacketsOrOneMore}, Payload.payload_of}
-use Rattle.lert_spec.specs.Edges.{capacity}
+use Rattle.lert_spec.specs.{declared.item.Item.Item, Edges.capacity, Items.keys_in, Mix.cone_of}
+use Rattle.lert_cone.proofs.KeyLemmas.{of_keys}
 use Rattle.lert_cone.specs.{declared.journal_places.JournalPlace.JournalPlace, declared.tally.TakeFault.TakeFault, declared.tally.TakeFault.TheVariants.Failed, History.most_payload, InStep.IsInStep}
-use Rattle.lert_cone.specs.{JournalPlaces.AreOfRecord, Sound.IsSoundOver, Takes.{Workplace, CanTake, CanTakePacket, IsWholeAt, TakesKeys, TakesPacket}, Wrote.{IsShutIfTold, LeavesAlone}}
+use Rattle.lert_cone.specs.{JournalPlaces.AreOfRecord, Sound.IsSoundOver, Takes.{Workplace, CanTake, CanTakePacket, IsWholeAt, TakesItems, TakesPacket}, Wrote.{IsShutIfTold, LeavesAlone}}
 use Rattle.lert_bay.proofs.KeptLaws.{IsLawful, keeps_on}
 use Rattle.lert_cone.proofs.{Calls.{now_since, alone_others, settled_alone, shut_alone}, JournalPlaceLaws.last_holds, SoundLaws.turns_back}
 use Rattle.lert_cone.proofs.{AppendLaws.{sound_appending, up_appended, records_there, each_there, partway_packet, appended_there}, FaultLaws.{any_turn, turns_on}, TakeLaws.{handed_on, ok_holds}}
@@ -32,10 +33,10 @@ AppendsPacket bays packet bay bay_after old new result = record {
   kept : KeepsBay bays bay bay_after (IsErr result);
 }
 
-module _ {B : Type 0} {bays : Bays B} (lawful : IsLawful bays) {old : Workplace B} {packet : Packet} {journal : Log} (can : CanTakePacket bays packet old journal) {keys : List ℕ}
-    (keys_are : keys ≡ keys_of packet) (keys_fit : All (λ key. key < 2 ^ 64) keys) (journal_after : Log) (bay : B) where
+module _ {B : Type 0} {bays : Bays B} (lawful : IsLawful bays) {old : Workplace B} {packet : Packet} {journal : Log} (can : CanTakePacket bays packet old journal) {keys : List Item}
+    (keys_are : keys ≡ packet.items) (keys_fit : All (λ key. key < 2 ^ 64) (keys_in keys)) (journal_after : Log) (bay : B) where
   fit : All (λ key. key < 2 ^ 64) (keys_of packet)
-  fit = subst (All (λ key. key < 2 ^ 64)) keys_are keys_fit
+  fit = subst (λ (items : List Item). All (λ key. key < 2 ^ 64) (keys_in items)) keys_are keys_fit
 
   -- whatever comes of the append
   module _ (result : Result (Unit {0}) Fault) (appends : AppendsPacket bays packet old.bay bay journal journal_after result) where
@@ -48,8 +49,8 @@ module _ {B : Type 0} {bays : Bays B} (lawful : IsLawful bays) {old : Workplace 
     before_here : IfTold (bays.files old.bay) (λ seen. KeepsBefore (bays.leaves old.bay) (bays.left_since bay (bays.moment old.bay)) seen 0 journal.gate)
     before_here seen told = subst (λ (f : ℕ). KeepsBefore (bays.leaves old.bay) (bays.left_since bay (bays.moment old.bay)) seen f journal.gate) can.file (appends.before seen told)
 
-    fits_here : (seen : Files) (history : List Packet) → IsWholeAt bays old journal seen history → length (events_of history) + length (keys_of packet) ≤ capacity old.counts.listing.settings
-    fits_here seen history whole = omega (arith, can.fits, ap (length {A = ℕ}) whole.keys)
+    fits_here : (seen : Files) (history : List Packet) → IsWholeAt bays old journal seen history → length (events_of history) + length packet.items ≤ capacity old.counts.listing.settings
+    fits_here seen history whole = omega (arith, can.fits, ap (length {A = Item}) whole.keys)
 
     there : (seen : Files) → bays.files old.bay ≡ Some seen → (history : List Packet) → IsWholeAt bays old journal seen history →
         InEach (bays.leaves old.bay) 0 (λ bytes. HasPackets written (most_payload old.counts.listing.settings) bytes 32 history journal.gate)
@@ -104,9 +105,10 @@ module _ {B : Type 0} {bays : Bays B} (lawful : IsLawful bays) {old : Workplace 
     appends = subst (λ (r : Result (Unit {0}) Fault). AppendsPacket bays packet old.bay bay journal journal_after r) ok said
 
     pub can_take_then : {room : ℕ} → room ≡ old.room → CanTake bays keys (record old { bay = bay; room = room })
-    can_take_then {room = room} room_is = subst (λ (ks : List ℕ). CanTake bays ks (record old { bay = bay; room = room })) (sym keys_are) (record {
+    can_take_then {room = room} room_is = subst (λ (ks : List Item). CanTake bays ks (record old { bay = bay; room = room })) (sym keys_are) (record {
       still = can.still;
-      own = can.journaled.of_cone;
+      own = of_keys (λ key. cone_of old.counts.listing.settings key ≡ old.counts.listing.cone) packet.items can.journaled.of_cone;
+      light = can.journaled.weighed;
       fits = can.fits;
       counted = can.counted;
       can_log = record {
@@ -144,18 +146,18 @@ module _ {B : Type 0} {bays : Bays B} (lawful : IsLawful bays) {old : Workplace 
         (subst (λ (f : ℕ). IsWhollySettled (bays.leaves bay) mid f) can.file (appends.settled mid told_mid))
         (settled_alone lawful (log_alone (Ok tt) appends) seen told whole.in_step.log_settled mid told_mid)
 
-    -- its keys are those of the record that begins at the gate
+    -- its items are those of the record that begins at the gate
     next_then : (place : JournalPlace) → place.gate ≡ journal.gate → place.first ≡ length old.counts.listing.events + 1 → (seen : Files) (history : List Packet) →
         IsWholeAt bays old journal seen history →
-        AreOfRecord (history ++ packet ∷ []) place (length old.counts.listing.events) (length old.counts.listing.events + length (keys_of packet))
+        AreOfRecord (history ++ packet ∷ []) place (length old.counts.listing.events) (length old.counts.listing.events + length packet.items)
     next_then place gate_is first_is seen history whole =
-        last_holds history packet place (length old.counts.listing.events) (gate_is ∙ whole.gate_is) (ap (length {A = ℕ}) whole.keys) first_is
+        last_holds history packet place (length old.counts.listing.events) (gate_is ∙ whole.gate_is) (ap (length {A = Item}) whole.keys) first_is
 
     pub packet_taken : {place : JournalPlace} {room : ℕ} {new : Workplace B} {result : Result (Unit {0}) TakeFault} → place.gate ≡ journal.gate →
-        place.first ≡ length old.counts.listing.events + 1 → TakesKeys bays place keys (record old { bay = bay; room = room }) new result →
+        place.first ≡ length old.counts.listing.events + 1 → TakesItems bays place keys (record old { bay = bay; room = room }) new result →
         TakesPacket bays packet old new journal journal_after result
     packet_taken {place = place} {room = room} {new = new} {result = result} gate_is first_is takes =
-        let did = subst (λ (ks : List ℕ). TakesKeys bays place ks (record old { bay = bay; room = room }) new result) keys_are takes in
+        let did = subst (λ (ks : List Item). TakesItems bays place ks (record old { bay = bay; room = room }) new result) keys_are takes in
         record {
           listing = did.listing;
           taken = did.taken;

@@ -1,6 +1,6 @@
 -- How many bytes of the journal the replay of a packet hands out.
 use Rattle.std.proofs.{Common.{◌≡◌, ℕ, ◌+◌, ◌*◌, ◌-◌, ◌≤◌, Bool, true, false, Ok, Err, length, refl, subst, arith}, lemmas.Bool.{false≢true, true≢false}}
-use Rattle.lert_levels.specs.OnDisk.{written}
+use Rattle.lert_cone.specs.History.{written}
 use Rattle.lert_base.specs.Packet.{Packet}
 use Rattle.lert_bay.specs.{Handed.ReadsUpTo, declared.bay.TheConstants.JOURNAL}
 use Rattle.lert_bay.proofs.HandedLaws.{up_to_more}
@@ -35,7 +35,7 @@ refused_cost most packet (Malformed at) = omega arith
 -- ---- and what comes behind it reads nothing of the journal
 
 module _ (s : Numbers) (packet : Packet) (before between after : ℕ → ℕ) (unread : after JOURNAL ≡ between JOURNAL) where
-  -- the keys are taken
+  -- the items are taken
   pub taken_read : (found : Bool) (gate next : ℕ) → ReadsUpTo JOURNAL (entry_cost written (most_payload s) packet (Ok found)) before between → found ≡ true →
       next ≡ next_gate gate (payload_of written packet) → after JOURNAL ≤ before JOURNAL + (next - gate)
   taken_read found gate next read found_is next_is = omega (arith, read.at_most, unread, found_cost (most_payload s) packet found found_is, next_is)

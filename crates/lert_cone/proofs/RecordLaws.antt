@@ -1,4 +1,5 @@
 -- The text of a record, as it is appended.
+use Rattle.lert_spec.specs.declared.item.Item.{Item}
 use Rattle.std.proofs.Common.{◌≡◌, ℕ, ◌+◌, ◌-◌, ◌≤◌, List, [], ◌∷◌, ◌++◌, length, take, drop, Result, Err, refl, sym, ap, subst, ◌∙◌, arith, length-drop, length-append}
 use Rattle.std.proofs.{lemmas.List.take_all, lemmas.Nat.mul-le}
 use Rattle.lert_gatelog.specs.Gated.{appendix, IsAppendix}
@@ -67,16 +68,16 @@ most_few s valid =
     omega (arith, product, valid.limits.room_to)
 
 -- and a record more leaves a log in its bounds
-pub logging_more : (t a : Tallied) (log log_after : LogPlace) (room room_after : ℕ) (key : ℕ) (directory : List ℕ) (reports : List Report) → IsValid t.listing.settings →
+pub logging_more : (t a : Tallied) (log log_after : LogPlace) (room room_after : ℕ) (item : Item) (directory : List ℕ) (reports : List Report) → IsValid t.listing.settings →
     IsLogging t log room →
-    a.listing ≡ record t.listing { events = t.listing.events ++ key ∷ [] } →
+    a.listing ≡ record t.listing { events = t.listing.events ++ item ∷ [] } →
     log_after.most ≡ log.most → log_after.named ≡ length a.due.reports → log_after.gate ≡ log.gate + 5 + payload_len log directory reports →
     payload_len log directory reports ≤ log.most →
     room_after ≡ room → log_after.places.settings ≡ a.listing.settings → log_after.places.passed ≡ length a.listing.events → IsLogging a log_after room_after
-logging_more t a log log_after room room_after key directory reports valid logging is most_is named_is gate_is fits room_is same passed = record {
+logging_more t a log log_after room room_after item directory reports valid logging is most_is named_is gate_is fits room_is same passed = record {
   most = most_is ∙ logging.most ∙ ap (λ (l : Listing). most_record l.settings) (sym is);
   named = omega (arith, named_is);
-  near = omega (arith, gate_is, fits, logging.near, logging.most, most_few t.listing.settings valid, ap (λ (l : Listing). length l.events) is, length-append t.listing.events (key ∷ []));
+  near = omega (arith, gate_is, fits, logging.near, logging.most, most_few t.listing.settings valid, ap (λ (l : Listing). length l.events) is, length-append t.listing.events (item ∷ []));
   roomy = omega (arith, most_is, room_is, logging.roomy);
   same = same;
   passed = passed;

@@ -1,12 +1,14 @@
--- A cone whose keys come again up to n0, while its rows are those after n0 events already.
+-- A cone whose items come again up to n0, while its rows are those after n0 events already.
 use Rattle.std.proofs.Common.{ℕ, ◌≡◌, ◌≢◌, ◌+◌, ◌-◌, ◌*◌, ◌%◌, ◌^◌, ◌<◌, ◌≤◌, suc, cond, ltb, Bool, true, false, List, [], ◌∷◌, ◌++◌, length, ap, sym, ◌∙◌, arith, inl, inr, subst, length-append}
 use Rattle.std.proofs.{Math.Nat.mul-div-le, lemmas.Bool.{cases_eq, cases_lt, eq-eqb, ne_eqb, lt-ltb, le-ltb}, lemmas.Nat.mul-le}
-use Rattle.lert_spec.specs.{declared.numbers.Numbers.Numbers, Edges.{span, offset, edge, capacity}, Limits.IsValid, Mix.{cone_of, tail_of}}
-use Rattle.lert_spec.proofs.{LookLaws.AreKeys, TailLaws.AreOfCone}
+use Rattle.lert_cone.specs.History.{written}
+use Rattle.lert_spec.specs.{Counts.weighed, declared.item.Item.Item, declared.numbers.Numbers.Numbers}
+use Rattle.lert_spec.specs.{Items.{most_weight, AreOfVersion}, Edges.{span, offset, edge, capacity}, Limits.IsValid, Mix.{cone_of, tail_of}}
+use Rattle.lert_spec.proofs.{LookLaws.HaveKeys, TailLaws.IsPartOf}
 use Rattle.lert_levels.specs.{rows.Ranges.young_bins, rows.Rows.{IsAt, AreRows}, rows.Young.{Young, IsNextPosition, with_event, added}}
 use Rattle.lert_levels.proofs.rows.YoungBins.{young-added, young-none}
 use Rattle.lert_cone.specs.Tally.{Tallied, IsCounted, IsRecounted, IsRising, AreYoung}
-use Rattle.lert_cone.proofs.{KeyLemmas.{AreKeys-push, AreOfCone-push}, TallyLaws.{wide, aligned, next_free}}
+use Rattle.lert_cone.proofs.{KeyLemmas.{HaveKeys-push, IsPartOf-push, AreOfVersion-push}, TallyLaws.{wide, aligned, next_free}}
 
 module _ (s : Numbers) (valid : IsValid s) where
   -- the newest event is above the edge of level 0
@@ -15,12 +17,12 @@ module _ (s : Numbers) (valid : IsValid s) where
       let far = mul-le 1 1 (s.bins - 1) (span s 0) (omega (arith, valid.limits.bins_from)) (wide s valid) in
       omega (arith, mul-div-le (n - offset s 0) (span s 0))
 
-  -- level 0 as the next key comes again
-  module _ (n0 : ℕ) (events : List ℕ) (y : Young) (rising : IsRising s n0 events y) (settings : y.settings ≡ s) (before : length events < n0) (fits : n0 ≤ capacity s) where
+  -- level 0 as the next item comes again
+  module _ (n0 : ℕ) (events : List Item) (y : Young) (rising : IsRising s n0 events y) (settings : y.settings ≡ s) (before : length events < n0) (fits : n0 ≤ capacity s) where
     abbrev made : Young
     made = record { settings = s; from = 0; to = 0; bins = [] }
 
-    -- where no key above the edge came yet
+    -- where no item above the edge came yet
     module _ (same : length events ≡ edge s 0 n0) where
       none_from : y.from ≡ 0
       none_from = ap (λ (v : Young). v.from) (rising.made (omega arith))
@@ -56,14 +58,14 @@ module _ (s : Numbers) (valid : IsValid s) where
       ];
     }
 
-    module _ (key tail : ℕ) (tail_is : tail ≡ tail_of s key) where
-      abbrev all : List ℕ
-      all = events ++ key ∷ []
+    module _ (item : Item) (tail : ℕ) (tail_is : tail ≡ tail_of s item.key) where
+      abbrev all : List Item
+      all = events ++ item ∷ []
 
       all_long : length all ≡ suc (length events)
-      all_long = omega (arith, length-append events (key ∷ []))
+      all_long = omega (arith, length-append events (item ∷ []))
 
-      from_again : edge s 0 n0 < suc (length events) → (with_event y tail 1 (suc (length events))).from ≡ edge s 0 n0
+      from_again : edge s 0 n0 < suc (length events) → (with_event y tail item.weight (suc (length events))).from ≡ edge s 0 n0
       from_again above = elim (cases_eq (length events) (edge s 0 n0)) [
         | inl same ↦ (
             let one : y.from ≡ y.to = none_from same ∙ sym (none_to same) in
@@ -80,12 +82,12 @@ module _ (s : Numbers) (valid : IsValid s) where
         | inr later ↦ (let further : edge s 0 n0 < length events = omega arith in (rising.bins further).is)
       ]
 
-      bins_again : edge s 0 n0 < suc (length events) → (with_event y tail 1 (suc (length events))).bins ≡ young_bins s all (edge s 0 n0)
+      bins_again : edge s 0 n0 < suc (length events) → (with_event y tail item.weight (suc (length events))).bins ≡ young_bins s all (edge s 0 n0)
       bins_again above =
-          (λ i. added (settings i) (bins_before above i) (tail_is i) 1 (suc (length events)))
-          ∙ sym (young-added s events key (edge s 0 n0) (wide s valid) (aligned s valid n0) (omega arith))
+          (λ i. added (settings i) (bins_before above i) (tail_is i) item.weight (suc (length events)))
+          ∙ sym (young-added s events item (edge s 0 n0) (wide s valid) (aligned s valid n0) (omega arith))
 
-      counted_again : edge s 0 n0 < suc (length events) → IsRising s n0 all (with_event y tail 1 (suc (length events)))
+      counted_again : edge s 0 n0 < suc (length events) → IsRising s n0 all (with_event y tail item.weight (suc (length events)))
       counted_again above = record {
         made = λ none. absurd (omega (arith, all_long));
         from = λ _. from_again above;
@@ -101,18 +103,18 @@ module _ (s : Numbers) (valid : IsValid s) where
         bins = λ above. absurd (omega (arith, all_long));
       }
 
-      pub rising_more : (next : Young) → next ≡ cond (ltb (edge s 0 n0) (suc (length events))) (with_event y tail 1 (suc (length events))) y → IsRising s n0 all next
+      pub rising_more : (next : Young) → next ≡ cond (ltb (edge s 0 n0) (suc (length events))) (with_event y tail item.weight (suc (length events))) y → IsRising s n0 all next
       rising_more next next_is =
           let m = suc (length events) in
           elim (cases_lt (edge s 0 n0) m) [
             | inl above ↦ subst (λ (v : Young). IsRising s n0 all v)
-                (sym (next_is ∙ ap (λ t. cond t (with_event y tail 1 m) y) (lt-ltb (edge s 0 n0) m above))) (counted_again above)
+                (sym (next_is ∙ ap (λ t. cond t (with_event y tail item.weight m) y) (lt-ltb (edge s 0 n0) m above))) (counted_again above)
             | inr below ↦ subst (λ (v : Young). IsRising s n0 all v)
-                (sym (next_is ∙ ap (λ t. cond t (with_event y tail 1 m) y) (le-ltb (edge s 0 n0) m below))) (numbered_again below)
+                (sym (next_is ∙ ap (λ t. cond t (with_event y tail item.weight m) y) (le-ltb (edge s 0 n0) m below))) (numbered_again below)
           ]
 
 -- level 0 at n0 itself is that of its events
-module _ (s : Numbers) (valid : IsValid s) (n0 : ℕ) (events : List ℕ) (y : Young) (rising : IsRising s n0 events y) (there : length events ≡ n0) where
+module _ (s : Numbers) (valid : IsValid s) (n0 : ℕ) (events : List Item) (y : Young) (rising : IsRising s n0 events y) (there : length events ≡ n0) where
   none_at : length events ≤ edge s 0 n0 → length events ≡ 0
   none_at few = elim (cases_lt 0 n0) [
     | inl some ↦ absurd (omega (arith, edge_below s valid n0 some))
@@ -143,10 +145,10 @@ module _ (s : Numbers) (valid : IsValid s) (n0 : ℕ) (events : List ℕ) (y : Y
     }
   ]
 
--- before the first key above the edge, where none of level 0's came yet
+-- before the first item above the edge, where none of level 0's came yet
 module _ (t : Tallied) (n0 : ℕ) (valid : IsValid t.listing.settings) (few : length t.listing.events ≤ edge t.listing.settings 0 n0) (fits : n0 ≤ capacity t.listing.settings)
     (young : t.young ≡ record { settings = t.listing.settings; from = 0; to = 0; bins = [] }) (at : IsAt t.listing.settings n0 t.rows) (are : AreRows t.listing.settings t.rows)
-    (keys : AreKeys t.listing.events) (own : AreOfCone t.listing.settings t.listing.cone t.listing.events)
+    (keys : HaveKeys weighed t.listing.events) (own : IsPartOf weighed t.listing.settings t.listing.cone t.listing.events) (light : AreOfVersion written t.listing.events)
     (due_settings : t.due.settings ≡ t.listing.settings) (due_cone : t.due.cone ≡ t.listing.cone) where
   within : length t.listing.events ≤ n0
   within = omega (arith, few, mul-div-le (n0 - offset t.listing.settings 0) (span t.listing.settings 0))
@@ -168,6 +170,7 @@ module _ (t : Tallied) (n0 : ℕ) (valid : IsValid t.listing.settings) (few : le
         n0_fits = fits;
         keys = keys;
         own = own;
+        light = light;
         are = are;
         due_settings = due_settings;
         due_cone = due_cone;
@@ -180,6 +183,7 @@ module _ (t : Tallied) (n0 : ℕ) (valid : IsValid t.listing.settings) (few : le
               fits = short;
               keys = keys;
               own = own;
+              light = light;
               from = risen_from t.listing.settings valid n0 t.listing.events t.young begun there;
               to = risen_to t.listing.settings valid n0 t.listing.events t.young begun there;
               bins = risen_bins t.listing.settings valid n0 t.listing.events t.young begun there;
@@ -190,31 +194,32 @@ module _ (t : Tallied) (n0 : ℕ) (valid : IsValid t.listing.settings) (few : le
             };
       }
 
--- one key again
+-- one item again
 module _ (t : Tallied) (n0 : ℕ) (recounted : IsRecounted t n0) (settings : t.young.settings ≡ t.listing.settings) (before : length t.listing.events < n0)
-    (key tail m : ℕ) (tail_is : tail ≡ tail_of t.listing.settings key) (m_is : m ≡ suc (length t.listing.events)) where
+    (item : Item) (tail m : ℕ) (tail_is : tail ≡ tail_of t.listing.settings item.key) (m_is : m ≡ suc (length t.listing.events)) where
   pub recount_position : edge t.young.settings 0 n0 < m → IsNextPosition t.young m
   recount_position above =
       subst (IsNextPosition t.young) (sym m_is)
       (again_position t.listing.settings recounted.valid n0 t.listing.events t.young (recounted.young before) settings before recounted.n0_fits
       (omega (arith, ap (λ (v : Numbers). edge v 0 n0) settings)))
 
-  module _ (below : key < 2 ^ 64) (is_own : cone_of t.listing.settings key ≡ t.listing.cone) (next : Young)
-      (next_is : next ≡ cond (ltb (edge t.young.settings 0 n0) m) (with_event t.young tail 1 m) t.young) where
-    abbrev more : List ℕ
-    more = t.listing.events ++ key ∷ []
+  module _ (below : item.key < 2 ^ 64) (is_own : cone_of t.listing.settings item.key ≡ t.listing.cone) (some : 1 ≤ item.weight) (most : item.weight ≤ most_weight written) (next : Young)
+      (next_is : next ≡ cond (ltb (edge t.young.settings 0 n0) m) (with_event t.young tail item.weight m) t.young) where
+    abbrev more : List Item
+    more = t.listing.events ++ item ∷ []
 
     more_long : length more ≡ suc (length t.listing.events)
-    more_long = omega (arith, length-append t.listing.events (key ∷ []))
+    more_long = omega (arith, length-append t.listing.events (item ∷ []))
 
     risen : IsRising t.listing.settings n0 more next
-    risen = rising_more t.listing.settings recounted.valid n0 t.listing.events t.young (recounted.young before) settings before recounted.n0_fits key tail tail_is next
-        (next_is ∙ (λ i. cond (ltb (edge (settings i) 0 n0) (m_is i)) (with_event t.young tail 1 (m_is i)) t.young))
+    risen = rising_more t.listing.settings recounted.valid n0 t.listing.events t.young (recounted.young before) settings before recounted.n0_fits item tail tail_is next
+        (next_is ∙ (λ i. cond (ltb (edge (settings i) 0 n0) (m_is i)) (with_event t.young tail item.weight (m_is i)) t.young))
 
     pub recounted_more : (after : Tallied) → after ≡ record t { listing = record t.listing { events = more }; young = next } → IsRecounted after n0
     recounted_more after after_is =
-        let keys : AreKeys more = AreKeys-push t.listing.events key recounted.keys below in
-        let own : AreOfCone t.listing.settings t.listing.cone more = AreOfCone-push t.listing.settings t.listing.cone t.listing.events key recounted.own is_own in
+        let keys : HaveKeys weighed more = HaveKeys-push t.listing.events item recounted.keys below in
+        let own : IsPartOf weighed t.listing.settings t.listing.cone more = IsPartOf-push t.listing.settings t.listing.cone t.listing.events item recounted.own is_own in
+        let light : AreOfVersion written more = AreOfVersion-push written t.listing.events item recounted.light some most in
         let at : IsAt t.listing.settings n0 t.rows = recounted.rows (omega arith) in
         let fits : length more ≤ capacity t.listing.settings = omega (arith, more_long, recounted.n0_fits) in
         subst (λ (v : Tallied). IsRecounted v n0) (sym after_is) (record {
@@ -223,6 +228,7 @@ module _ (t : Tallied) (n0 : ℕ) (recounted : IsRecounted t n0) (settings : t.y
           n0_fits = recounted.n0_fits;
           keys = keys;
           own = own;
+          light = light;
           are = recounted.are;
           due_settings = recounted.due_settings;
           due_cone = recounted.due_cone;
@@ -235,6 +241,7 @@ module _ (t : Tallied) (n0 : ℕ) (recounted : IsRecounted t n0) (settings : t.y
                 fits = fits;
                 keys = keys;
                 own = own;
+                light = light;
                 from = risen_from t.listing.settings recounted.valid n0 more next risen there;
                 to = risen_to t.listing.settings recounted.valid n0 more next risen there;
                 bins = risen_bins t.listing.settings recounted.valid n0 more next risen there;
@@ -253,6 +260,7 @@ recounted_behind t n0 counted enough = record {
   n0_fits = omega (arith, counted.fits);
   keys = counted.keys;
   own = counted.own;
+  light = counted.light;
   are = counted.are;
   due_settings = counted.due_settings;
   due_cone = counted.due_cone;
@@ -267,7 +275,7 @@ recounted_behind t n0 counted enough = record {
 pub counted_from_none : (t : Tallied) → IsRecounted t 0 → IsCounted t
 counted_from_none t recounted = recounted.behind (omega arith)
 
--- level 0 keeps its settings, whether a key is counted again or not
-pub again_settings : (counts : Bool) (y next : Young) (tail m : ℕ) → next ≡ cond counts (with_event y tail 1 m) y → next.settings ≡ y.settings
-again_settings true y next tail m is = ap (λ (v : Young). v.settings) is
-again_settings false y next tail m is = ap (λ (v : Young). v.settings) is
+-- level 0 keeps its settings, whether an item is counted again or not
+pub again_settings : (counts : Bool) (y next : Young) (tail weight m : ℕ) → next ≡ cond counts (with_event y tail weight m) y → next.settings ≡ y.settings
+again_settings true y next tail weight m is = ap (λ (v : Young). v.settings) is
+again_settings false y next tail weight m is = ap (λ (v : Young). v.settings) is

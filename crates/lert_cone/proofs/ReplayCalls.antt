@@ -1,8 +1,8 @@
--- A record of the journal through the calls that a cone makes for it as it is read again: it is read, and then its keys are taken.
+-- A record of the journal through the calls that a cone makes for it as it is read again: it is read, and then its items are taken.
+use Rattle.lert_spec.specs.declared.item.Item.{Item}
 use Rattle.std.proofs.Common.{◌≡◌, ℕ, ◌+◌, ◌≤◌, List, ◌++◌, length, take, drop, max, Option, Some, Result, Ok, OnOk, sym, ap, ◌∙◌, subst, inl, inr, arith, length-append}
 use Rattle.std.specs.List.{length_refill}
-use Rattle.lert_levels.specs.OnDisk.{written}
-use Rattle.lert_base.specs.Packet.{keys_of}
+use Rattle.lert_cone.specs.History.{written}
 use Rattle.lert_base.specs.Packet.{Packet, events_of}
 use Rattle.lert_bay.specs.{Files.{Files, IfTold}, Images.Lasts, Kept.{Bays, CallsBay, KeepsBay}}
 use Rattle.lert_bay.proofs.KeptLaws.{IsLawful, calls, calls_as, calls_on}
@@ -12,7 +12,7 @@ use Rattle.lert_reports.specs.declared.log_point.LogPoint.{LogPoint}
 use Rattle.lert_spec.specs.declared.numbers.Numbers.{Numbers}
 use Rattle.lert_cone.specs.{declared.journal_places.JournalPlace.JournalPlace, declared.refusal.ReplayFault.ReplayFault, declared.tally.TakeFault.TakeFault, Framed.last_flush, History.most_payload}
 use Rattle.lert_cone.specs.{KeepsLog.{KeepsLogOf, LogHead}, Listing.Listing, Reads.OnlyReadsJournal, Record.LogPlace, Replay.{IsOnWay, IsPast, IsNext}, Replays.{HasEnded, IsUnwritten, Replays}}
-use Rattle.lert_cone.specs.{Sound.{IsSound, StaysSound}, Takes.{Workplace, ReplaysKeys}, Tally.{Tallied, IsRecounted}, Wrote.{IsShutIfTold, LeavesAlone}}
+use Rattle.lert_cone.specs.{Sound.{IsSound, StaysSound}, Takes.{Workplace, ReplaysItems}, Tally.{Tallied, IsRecounted}, Wrote.{IsShutIfTold, LeavesAlone}}
 use Rattle.lert_cone.proofs.{Calls.{now_since, alone_on, alone_reading}, GateLaws.{ends_there, keys_past, keys_next}, KeepsLogSteps.{log_as, log_on, log_unwritten}, JournalPlaceLaws.next_holds}
 use Rattle.lert_cone.proofs.{ReplayLaws.{journal_on_way, on_way_read, sound_recounted}, ReplayStands.{next_there, read_settled, seen_as, shut_there}, ReplayStep.told_once}
 
@@ -26,13 +26,13 @@ pub moved_on : {journal there after : Log} (payload : List ℕ) → after ≡ re
     after.gate ≡ next_gate there.gate payload
 moved_on payload moved is = ap (λ (j : Log). j.gate) moved ∙ ap (λ (j : Log). next_gate j.gate payload) is
 
--- a listing with keys more
-pub listing_more : (old new : Listing) (keys taken : List ℕ) → new ≡ record old { events = new.events } → new.events ≡ old.events ++ taken → taken ≡ keys →
+-- a listing with items more
+pub listing_more : (old new : Listing) (keys taken : List Item) → new ≡ record old { events = new.events } → new.events ≡ old.events ++ taken → taken ≡ keys →
     new ≡ record old { events = old.events ++ keys }
 listing_more old new keys taken is took same =
-    is ∙ ap (λ (ks : List ℕ). record old { events = ks }) (took ∙ ap (λ ks. old.events ++ ks) same)
+    is ∙ ap (λ (ks : List Item). record old { events = ks }) (took ∙ ap (λ ks. old.events ++ ks) same)
 
-pub length_more : (old new : Listing) (keys : List ℕ) (events len : ℕ) → new ≡ record old { events = old.events ++ keys } →
+pub length_more : (old new : Listing) (keys : List Item) (events len : ℕ) → new ≡ record old { events = old.events ++ keys } →
     length old.events ≡ events → len ≡ length new.events → len ≡ events + length keys
 length_more old new keys events len is counted len_is = omega (arith, len_is, ap (λ (l : Listing). length l.events) is, length-append old.events keys, counted)
 
@@ -105,11 +105,11 @@ module _ {B : Type 0} (bays : Bays B) (lawful : IsLawful bays) where
         (log_on bays lawful s {U = Unit {0}} {F = Unit {0}} old old new bay bay_read after tt result (alone_reading lawful 0 read.reads).seen read.reads.kept.time.later left.time
         (read_logged s old (Ok tt) shut) did)
 
-    -- no flush comes with its keys
-    pub keys_unwritten : (s : Numbers) (n n0 : ℕ) (packet : Packet) (keys : List ℕ) (new : B) → keys ≡ keys_of packet → last_flush s (n + length (keys_of packet)) ≤ max n0 n →
+    -- no flush comes with its items
+    pub keys_unwritten : (s : Numbers) (n n0 : ℕ) (packet : Packet) (keys : List Item) (new : B) → keys ≡ packet.items → last_flush s (n + length packet.items) ≤ max n0 n →
         (last_flush s (n + length keys) ≤ max n0 n → new ≡ bay_read) → IsUnwritten bays bay new
     keys_unwritten s n n0 packet keys new keys_are passed unflushed =
-        subst (λ (b : B). IsUnwritten bays bay b) (sym (unflushed (omega (arith, passed, ap (λ (ks : List ℕ). last_flush s (n + length ks)) keys_are)))) read_unwritten
+        subst (λ (b : B). IsUnwritten bays bay b) (sym (unflushed (omega (arith, passed, ap (λ (ks : List Item). last_flush s (n + length ks)) keys_are)))) read_unwritten
 
     -- a closed gate stands there
     pub ended_at : (made : B) (t : Tallied) (events : ℕ) (stopped : Option ReplayFault) (before after at : ℕ) (log : LogPlace) (last : LogPoint) → after ≡ at →
@@ -134,13 +134,13 @@ module _ {B : Type 0} (bays : Bays B) (lawful : IsLawful bays) where
       past = subst (IsPast history done t.listing.events) (sym gate_same) way.past
 
       -- a packet that stands there is the next one, and memory and files are where they were
-      pub with_keys : (packet : Packet) → HoldsPacket written t.listing.settings t.listing.cone (most_payload t.listing.settings) (seen 0) gate packet → (keys : List ℕ) → keys ≡ keys_of packet →
+      pub with_keys : (packet : Packet) → HoldsPacket written t.listing.settings t.listing.cone (most_payload t.listing.settings) (seen 0) gate packet → (keys : List Item) → keys ≡ packet.items →
           {X : Type 0} → (bays.files bay_read ≡ Some seen → (next : IsNext history done packet) → events_of history ≡ t.listing.events ++ (keys ++ events_of next.rest) →
           IsOnWay (bays.leaves bay_read) seen history t.listing t.rows t.due.reports log last.n0 → X) → X
       with_keys packet holds keys keys_are goes =
           let next = next_there (bays.leaves bay) seen history done t.listing t.rows t.due.reports log last.n0 gate packet on_way (lawful.as_read bay seen told) past holds in
           goes (read.reads.seen ∙ told) next
-          (keys_next history done t.listing.events gate packet past next ∙ ap (λ (ks : List ℕ). t.listing.events ++ (ks ++ events_of next.rest)) (sym keys_are))
+          (keys_next history done t.listing.events gate packet past next ∙ ap (λ (ks : List Item). t.listing.events ++ (ks ++ events_of next.rest)) (sym keys_are))
           (on_way_read (bays.leaves bay) seen history t.listing t.rows t.due.reports log last.n0 on_way (bays.leaves bay_read) (λ image may. (read.reads.images image).0 may))
 
       -- a closed gate that stands there is behind the last packet
@@ -166,10 +166,10 @@ module _ {B : Type 0} (bays : Bays B) (lawful : IsLawful bays) where
             (λ image may. sound_recounted (bays.leaves bay) seen history t log last.n0 recounted on_way (events_of past.rest) (keys_past history done t.listing.events gate past) image
             (read.reads.moments image may))
 
-        pub keys_stay : (packet : Packet) → HoldsPacket written t.listing.settings t.listing.cone (most_payload t.listing.settings) (seen 0) gate packet → (keys : List ℕ) →
-            keys ≡ keys_of packet →
+        pub keys_stay : (packet : Packet) → HoldsPacket written t.listing.settings t.listing.cone (most_payload t.listing.settings) (seen 0) gate packet → (keys : List Item) →
+            keys ≡ packet.items →
             (place : JournalPlace) → place.gate ≡ gate → place.first ≡ length t.listing.events + 1 → (buffer : ℕ) (new : Workplace B) (result : Result (Unit {0}) TakeFault) →
-            ReplaysKeys bays last.n0 place keys (record { bay = bay_read; counts = t; log = log; room = buffer }) new result →
+            ReplaysItems bays last.n0 place keys (record { bay = bay_read; counts = t; log = log; room = buffer }) new result →
             StaysSound bays t.listing.settings t.listing.cone history bay new.bay
         keys_stay packet holds keys keys_are place gate_is first_is buffer new result did =
             with_keys packet holds keys keys_are (λ told_read next is on_read.

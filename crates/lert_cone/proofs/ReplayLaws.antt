@@ -1,5 +1,6 @@
 -- What a cone keeps on its way through its journal: up to n0 events the files go together with memory as after n0 events, and
--- from then on as after the keys so far.
+-- from then on as after the items so far.
+use Rattle.lert_spec.specs.declared.item.Item.{Item}
 use Rattle.std.proofs.Common.{◌≡◌, ℕ, zero, suc, ◌+◌, ◌-◌, ◌≤◌, true, cond, List, [], ◌++◌, length, take, drop, max, refl, sym, ap, ◌∙◌, subst, inl, inr, arith, length-append, length-take, append-nil}
 use Rattle.std.proofs.{lemmas.Bool.{cases_eq, cases_lt, eq-eqb, ne_eqb}, lemmas.List.{take_at, take_all, take-append-drop, length-take-le}}
 use Rattle.lert_base.specs.Packet.{Packet, events_of}
@@ -28,7 +29,7 @@ late_at s n0 before n least enough = omega (arith, last_flush_again s before, la
 module _ (leaves : Files → Type 0) (seen : Files) (history : List Packet) (listing : Listing) (rows : List (List BinAt)) (reports : List Report) (log : LogPlace) (n0 : ℕ)
     (on_way : IsOnWay leaves seen history listing rows reports log n0) where
   -- up to n0 events go by without a change
-  pub on_way_counted : (later : Listing) (keys : List ℕ) (count : ℕ) → later ≡ record listing { events = listing.events ++ take count keys } → count ≤ n0 - length listing.events →
+  pub on_way_counted : (later : Listing) (keys : List Item) (count : ℕ) → later ≡ record listing { events = listing.events ++ take count keys } → count ≤ n0 - length listing.events →
       IsOnWay leaves seen history later rows reports log n0
   on_way_counted later keys count is early =
       let long : length (listing.events ++ take count keys) ≡ length listing.events + length (take count keys) = length-append listing.events (take count keys) in
@@ -90,16 +91,16 @@ module _ (leaves : Files → Type 0) (seen : Files) (history : List Packet) (lis
         };
       }
 
-  -- from n0 on files and memory go together as after the keys so far
-  pub in_step_behind : (rest : List ℕ) → events_of history ≡ listing.events ++ rest → n0 ≤ length listing.events → IsInStep leaves seen history listing rows reports log
+  -- from n0 on files and memory go together as after the items so far
+  pub in_step_behind : (rest : List Item) → events_of history ≡ listing.events ++ rest → n0 ≤ length listing.events → IsInStep leaves seen history listing rows reports log
   in_step_behind rest is enough =
       let n_is : max n0 (length listing.events) ≡ length listing.events = omega (arith, enough) in
       let same : take (max n0 (length listing.events)) (events_of history) ≡ listing.events =
       ap (λ n. take n (events_of history)) n_is ∙ (ap (take (length listing.events)) is ∙ take_at listing.events rest (length listing.events) refl) in
-      subst (λ (events : List ℕ). IsInStep leaves seen history (record listing { events = events }) rows reports log) same on_way.in_step
+      subst (λ (events : List Item). IsInStep leaves seen history (record listing { events = events }) rows reports log) same on_way.in_step
 
-  -- the next keys are still to come
-  pub partway_behind : (keys rest : List ℕ) → events_of history ≡ listing.events ++ (keys ++ rest) → n0 ≤ length listing.events → IsPartway listing.settings history listing.events keys
+  -- the next items are still to come
+  pub partway_behind : (keys rest : List Item) → events_of history ≡ listing.events ++ (keys ++ rest) → n0 ≤ length listing.events → IsPartway listing.settings history listing.events keys
   partway_behind keys rest is enough = record { rest = rest; is = is; late = late_at listing.settings n0 (length (events_of (but_last history))) (length listing.events) on_way.n0_least enough }
 
   -- in every image the files are sound for the history, before n0 events are there as behind them
@@ -122,9 +123,9 @@ module _ (leaves : Files → Type 0) (seen : Files) (history : List Packet) (lis
       (sym long) at) partway whole on_way.in_step.log_of on_way.in_step.begins image
       (on_way.in_step.journal image may) (on_way.in_step.log_there image may) (on_way.in_step.frames image may)
 
-  -- where files and memory go together after more keys, by calls that may have written, the cone is on its way
+  -- where files and memory go together after more items, by calls that may have written, the cone is on its way
   pub on_way_behind : (leaves_after : Files → Type 0) (seen_after : Files) (later : Listing) (rows_after : List (List BinAt)) (reports_after : List Report) (log_after : LogPlace)
-      (events rest : List ℕ) →
+      (events rest : List Item) →
       later ≡ record listing { events = events } → events_of history ≡ events ++ rest → n0 ≤ length events →
       IsInStep leaves_after seen_after history later rows_after reports_after log_after →
       IsOnWay leaves_after seen_after history later rows_after reports_after log_after n0
@@ -139,7 +140,7 @@ module _ (leaves : Files → Type 0) (seen : Files) (history : List Packet) (lis
         n0_most = on_way.n0_most;
         n0_least = on_way.n0_least;
         closed_behind = on_way.closed_behind;
-        in_step = subst (λ (keys : List ℕ). IsInStep leaves_after seen_after history (record listing { events = keys }) rows_after reports_after log_after) same here;
+        in_step = subst (λ (keys : List Item). IsInStep leaves_after seen_after history (record listing { events = keys }) rows_after reports_after log_after) same here;
       })
 
   -- the journal is that of the history
@@ -160,13 +161,13 @@ rows_there t n0 recounted =
       | inr there ↦ subst (λ n. IsAt t.listing.settings n t.rows) (omega (arith, there)) (recounted.behind there).rows
     ]
 
--- in every image the files of a cone that counts its keys again are sound for the history
+-- in every image the files of a cone that counts its items again are sound for the history
 pub sound_recounted : (leaves : Files → Type 0) (seen : Files) (history : List Packet) (t : Tallied) (log : LogPlace) (n0 : ℕ) → IsRecounted t n0 →
-    IsOnWay leaves seen history t.listing t.rows t.due.reports log n0 → (rest : List ℕ) → events_of history ≡ t.listing.events ++ rest → (image : Files) → leaves image →
+    IsOnWay leaves seen history t.listing t.rows t.due.reports log n0 → (rest : List Item) → events_of history ≡ t.listing.events ++ rest → (image : Files) → leaves image →
     IsSound t.listing.settings t.listing.cone history image
 sound_recounted leaves seen history t log n0 recounted on_way rest is =
     sound_on_way leaves seen history t.listing t.rows t.due.reports log n0 on_way recounted.valid (rows_there t n0 recounted)
-    (omega (arith, ap (length {A = ℕ}) is, length-append t.listing.events rest))
+    (omega (arith, ap (length {A = Item}) is, length-append t.listing.events rest))
 
 -- ---- the end of the way
 

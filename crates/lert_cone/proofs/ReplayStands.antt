@@ -2,8 +2,7 @@
 -- lists it stands for at the end.
 use Rattle.std.proofs.{Common.{◌≡◌, ℕ, ◌+◌, ◌*◌, ◌^◌, ◌<◌, ◌≤◌, Bool, true, false, cond, List, length, Option, Some, None, All, refl, sym, ap, ◌∙◌, subst, arith}, lemmas.Bool.false≢true}
 use Rattle.lert_spec.proofs.ItemLaws.{length-keys_in}
-use Rattle.lert_levels.specs.OnDisk.{written}
-use Rattle.lert_base.specs.Packet.{keys_of}
+use Rattle.lert_cone.specs.History.{written}
 use Rattle.lert_base.specs.Packet.{Packet, events_of}
 use Rattle.lert_bay.specs.{Files.{Files, IfTold, Turns}, Images.KeepsImages}
 use Rattle.lert_gatelog.specs.{declared.fault.LogFault.LogFault, declared.fault.LogFault.TheVariants.{Failed as LogFailed, Malformed as LogMalformed}, Gated.{IsClosed, Log, next_gate}}
@@ -192,7 +191,7 @@ module _ {B : Type 0} {files : B → Option Files} {leaves : B → Files → Typ
       (history : List Packet)
       → state ≡ cond last.closed Finished Running → gate_after ≡ gate → IsRecounted tally last.n0 → last.n0 ≤ length tally.listing.events → IsValid tally.listing.settings →
       events ≤ capacity tally.listing.settings
-      → All (λ packet. 0 < length (keys_of packet)) history → length (events_of history) ≡ events → IfTold (files bay) (leaves bay)
+      → All (λ packet. 0 < length packet.items) history → length (events_of history) ≡ events → IfTold (files bay) (leaves bay)
       → (WereSoundAs files tally.listing.settings tally.listing.cone made
       → IfTold (files bay) (λ _. Replays files leaves (seen_as bay made tally events stopped gate log last) history history))
       → StandsFor files leaves faults (record (readied (seen_as bay made tally events stopped gate log last)) { state = state; gate = gate_after }) history
@@ -223,9 +222,9 @@ settled_then left settled seen told =
     let back = turns_back left.seen seen told in
     settled_through left back.0 back.1 (settled back.0 back.1) seen told
 
--- the gate behind a packet lies as far on as its keys need
-pub near_then : (gate gate_after events events_after : ℕ) (packet : Packet) → gate ≤ 2 ^ 62 → gate_after ≡ next_gate gate (payload_of written packet) → 0 < length (keys_of packet) →
-    events_after ≡ events + length (keys_of packet) → gate_after ≤ 2 ^ 62 + 21 * events_after
+-- the gate behind a packet lies as far on as its items need
+pub near_then : (gate gate_after events events_after : ℕ) (packet : Packet) → gate ≤ 2 ^ 62 → gate_after ≡ next_gate gate (payload_of written packet) → 0 < length packet.items →
+    events_after ≡ events + length packet.items → gate_after ≤ 2 ^ 62 + 21 * events_after
 near_then gate gate_after events events_after packet reach is some events_is = omega (arith, reach, is, length_payload written packet, length-keys_in packet.items, some, events_is)
 
 -- a place at which the format is left, said of the listing's state

@@ -1,4 +1,5 @@
 -- Keys of a journal that is read again: the first of them are counted again, and the others are taken.
+use Rattle.lert_spec.specs.declared.item.Item.{Item}
 use Rattle.std.proofs.Common.{◌≡◌, ℕ, ◌-◌, ◌<◌, ◌≤◌, List, ◌++◌, length, take, drop, min, Option, Some, sym, ap, ◌∙◌, subst, arith, append_assoc, length-append, length-take, length-drop}
 use Rattle.std.proofs.lemmas.Option.{same_Some}
 use Rattle.lert_base.specs.Packet.{Packet, events_of}
@@ -8,7 +9,7 @@ use Rattle.lert_cone.specs.{Due.Dues, InStep.{IsInStep, IsPartway}, Listing.List
 use Rattle.lert_cone.proofs.{GateLaws.keys_cut, ReplayLaws.{on_way_counted, in_step_behind, partway_behind, on_way_behind}}
 
 -- `a` is the tally behind the first keys, which were counted again, and `log` the log, of which nothing was written
-module _ (leaves : Files → Type 0) (seen : Files) (history : List Packet) (t a : Tallied) (log : LogPlace) (n0 count : ℕ) (keys rest : List ℕ)
+module _ (leaves : Files → Type 0) (seen : Files) (history : List Packet) (t a : Tallied) (log : LogPlace) (n0 count : ℕ) (keys rest : List Item)
     (on_way : IsOnWay leaves seen history t.listing t.rows t.due.reports log n0) (is : events_of history ≡ t.listing.events ++ (keys ++ rest))
     (early : count ≤ n0 - length t.listing.events) (listing_is : a.listing ≡ record t.listing { events = t.listing.events ++ take count keys }) (rows_are : a.rows ≡ t.rows)
     (due_is : a.due ≡ t.due) where
@@ -23,7 +24,7 @@ module _ (leaves : Files → Type 0) (seen : Files) (history : List Packet) (t a
       keys_cut history t.listing.events keys rest count is
       ∙ ap (λ events. events ++ (drop count keys ++ rest)) (sym (ap (λ (l : Listing). l.events) listing_is))
 
-  -- where n0 keys are there, the others are taken as those of a packet that is admitted
+  -- where n0 items are there, the others are taken as those of a packet that is admitted
   module _ (enough : n0 ≤ length a.listing.events) where
     pub way_in_step : IsInStep leaves seen history a.listing a.rows a.due.reports log
     way_in_step = in_step_behind leaves seen history a.listing a.rows a.due.reports log n0 way_counted (drop count keys ++ rest) ahead enough
@@ -40,8 +41,8 @@ module _ (leaves : Files → Type 0) (seen : Files) (history : List Packet) (t a
         (ahead ∙ sym (append_assoc a.listing.events (drop count keys) rest))
         (omega (arith, enough, length-append a.listing.events (drop count keys))) step
 
--- where keys are left behind those that are counted again, n0 keys are there
-pub enough_counted : (t a : Tallied) (n0 count : ℕ) (keys : List ℕ) → count ≡ min (n0 - length t.listing.events) (length keys) → 0 < length (drop count keys) →
+-- where items are left behind those that are counted again, n0 items are there
+pub enough_counted : (t a : Tallied) (n0 count : ℕ) (keys : List Item) → count ≡ min (n0 - length t.listing.events) (length keys) → 0 < length (drop count keys) →
     a.listing ≡ record t.listing { events = t.listing.events ++ take count keys } → n0 ≤ length a.listing.events
 enough_counted t a n0 count keys count_is some listing_is =
     omega (arith, count_is, some, length-drop count keys, length-take count keys, length-append t.listing.events (take count keys), ap (λ (l : Listing). length l.events) listing_is)

@@ -1,23 +1,85 @@
 -- Reports are few: each is of a key of its own, and each of these keys reaches the threshold.
-use Rattle.std.proofs.{Common.{◌≡◌, ◌≢◌, ℕ, ◌+◌, ◌*◌, ◌≤◌, suc, cond, eqb, not, List, [], ◌∷◌, length, filter, refl, ap, sym, ◌∙◌, arith, inl, inr}, Math.Nat.{mul-suc, mul-le-mul_left}}
-use Rattle.std.proofs.{lemmas.Bool.{cases_lt, cases_eq, eq-eqb, ne_eqb}, lemmas.List.Filters.length-filter_both, lemmas.List.Sums.{length-filter, sum_by-cons}}
-use Rattle.lert_spec.specs.{declared.numbers.Numbers.Numbers, declared.report.Report.Report, Counts.count, Edges.capacity, Limits.IsValid, Look.{look, closing}}
-use Rattle.lert_spec.specs.Timely.{IsReportedOnTime, times_listed}
-use Rattle.lert_spec.proofs.{ReportLaws.{times, times-filter, count_le-times}, TimeBound.{IsTimely-closing, IsTimelySoFar-look}}
+use Rattle.std.proofs.{Common.{◌≡◌, ◌≢◌, ℕ, ◌+◌, ◌*◌, ◌≤◌, suc, cond, eqb, not, List, [], ◌∷◌, length, filter, refl, ap, sym, ◌∙◌, arith, inl, inr, sum_by}, Math.Nat.{mul-suc, mul-le-mul_left}}
+use Rattle.std.proofs.{lemmas.Bool.{cases_lt, cases_eq, eq-eqb, ne_eqb}, lemmas.List.Elements.{All-head, All-tail}, lemmas.List.Sums.{sum_by-cons}}
+use Rattle.lert_spec.specs.{declared.item.Item.Item, declared.numbers.Numbers.Numbers, declared.report.Report.Report, Counts.{weighed, weight_for, weight_in, weight_of}, Edges.capacity}
+use Rattle.lert_spec.specs.{Items.AreOfVersion, Limits.IsValid, Look.{look_of, closing_of}, Timely.{IsReportedOnTimeIn, times_listed}}
+use Rattle.lert_spec.proofs.{CountLaws.count-whole, TimeBound.{timely_closing, timely_so_far}}
 
--- the events without those of a key
-abbrev others : ℕ → List ℕ → List ℕ
-others key events = filter (λ event. not (eqb event key)) events
+-- what a key weighs among items
+abbrev pub weight_under : ℕ → List Item → ℕ
+weight_under key events = sum_by (weight_for weighed key) events
 
-length-others : (key : ℕ) (events : List ℕ) → times key events + length (others key events) ≡ length events
-length-others key events =
-    ap (λ n. n + length (others key events)) (sym (length-filter (λ event. eqb event key) events))
-    ∙ length-filter_both (λ event. eqb event key) (λ event. not (eqb event key)) (λ event. refl) events
+-- the items without those of a key
+abbrev others : ℕ → List Item → List Item
+others key events = filter (λ event. not (eqb event.key key)) events
 
-times-others : (key other : ℕ) (events : List ℕ) → other ≢ key → times other (others key events) ≡ times other events
-times-others key other events differs =
-    times-filter other (λ event. not (eqb event key)) events
-    ∙ ap (λ t. cond {A = ℕ} (not t) (times other events) 0) (ne_eqb other key differs)
+others-cons_same : (key : ℕ) (event : Item) (events : List Item) → event.key ≡ key → others key (event ∷ events) ≡ others key events
+others-cons_same key event events same = ap (λ t. cond (not t) (event ∷ others key events) (others key events)) (eq-eqb event.key key same)
+
+others-cons_other : (key : ℕ) (event : Item) (events : List Item) → event.key ≢ key → others key (event ∷ events) ≡ event ∷ others key events
+others-cons_other key event events differs = ap (λ t. cond (not t) (event ∷ others key events) (others key events)) (ne_eqb event.key key differs)
+
+under-cons : (key : ℕ) (event : Item) (events : List Item) → weight_under key (event ∷ events) ≡ cond {A = ℕ} (eqb event.key key) event.weight 0 + weight_under key events
+under-cons key event events = sum_by-cons (weight_for weighed key) event events
+
+weight-others : (key : ℕ) (events : List Item) → weight_under key events + weight_of weighed (others key events) ≡ weight_of weighed events
+weight-others key [] = refl
+weight-others key (event ∷ events) =
+    let rest = weight-others key events in
+    let parts = under-cons key event events in
+    let whole = sum_by-cons (λ (item : Item). item.weight) event events in
+    elim (cases_eq event.key key) [
+      | inl same ↦ omega (
+        arith,
+        rest,
+        parts,
+        whole,
+        ap (λ t. cond {A = ℕ} t event.weight 0) (eq-eqb event.key key same),
+        ap (weight_of weighed) (others-cons_same key event events same),
+      )
+      | inr differs ↦ omega (
+        arith,
+        rest,
+        parts,
+        whole,
+        ap (λ t. cond {A = ℕ} t event.weight 0) (ne_eqb event.key key differs),
+        ap (weight_of weighed) (others-cons_other key event events differs),
+        sum_by-cons (λ (item : Item). item.weight) event (others key events),
+      )
+    ]
+
+under-others : (key other : ℕ) (events : List Item) → other ≢ key → weight_under other (others key events) ≡ weight_under other events
+under-others key other [] differs = refl
+under-others key other (event ∷ events) differs =
+    let rest = under-others key other events differs in
+    let parts = under-cons other event events in
+    elim (cases_eq event.key key) [
+      | inl same ↦ omega (
+        arith,
+        rest,
+        parts,
+        ap (λ t. cond {A = ℕ} t event.weight 0) (ne_eqb event.key other (λ is. differs (sym is ∙ same))),
+        ap (weight_under other) (others-cons_same key event events same),
+      )
+      | inr not_it ↦ omega (
+        arith,
+        rest,
+        parts,
+        ap (weight_under other) (others-cons_other key event events not_it),
+        under-cons other event (others key events),
+      )
+    ]
+
+-- what each weighs 1 weighs as many as they are
+pub weight_units : (events : List Item) → AreOfVersion 1 events → weight_of weighed events ≤ length events
+weight_units [] are = omega arith
+weight_units (event ∷ events) are =
+    let P : Item → Type 0 = λ item. (1 ≤ item.weight) × (item.weight ≤ 1) in
+    omega (arith, All-head P event events are, weight_units events (All-tail P event events are), sum_by-cons (λ (item : Item). item.weight) event events)
+
+-- what weighs 1 is within the capacity by its number
+pub few_weigh : (s : Numbers) (events : List Item) → length events ≤ capacity s → AreOfVersion 1 events → weight_of weighed events ≤ capacity s
+few_weigh s events fits light = omega (arith, fits, weight_units events light)
 
 listed_same : (key : ℕ) (report : Report) (reports : List Report) → report.key ≡ key → times_listed key (report ∷ reports) ≡ 1 + times_listed key reports
 listed_same key report reports same =
@@ -30,13 +92,13 @@ listed_other key report reports differs =
     ∙ ap (λ t. cond {A = ℕ} t 1 0 + times_listed key reports) (ne_eqb report.key key differs)
     ∙ omega arith
 
--- each key is listed at most once, and only where it occurs often enough
-pub record AreHeavy (threshold : ℕ) (events : List ℕ) (reports : List Report) : Type 0 where
+-- each key is listed at most once, and only where it weighs enough
+pub record AreHeavy (threshold : ℕ) (events : List Item) (reports : List Report) : Type 0 where
   pub once : (key : ℕ) → times_listed key reports ≤ 1
-  pub enough : (key : ℕ) → threshold * times_listed key reports ≤ times key events
+  pub enough : (key : ℕ) → threshold * times_listed key reports ≤ weight_under key events
 
--- reports take so many events each
-pub few_heavy : (threshold : ℕ) (events : List ℕ) (reports : List Report) → AreHeavy threshold events reports → threshold * length reports ≤ length events
+-- reports take so much weight each
+pub few_heavy : (threshold : ℕ) (events : List Item) (reports : List Report) → AreHeavy threshold events reports → threshold * length reports ≤ weight_of weighed events
 few_heavy threshold events [] heavy = omega arith
 few_heavy threshold events (report ∷ reports) heavy =
     let key = report.key in
@@ -44,7 +106,7 @@ few_heavy threshold events (report ∷ reports) heavy =
     let none : times_listed key reports ≡ 0 = omega (arith, heavy.once key) in
     let one : times_listed key (report ∷ reports) ≡ 1 = omega arith in
     let mine = heavy.enough key in
-    let taken : threshold ≤ times key events = omega (arith, ap (λ n. threshold * n) one) in
+    let taken : threshold ≤ weight_under key events = omega (arith, ap (λ n. threshold * n) one) in
     let rest = few_heavy threshold (others key events) reports (record {
       once = λ k. elim (cases_eq key k) [
         | inl same ↦ omega (arith, ap (λ n. times_listed n reports) same)
@@ -52,42 +114,42 @@ few_heavy threshold events (report ∷ reports) heavy =
       ];
       enough = λ k. elim (cases_eq key k) [
         | inl same ↦ (let gone : threshold * times_listed k reports ≡ 0 = ap (λ n. threshold * n) (ap (λ n. times_listed n reports) (sym same) ∙ none) ∙ omega arith in omega arith)
-        | inr differs ↦ omega (arith, heavy.enough k, ap (λ n. threshold * n) (listed_other k report reports differs), times-others key k events (λ same. differs (sym same)))
+        | inr differs ↦ omega (arith, heavy.enough k, ap (λ n. threshold * n) (listed_other k report reports differs), under-others key k events (λ same. differs (sym same)))
       ];
     }) in
-    omega (arith, length-others key events, mul-suc threshold (length reports))
+    omega (arith, weight-others key events, mul-suc threshold (length reports))
 
-module _ (s : Numbers) (events : List ℕ) (valid : IsValid s) (fits : length events ≤ capacity s) where
-  in_time : (reports : List Report) (key : ℕ) → IsReportedOnTime s.threshold s.bins events reports key → s.threshold ≤ count key events 0 (length events) →
-      (times_listed key reports ≤ 1) × (s.threshold * times_listed key reports ≤ times key events)
+module _ (s : Numbers) (events : List Item) (valid : IsValid s) (fits : length events ≤ capacity s) (light : weight_of weighed events ≤ capacity s) where
+  in_time : (reports : List Report) (key : ℕ) → IsReportedOnTimeIn weighed s.threshold s.bins events reports key → s.threshold ≤ weight_in weighed key events 0 (length events) →
+      (times_listed key reports ≤ 1) × (s.threshold * times_listed key reports ≤ weight_under key events)
   in_time reports key reported heavy = (
     omega (arith, reported.once),
-    omega (arith, ap (λ n. s.threshold * n) reported.once, count_le-times key events 0 (length events)),
+    omega (arith, ap (λ n. s.threshold * n) reported.once, count-whole weighed key events),
   )
 
-  absent : (reports : List Report) (key : ℕ) → times_listed key reports ≡ 0 → (times_listed key reports ≤ 1) × (s.threshold * times_listed key reports ≤ times key events)
+  absent : (reports : List Report) (key : ℕ) → times_listed key reports ≡ 0 → (times_listed key reports ≤ 1) × (s.threshold * times_listed key reports ≤ weight_under key events)
   absent reports key none = (omega (arith, none), omega (arith, ap (λ n. s.threshold * n) none))
 
-  look_heavy : (key : ℕ) → (times_listed key (look s events) ≤ 1) × (s.threshold * times_listed key (look s events) ≤ times key events)
+  look_heavy : (key : ℕ) → (times_listed key (look_of weighed s events) ≤ 1) × (s.threshold * times_listed key (look_of weighed s events) ≤ weight_under key events)
   look_heavy key =
-      let timely = IsTimelySoFar-look s events valid fits in
-      elim (cases_lt (count key events 0 (length events)) s.threshold) [
-        | inl light ↦ absent (look s events) key (timely.light key light)
+      let timely = timely_so_far weighed s events valid fits in
+      elim (cases_lt (weight_in weighed key events 0 (length events)) s.threshold) [
+        | inl light ↦ absent (look_of weighed s events) key (timely.light key light)
         | inr heavy ↦ elim (timely.heavy key heavy) [
-          | inl reported ↦ in_time (look s events) key reported heavy
-          | inr missing ↦ absent (look s events) key missing.missing
+          | inl reported ↦ in_time (look_of weighed s events) key reported heavy
+          | inr missing ↦ absent (look_of weighed s events) key missing.missing
         ]
       ]
 
-  closing_heavy : (key : ℕ) → (times_listed key (closing s events) ≤ 1) × (s.threshold * times_listed key (closing s events) ≤ times key events)
+  closing_heavy : (key : ℕ) → (times_listed key (closing_of weighed s events) ≤ 1) × (s.threshold * times_listed key (closing_of weighed s events) ≤ weight_under key events)
   closing_heavy key =
-      let timely = IsTimely-closing s events valid fits in
-      elim (cases_lt (count key events 0 (length events)) s.threshold) [
-        | inl light ↦ absent (closing s events) key (timely.light key light)
-        | inr heavy ↦ in_time (closing s events) key (timely.heavy key heavy) heavy
+      let timely = timely_closing weighed s events valid fits in
+      elim (cases_lt (weight_in weighed key events 0 (length events)) s.threshold) [
+        | inl light ↦ absent (closing_of weighed s events) key (timely.light key light)
+        | inr heavy ↦ in_time (closing_of weighed s events) key (timely.heavy key heavy) heavy
       ]
 
-  within_room : (reports : List Report) → s.threshold * length reports ≤ length events → length reports ≤ s.room
+  within_room : (reports : List Report) → s.threshold * length reports ≤ weight_of weighed events → length reports ≤ s.room
   within_room reports few =
       elim (cases_lt s.room (length reports)) [
         | inl more ↦ absurd (let wide = mul-le-mul_left s.threshold (let above : suc s.room ≤ length reports = omega arith in above) in
@@ -96,8 +158,11 @@ module _ (s : Numbers) (events : List ℕ) (valid : IsValid s) (fits : length ev
       ]
 
   -- the reports that are made while events come, and those of a closed cone, are at most as many as there is room for
-  pub look_fits : length (look s events) ≤ s.room
-  look_fits = within_room (look s events) (few_heavy s.threshold events (look s events) (record { once = λ key. (look_heavy key).0; enough = λ key. (look_heavy key).1 }))
+  pub look_fits : length (look_of weighed s events) ≤ s.room
+  look_fits = within_room (look_of weighed s events) (few_heavy s.threshold events (look_of weighed s events) (record { once = λ key. (look_heavy key).0; enough = λ key. (look_heavy key).1 }))
 
-  pub closing_fits : length (closing s events) ≤ s.room
-  closing_fits = within_room (closing s events) (few_heavy s.threshold events (closing s events) (record { once = λ key. (closing_heavy key).0; enough = λ key. (closing_heavy key).1 }))
+  pub closing_fits : length (closing_of weighed s events) ≤ s.room
+  closing_fits = within_room (closing_of weighed s events) (few_heavy s.threshold events (closing_of weighed s events) (record {
+    once = λ key. (closing_heavy key).0;
+    enough = λ key. (closing_heavy key).1;
+  }))

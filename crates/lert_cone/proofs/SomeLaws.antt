@@ -1,14 +1,15 @@
 -- Frames that hold the bins of some events, whatever these are, through a key and the flush that it may bring.
 use Rattle.std.proofs.Common.{ℕ, ◌≡◌, ◌+◌, ◌-◌, ◌*◌, ◌/◌, ◌≤◌, suc, ltb, List, [], ◌∷◌, ◌++◌, length, map, filter, take, drop, get_or, min, max, All, ap, sym, ◌∙◌, arith, subst, slice_range}
 use Rattle.std.proofs.{Common.length-append, lemmas.List.{take-append-drop, length-take, length-drop}, lemmas.Slice.drop-append-drop}
+use Rattle.std.proofs.lemmas.List.Elements.{All-append, All-take, All-drop}
 use Rattle.std.specs.List.{range_with_len}
 use Rattle.lert_frames.specs.Frame.{HoldsFrame}
-use Rattle.lert_spec.specs.{declared.numbers.Numbers.Numbers, Bins.{Bin, bin_at, tallied}, Edges.{span, edge}, Limits.IsValid}
+use Rattle.lert_spec.specs.{declared.numbers.Numbers.Numbers, Bins.{Bin, bin_in, tally}, Counts.weighed, declared.item.Item.Item, Items.{most_weight, AreOfVersion}, Edges.{span, edge}, Limits.IsValid}
 use Rattle.lert_spec.proofs.{EdgeLaws.edge_descends_to, LookLaws.slice_range-append}
 use Rattle.lert_levels.specs.{declared.rows.bin_at.BinAt.BinAt, rows.Ranges.young_bins, rows.Rows.{row_of, IsAt, HoldsBins, tallied_in}}
 use Rattle.lert_levels.proofs.{rows.RangeLaws.{IsCut, cuts_are, edge_within}, rows.RowLaws.All-ranges}
 use Rattle.lert_cone.specs.{Framed.HoldsSome, Tally.Tallied}
-use Rattle.lert_levels.specs.OnDisk.{written}
+use Rattle.lert_cone.specs.History.{written}
 
 module _ (s : Numbers) (valid : IsValid s) where
   -- the bins of the older levels end where level 0 begins
@@ -23,69 +24,77 @@ module _ (s : Numbers) (valid : IsValid s) where
       λ k d inside. (let cut = All-ranges (IsCut wide high) (row_of rows level) cuts k d inside in omega (arith, cut.end, below))
 
   -- so further events behind those of the older levels change nothing, and neither does it to leave them out
-  some_more : (n : ℕ) (rows : List (List BinAt)) (events others file : List ℕ) → IsAt s n rows → length events ≡ edge s 0 n → HoldsBins s written events rows file →
+  some_more : (n : ℕ) (rows : List (List BinAt)) (events others : List Item) (file : List ℕ) → IsAt s n rows → length events ≡ edge s 0 n → HoldsBins s written events rows file →
       HoldsBins s written (events ++ others) rows file
   some_more n rows events others file at len holds level from within k d below =
       let end = bins_under n rows at level from within k d below in
       let bin = get_or (row_of rows level) k d in
-      let same : tallied_in s events bin ≡ tallied_in s (events ++ others) bin = ap (tallied s) (sym (slice_range-append events others bin.from bin.to (omega (arith, end, len)))) in
+      let same : tallied_in s events bin ≡ tallied_in s (events ++ others) bin = ap (tally weighed s) (sym (slice_range-append events others bin.from bin.to (omega (arith, end, len)))) in
       subst (HoldsFrame s written level bin.frame file) same (holds level from within k d below)
 
-  some_fewer : (n : ℕ) (rows : List (List BinAt)) (events file : List ℕ) → IsAt s n rows → edge s 0 n ≤ length events → HoldsBins s written events rows file → HoldsSome s n rows file
-  some_fewer n rows events file at long holds =
+  some_fewer : (n : ℕ) (rows : List (List BinAt)) (events : List Item) (file : List ℕ) → IsAt s n rows → edge s 0 n ≤ length events → AreOfVersion written events → HoldsBins s written events
+      rows file → HoldsSome s n rows file
+  some_fewer n rows events file at long light holds =
       let e = edge s 0 n in
       let front = take e events in
       let len : length front ≡ e = omega (arith, length-take e events, long) in
       record {
         events = front;
         len = len;
+        light = All-take (λ (i : Item). (1 ≤ i.weight) × (i.weight ≤ most_weight written)) e events light;
         holds = λ level from within k d below. (
             let end = bins_under n rows at level from within k d below in
             let bin = get_or (row_of rows level) k d in
             let same : tallied_in s events bin ≡ tallied_in s front bin =
-            ap (λ all. tallied s (slice_range all bin.from bin.to)) (sym (take-append-drop e events))
-            ∙ ap (tallied s) (slice_range-append front (drop e events) bin.from bin.to (omega (arith, end, len))) in
+            ap (λ all. tally weighed s (slice_range all bin.from bin.to)) (sym (take-append-drop e events))
+            ∙ ap (tally weighed s) (slice_range-append front (drop e events) bin.from bin.to (omega (arith, end, len))) in
             subst (HoldsFrame s written level bin.frame file) same (holds level from within k d below));
       }
 
   -- the events that the frames hold, and behind them the newest of others
-  module _ (all front : List ℕ) (edge_ : ℕ) (len : length front ≡ edge_) (within : edge_ ≤ length all) where
-    abbrev pub shadow : List ℕ
+  module _ (all front : List Item) (edge_ : ℕ) (len : length front ≡ edge_) (within : edge_ ≤ length all) where
+    abbrev pub shadow : List Item
     shadow = front ++ drop edge_ all
 
     pub shadow_len : length shadow ≡ length all
     shadow_len = omega (arith, length-append front (drop edge_ all), length-drop edge_ all)
 
-    bin_same : (k : ℕ) → bin_at s shadow 0 edge_ (length all) k ≡ bin_at s all 0 edge_ (length all) k
+    bin_same : (k : ℕ) → bin_in weighed s shadow 0 edge_ (length all) k ≡ bin_in weighed s all 0 edge_ (length all) k
     bin_same k =
         let from = max edge_ (k * span s 0) in
         let to = min (length all) (suc k * span s 0) in
-        ap (λ keys. record { from = from; to = to; pieces = tallied s (take (to - from) keys) }) (drop-append-drop edge_ all front from (omega arith) len)
+        ap (λ items. record { from = from; to = to; pieces = tally weighed s (take (to - from) items) }) (drop-append-drop edge_ all front from (omega arith) len)
 
     -- level 0 has the same bins of both
     pub shadow_young : young_bins s shadow edge_ ≡ young_bins s all edge_
     shadow_young =
-        ap (λ n. filter (λ (bin : Bin). ltb bin.from bin.to) (map (bin_at s shadow 0 edge_ n) (range_with_len 0 (suc (n / span s 0))))) shadow_len
+        ap (λ n. filter (λ (bin : Bin). ltb bin.from bin.to) (map (bin_in weighed s shadow 0 edge_ n) (range_with_len 0 (suc (n / span s 0))))) shadow_len
         ∙ ap (λ (f : ℕ → Bin). filter (λ (bin : Bin). ltb bin.from bin.to) (map f (range_with_len 0 (suc (length all / span s 0))))) (λ i k. bin_same k i)
 
-  -- the next key, where the frames hold the bins of some events
-  module _ (events : List ℕ) (key : ℕ) (rows : List (List BinAt)) (file : List ℕ) (at : IsAt s (length events) rows) (some : HoldsSome s (length events) rows file) where
-    abbrev pub with_key : List ℕ
-    with_key = some.events ++ drop (edge s 0 (length events)) (events ++ key ∷ [])
+  -- the next item, where the frames hold the bins of some events
+  module _ (events : List Item) (item : Item) (rows : List (List BinAt)) (file : List ℕ) (at : IsAt s (length events) rows) (some : HoldsSome s (length events) rows file) where
+    abbrev pub with_key : List Item
+    with_key = some.events ++ drop (edge s 0 (length events)) (events ++ item ∷ [])
 
     pub with_key_len : length with_key ≡ suc (length events)
-    with_key_len = shadow_len (events ++ key ∷ []) some.events (edge s 0 (length events)) some.len (omega (arith, length-append events (key ∷ []), edge_within s 0 (length events))) ∙ omega
-        (arith, length-append events (key ∷ []))
+    with_key_len = shadow_len (events ++ item ∷ []) some.events (edge s 0 (length events)) some.len (omega (arith, length-append events (item ∷ []), edge_within s 0 (length events))) ∙ omega
+        (arith, length-append events (item ∷ []))
 
-    pub with_key_young : young_bins s with_key (edge s 0 (length events)) ≡ young_bins s (events ++ key ∷ []) (edge s 0 (length events))
-    with_key_young = shadow_young (events ++ key ∷ []) some.events (edge s 0 (length events)) some.len (omega (arith, length-append events (key ∷ []), edge_within s 0 (length events)))
+    pub with_key_light : AreOfVersion written (events ++ item ∷ []) → AreOfVersion written with_key
+    with_key_light light =
+        let P : Item → Type 0 = λ i. (1 ≤ i.weight) × (i.weight ≤ most_weight written) in
+        All-append P some.events (drop (edge s 0 (length events)) (events ++ item ∷ [])) some.light (All-drop P (edge s 0 (length events)) (events ++ item ∷ []) light)
+
+    pub with_key_young : young_bins s with_key (edge s 0 (length events)) ≡ young_bins s (events ++ item ∷ []) (edge s 0 (length events))
+    with_key_young = shadow_young (events ++ item ∷ []) some.events (edge s 0 (length events)) some.len (omega (arith, length-append events (item ∷ []), edge_within s 0 (length events)))
 
     pub with_key_holds : HoldsBins s written with_key rows file
-    with_key_holds = some_more (length events) rows some.events (drop (edge s 0 (length events)) (events ++ key ∷ [])) file at some.len some.holds
+    with_key_holds = some_more (length events) rows some.events (drop (edge s 0 (length events)) (events ++ item ∷ [])) file at some.len some.holds
 
-    pub with_key_some : (new_rows : List (List BinAt)) (new : List ℕ) → IsAt s (suc (length events)) new_rows → HoldsBins s written with_key new_rows new →
+    pub with_key_some : (new_rows : List (List BinAt)) (new : List ℕ) → IsAt s (suc (length events)) new_rows → AreOfVersion written (events ++ item ∷ []) → HoldsBins s written with_key new_rows new →
         HoldsSome s (suc (length events)) new_rows new
-    with_key_some new_rows new at_new holds = some_fewer (suc (length events)) new_rows with_key new at_new (omega (arith, with_key_len, edge_within s 0 (suc (length events)))) holds
+    with_key_some new_rows new at_new light holds = some_fewer (suc (length events)) new_rows with_key new at_new (omega (arith, with_key_len, edge_within s 0 (suc (length events))))
+        (with_key_light light) holds
 
 -- the same rows with other words for how many events there are
 pub some_counted : (before after : Tallied) (n : ℕ) (file : List ℕ) → after.listing.settings ≡ before.listing.settings → after.rows ≡ before.rows →

@@ -1,8 +1,14 @@
 -- The files of a cone as their headers leave them, and through an append.
+use Rattle.lert_spec.specs.declared.item.Item.{Item}
+use Rattle.lert_spec.specs.Items.{AreOfVersion}
+use Rattle.lert_spec.specs.Items.{most_weight}
+use Rattle.std.proofs.lemmas.List.Elements.{All-head}
+use Rattle.std.proofs.lemmas.List.Elements.{All-append}
+use Rattle.std.proofs.lemmas.List.Elements.{All-tail}
 use Rattle.std.proofs.Common.{◌≡◌, ℕ, ◌+◌, ◌^◌, ◌<◌, ◌≤◌, List, [], ◌∷◌, ◌++◌, length, take, get_or, Option, Some, None, All, refl, sym, ap, ◌∙◌, subst, arith, length-append, append-nil}
 use Rattle.std.proofs.{Math.Seq.get_or-append_seam, lemmas.Grind.flat_map-append, lemmas.List.{take-take, take_at, take_all}, lemmas.List.Elements.All-nil, lemmas.Option.{none-some, same_Some}}
 use Rattle.lert_spec.proofs.ItemLaws.{length-keys_in}
-use Rattle.lert_levels.specs.OnDisk.{written}
+use Rattle.lert_cone.specs.History.{written}
 use Rattle.lert_base.specs.Packet.{keys_of}
 use Rattle.lert_base.specs.Packet.{Packet, events_of}
 use Rattle.lert_bay.specs.{Files.{Files, Turns}, Settled.{part, Keeps}}
@@ -27,16 +33,24 @@ turns_back {before = None} turns new told = absurd (none-some new (sym (turns.un
 
 -- ---- histories
 
--- the keys of one packet more
-pub events_more : (history : List Packet) (packet : Packet) → events_of (history ++ packet ∷ []) ≡ events_of history ++ keys_of packet
-events_more history packet = flat_map-append (λ p. (keys_of p)) history (packet ∷ []) ∙ ap (λ keys. events_of history ++ keys) (append-nil (keys_of packet))
+-- the items of one packet more
+pub events_more : (history : List Packet) (packet : Packet) → events_of (history ++ packet ∷ []) ≡ events_of history ++ packet.items
+events_more history packet = flat_map-append (λ p. p.items) history (packet ∷ []) ∙ ap (λ keys. events_of history ++ keys) (append-nil packet.items)
 
-pub counted_more : (history : List Packet) (packet : Packet) → length (events_of (history ++ packet ∷ [])) ≡ length (events_of history) + length (keys_of packet)
-counted_more history packet = ap length (events_more history packet) ∙ length-append (events_of history) (keys_of packet)
+pub counted_more : (history : List Packet) (packet : Packet) → length (events_of (history ++ packet ∷ [])) ≡ length (events_of history) + length packet.items
+counted_more history packet = ap length (events_more history packet) ∙ length-append (events_of history) packet.items
 
 -- a packet that a journal may hold has a key
-pub some_keys_of : (s : Numbers) (cone : ℕ) (packet : Packet) → IsJournaled written s cone packet → 0 < length (keys_of packet)
+pub some_keys_of : (s : Numbers) (cone : ℕ) (packet : Packet) → IsJournaled written s cone packet → 0 < length packet.items
 some_keys_of s cone packet may = omega (arith, may.some, length-keys_in packet.items)
+
+-- the items of packets that a journal may hold weigh what its version allows
+pub history_light : (s : Numbers) (cone : ℕ) (history : List Packet) → All (IsJournaled written s cone) history → AreOfVersion written (events_of history)
+history_light s cone [] journaled = All-nil (λ (item : Item). (1 ≤ item.weight) × (item.weight ≤ most_weight written))
+history_light s cone (packet ∷ history) journaled =
+    All-append (λ (item : Item). (1 ≤ item.weight) × (item.weight ≤ most_weight written)) packet.items (events_of history)
+    (All-head (IsJournaled written s cone) packet history journaled).weighed
+    (history_light s cone history (All-tail (IsJournaled written s cone) packet history journaled))
 
 -- the gate behind one packet more
 pub end_more : (history : List Packet) (packet : Packet) → next_gate (end_of history) (payload_of written packet) ≡ end_of (history ++ packet ∷ [])

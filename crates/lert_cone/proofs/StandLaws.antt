@@ -1,10 +1,11 @@
--- Which lists a cone stands for: when it is made, through an append and the keys behind it, and when it is finished.
+-- Which lists a cone stands for: when it is made, through an append and the items behind it, and when it is finished.
+use Rattle.lert_spec.specs.Counts.{weighed}
+use Rattle.lert_spec.specs.declared.item.Item.{Item}
 use Rattle.std.proofs.{Common.{◌≡◌, ℕ, ◌+◌, ◌*◌, ◌<◌, ◌≤◌, true, false, List, [], ◌++◌, length, Option, None, All, cond, refl, sym, ap, ◌∙◌, subst, arith, length-append}, lemmas.Bool.false≢true}
 use Rattle.std.proofs.lemmas.List.Elements.{All-nil}
 use Rattle.std.specs.Prelude.{replicate}
 use Rattle.lert_spec.proofs.ItemLaws.{length-keys_in}
-use Rattle.lert_levels.specs.OnDisk.{written}
-use Rattle.lert_base.specs.Packet.{keys_of}
+use Rattle.lert_cone.specs.History.{written}
 use Rattle.lert_base.specs.Packet.{Packet, events_of}
 use Rattle.lert_bay.specs.Files.{Files, IfTold, Turns}
 use Rattle.lert_gatelog.specs.Gated.{IsClosed, Log, next_gate}
@@ -14,7 +15,7 @@ use Rattle.lert_journal.proofs.PayloadLaws.{length_payload}
 use Rattle.lert_levels.specs.declared.rows.bin_at.BinAt.{BinAt}
 use Rattle.lert_levels.proofs.LaterLaws.{HoldsBins-none}
 use Rattle.lert_reports.specs.{Log.most_record, declared.log_point.LogPoint.LogPoint}
-use Rattle.lert_spec.specs.{declared.numbers.Numbers.Numbers, declared.report.Report.Report, Edges.capacity, Limits.IsValid, Look.{look, closing}}
+use Rattle.lert_spec.specs.{declared.numbers.Numbers.Numbers, declared.report.Report.Report, Edges.capacity, Limits.IsValid, Look.{look_of, closing_of}}
 use Rattle.lert_cone.specs.{declared.state.ConeState.ConeState, declared.state.ConeState.TheVariants.{Running, Finished, BrokenByBay, BrokenByRead}, History.most_payload}
 use Rattle.lert_cone.specs.{InStep.{IsInStep, IsLogging, AreNew}, Listing.{Listing, reports_of}, JournalPlaces.places_at_start, Record.LogPlace, Room.room_of, Sound.{IsSound, IsSoundOver, IsKept}}
 use Rattle.lert_cone.specs.{Stands.{Standing, StandsFor, IsCone, IsSameCone, IsWhole, WasSound, is_broken, is_finished}, Tally.{Tallied, IsCounted}, Wrote.{Anything, IsShutIfTold}}
@@ -38,12 +39,14 @@ cone_at bay made tally events state over gate log last = record {
   last = last;
 }
 
--- the reports of a list of these keys
-pub reports_running : (listing : Listing) (keys : List ℕ) → listing.closed ≡ false → listing.events ≡ keys → reports_of listing ≡ look listing.settings keys
-reports_running listing keys still is = ap (λ b. cond b (closing listing.settings listing.events) (look listing.settings listing.events)) still ∙ ap (look listing.settings) is
+-- the reports of a list of these items
+pub reports_running : (listing : Listing) (keys : List Item) → listing.closed ≡ false → listing.events ≡ keys → reports_of listing ≡ look_of weighed listing.settings keys
+reports_running listing keys still is = ap (λ b. cond b (closing_of weighed listing.settings listing.events) (look_of weighed listing.settings listing.events)) still ∙ ap (look_of weighed
+    listing.settings) is
 
-pub reports_finished : (listing : Listing) (keys : List ℕ) → listing.closed ≡ true → listing.events ≡ keys → reports_of listing ≡ closing listing.settings keys
-reports_finished listing keys ended is = ap (λ b. cond b (closing listing.settings listing.events) (look listing.settings listing.events)) ended ∙ ap (closing listing.settings) is
+pub reports_finished : (listing : Listing) (keys : List Item) → listing.closed ≡ true → listing.events ≡ keys → reports_of listing ≡ closing_of weighed listing.settings keys
+reports_finished listing keys ended is = ap (λ b. cond b (closing_of weighed listing.settings listing.events) (look_of weighed listing.settings listing.events)) ended ∙ ap (closing_of weighed
+    listing.settings) is
 
 module _ {B : Type 0} (files : B → Option Files) (leaves : B → Files → Type 0) (faults : B → ℕ) where
   -- a new one
@@ -91,7 +94,7 @@ module _ {B : Type 0} (files : B → Option Files) (leaves : B → Files → Typ
       → IfTold (files bay) (λ seen. AreNew s cone (leaves bay) seen) → IfTold (files bay) (leaves bay)
       → StandsFor files leaves faults (cone_at bay made tally 0 Running None gate log last) []
   new_stands bay made s cone tally gate log last valid is gate_is log_is rows_are none counted new as_read = record {
-    some = All-nil (λ packet. 0 < length (keys_of packet));
+    some = All-nil (λ packet. 0 < length packet.items);
     counted = refl;
     within = omega arith;
     valid = subst (λ (l : Listing). IsValid l.settings) (sym is) valid;
@@ -164,7 +167,7 @@ was_before files {old = old} {new = new} same was first told =
 module _ {B : Type 0} {files : B → Option Files} {leaves : B → Files → Type 0} {faults : B → ℕ} where
   -- one in another state that isn't broken, or with a packet more
   pub stands_whole : {old new : Standing B} {history more : List Packet} → IsSameCone old new → is_broken new.state ≡ false → new.over ≡ None
-      → All (λ packet. 0 < length (keys_of packet)) more → length (events_of more) ≡ new.events → new.events ≤ capacity old.listing.settings
+      → All (λ packet. 0 < length packet.items) more → length (events_of more) ≡ new.events → new.events ≤ capacity old.listing.settings
       → (WasSound files old → IfTold (files new.bay) (λ seen. IsWhole (leaves new.bay) seen new.listing new.rows new.reports new.gate new.log more)) →
       StandsFor files leaves faults old history
       → StandsFor files leaves faults new more
@@ -198,12 +201,12 @@ module _ {B : Type 0} {files : B → Option Files} {leaves : B → Files → Typ
     by_read = λ file at is sound. by_read file at is (was_before files same sound);
   }
 
-  -- a packet more, and its keys
+  -- a packet more, and its items
   pub more_cone : {mark : B → ℕ} {bay made last : B} {tally after : Tallied} {events events_after room room_after keys_room : ℕ} {state : ConeState} {over : Option Packet}
       {journal journal_after : Log} {log log_after : LogPlace} {point : LogPoint} (packet : Packet)
-      → state ≡ Running → after.listing ≡ record tally.listing { events = tally.listing.events ++ keys_of packet } → IsCounted after → events_after ≡ events + length (keys_of packet)
-      → journal_after ≡ record journal { gate = next_gate journal.gate (payload_of written packet) } → room_after ≡ room → 0 < length (keys_of packet) →
-      events + length (keys_of packet) ≤ capacity tally.listing.settings
+      → state ≡ Running → after.listing ≡ record tally.listing { events = tally.listing.events ++ packet.items } → IsCounted after → events_after ≡ events + length packet.items
+      → journal_after ≡ record journal { gate = next_gate journal.gate (payload_of written packet) } → room_after ≡ room → 0 < length packet.items →
+      events + length packet.items ≤ capacity tally.listing.settings
       → faults bay ≤ faults last → Turns Anything (files bay) (files last) → mark last ≡ mark bay → IsShutIfTold (files last) (leaves last) 0 journal_after.gate
       → IsLogging after log_after room_after →
       IsShutIfTold (files last) (leaves last) 1 log_after.gate
@@ -221,7 +224,7 @@ module _ {B : Type 0} {files : B → Option Files} {leaves : B → Files → Typ
     tells = turns_on cone.tells turns;
     by_bay = λ never. absurd (false≢true (sym (ap is_broken running) ∙ ap is_broken never));
     none_over = cone.none_over;
-    counted = λ still. omega (arith, ap (λ (l : Listing). length l.events) is, length-append tally.listing.events (keys_of packet), cone.counted still, events_is);
+    counted = λ still. omega (arith, ap (λ (l : Listing). length l.events) is, length-append tally.listing.events packet.items, cone.counted still, events_is);
     tallied = λ _. counted;
     closed = λ still. ap (λ (l : Listing). l.closed) is ∙ cone.closed still;
     near = λ still. omega (arith, cone.near still, ap (λ (j : Log). j.gate) journal_is, length_payload written packet, length-keys_in packet.items, events_is, some);

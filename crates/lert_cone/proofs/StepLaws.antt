@@ -1,4 +1,9 @@
 -- The files of a cone between two calls: when they are sound, and what they keep through calls that leave them alone.
+use Rattle.lert_spec.specs.Items.{AreOfVersion}
+use Rattle.lert_spec.proofs.TallyLaws.{tally_table}
+use Rattle.lert_levels.proofs.rows.WeightLaws.{costs_number, version_slice, version_weigh, weigh_slice}
+use Rattle.lert_spec.specs.Counts.{weighed}
+use Rattle.lert_spec.specs.declared.item.Item.{Item}
 use Rattle.std.proofs.Common.{◌≡◌, ℕ, suc, ◌+◌, ◌-◌, ◌≤◌, Bool, true, false, cond, List, [], ◌∷◌, ◌++◌, length, take, drop, get_or, map, All, sym, ap, ◌∙◌, subst, inl, inr, ◌⊎◌, arith, length-append}
 use Rattle.std.proofs.{Common.slice_range, lemmas.Bool.{cases_Bool, cases_lt}, lemmas.List.{take-take, take_all, take-append-le, get_or-map, map-append, length-take}}
 use Rattle.std.proofs.lemmas.List.Elements.{Contains-get_or}
@@ -14,13 +19,11 @@ use Rattle.lert_journal.specs.Payload.{payload_of}
 use Rattle.lert_levels.specs.{declared.rows.bin_at.BinAt.BinAt, Flushed.InNamed, rows.Ranges.filled, rows.Rows.{IsAt, AreRows, HoldsBins, range_of, row_of, tallied_in}}
 use Rattle.lert_levels.proofs.rows.RangeLaws.{bins-ranges}
 use Rattle.lert_reports.specs.{Log.{HasLog, AreRecords, listed_in, last_n0, last_directory, is_closed, log_header, most_record}, LogText.{LogRecord, log_payload_of}}
-use Rattle.lert_spec.specs.{declared.numbers.Numbers.Numbers, Bins.{Bin, bins, tallied}, Edges.span, Limits.IsValid, Look.{look, closing}}
-use Rattle.lert_spec.proofs.CostLaws.{costs-first}
-use Rattle.lert_spec.proofs.TallyLaws.{IsTable-tallied, total-tallied}
+use Rattle.lert_spec.specs.{declared.numbers.Numbers.Numbers, Bins.{Bin, bins_of, tally}, Edges.span, Limits.IsValid, Look.{look_of, closing_of}}
 use Rattle.lert_cone.specs.{Framed.{last_flush, flushed}, History.{most_payload, end_of}, InStep.IsPartway, Logged.IsLogOf, JournalPlaces.{NamesRecord, last_place}}
 use Rattle.lert_cone.specs.Sound.{IsJournal, IsSound, IsSoundAs, HoldFrames, HoldsDirectory, but_last}
 use Rattle.lert_cone.proofs.{FramedLaws.flushed_bins, FlushLaws.last_flush_within, WroteLaws.torn_behind}
-use Rattle.lert_levels.specs.OnDisk.{written}
+use Rattle.lert_cone.specs.History.{written}
 
 -- ---- what stays
 
@@ -55,28 +58,28 @@ log_since since seen s cone logged gate log keeps image may = record {
 }
 
 -- the text of a bin's counts fits its place
-text_fits : (s : Numbers) (events : List ℕ) (level : ℕ) (bin : BinAt) → IsValid s → level ≤ s.levels → bin.to - bin.from ≤ span s level →
+text_fits : (s : Numbers) (events : List Item) (level : ℕ) (bin : BinAt) → IsValid s → AreOfVersion written events → level ≤ s.levels → bin.to - bin.from ≤ span s level →
     length (frame_text s level (tallied_in s events bin)) ≤ frame_len s written level
-text_fits s events level bin valid last narrow =
-    let keys = slice_range events bin.from bin.to in
-    text_within s written level (tallied s keys) valid last (IsTable-tallied s keys) (omega (
+text_fits s events level bin valid light last narrow =
+    let items = slice_range events bin.from bin.to in
+    text_within s written level (tally weighed s items) valid last (tally_table weighed s items (weigh_slice events bin.from bin.to (version_weigh written events light))) (omega (
       arith,
-      costs-first (tallied s keys),
-      total-tallied s keys,
+      costs_number s written items (version_slice written events bin.from bin.to light),
       length-take (bin.to - bin.from) (drop bin.from events),
       narrow,
     ))
 
 -- the frames that rows name hold their bins in each image since, where what is settled in them stays so
-pub frames_since : (leaves since : Files → Type 0) (seen : Files) (s : Numbers) (events : List ℕ) (rows : List (List BinAt)) → IsValid s → AreRows s rows → leaves seen →
+pub frames_since : (leaves since : Files → Type 0) (seen : Files) (s : Numbers) (events : List Item) (rows : List (List BinAt)) → IsValid s → AreRows s rows → AreOfVersion written events →
+    leaves seen →
     InEach leaves 2 (HoldsBins s written events rows) →
     ((from to : ℕ) → InNamed s written rows from to → IsSettled leaves seen 2 from to → Keeps since seen 2 from to) → InEach since 2 (HoldsBins s written events rows)
-frames_since leaves since seen s events rows valid are read holds keeps image may level first last k d below =
+frames_since leaves since seen s events rows valid are light read holds keeps image may level first last k d below =
     let bin = get_or (row_of rows level) k d in
     let place = frame_place s written level bin.frame in
     let text = frame_text s level (tallied_in s events bin) in
     let end = place + length text in
-    let fits = text_fits s events level bin valid last ((are.each level first last).widths k d below) in
+    let fits = text_fits s events level bin valid light last ((are.each level first last).widths k d below) in
     let here = holds seen read level first last k d below in
     elim (cases_lt 0 (length text)) [
       | inl some ↦
@@ -93,13 +96,13 @@ frames_since leaves since seen s events rows valid are read holds keeps image ma
 -- ---- when they are sound
 
 -- a level's frames, from what its row's bins say
-to_frames : (s : Numbers) (events file : List ℕ) (level : ℕ) (row : List BinAt) → All (λ bin. HoldsFrame s written level bin.frame file (tallied_in s events bin)) row →
+to_frames : (s : Numbers) (events : List Item) (file : List ℕ) (level : ℕ) (row : List BinAt) → All (λ bin. HoldsFrame s written level bin.frame file (tallied_in s events bin)) row →
     HoldFrames s level file (map (λ bin. bin.frame) row) (map (filled s events) (map range_of row))
 to_frames s events file level [] holds = tt
 to_frames s events file level (bin ∷ row) holds =
     (holds 0 bin (omega arith), to_frames s events file level row (λ k d within. holds (suc k) d (omega (arith, within))))
 
-module _ (s : Numbers) (cone : ℕ) (history : List Packet) (events : List ℕ) (rows : List (List BinAt)) (closed : Bool) (logged : List LogRecord) (gate : ℕ)
+module _ (s : Numbers) (cone : ℕ) (history : List Packet) (events : List Item) (rows : List (List BinAt)) (closed : Bool) (logged : List LogRecord) (gate : ℕ)
     (valid : IsValid s) (at : IsAt s (length events) rows) (partway : IsPartway s history events []) (whole : closed ≡ true → events ≡ events_of history)
     (log_of : IsLogOf s cone events rows closed logged) (begins : NamesRecord s history (last_n0 logged) (last_place logged)) where
   -- how many events the last record was written after
@@ -125,14 +128,14 @@ module _ (s : Numbers) (cone : ℕ) (history : List Packet) (events : List ℕ) 
   firsts = ap (take (last_n0 logged)) ahead ∙ take-append-le (last_n0 logged) events partway.rest n0_within
 
   -- the bins of the older levels are those of all events
-  bins_same : (level : ℕ) → bins s (take (last_n0 logged) events) level ≡ bins s events level
+  bins_same : (level : ℕ) → bins_of weighed s (take (last_n0 logged) events) level ≡ bins_of weighed s events level
   bins_same level = elim (cases_Bool closed) [
-    | inl ended ↦ ap (λ keys. bins s keys level) (take_all (last_n0 logged) events (omega (arith, n0_closed ended)))
-    | inr running ↦ ap (λ n. bins s (take n events) level) (n0_running running) ∙ flushed_bins s valid events level
+    | inl ended ↦ ap (λ keys. bins_of weighed s keys level) (take_all (last_n0 logged) events (omega (arith, n0_closed ended)))
+    | inr running ↦ ap (λ n. bins_of weighed s (take n events) level) (n0_running running) ∙ flushed_bins s valid events level
   ]
 
-  row_bins : (level : ℕ) → 1 ≤ level → level ≤ s.levels → map (filled s events) (map range_of (row_of rows level)) ≡ bins s (take (last_n0 logged) (events_of history)) level
-  row_bins level first last = ap (map (filled s events)) (at.each level first last) ∙ sym (bins-ranges s events level) ∙ sym (bins_same level) ∙ ap (λ keys. bins s keys level) (sym firsts)
+  row_bins : (level : ℕ) → 1 ≤ level → level ≤ s.levels → map (filled s events) (map range_of (row_of rows level)) ≡ bins_of weighed s (take (last_n0 logged) (events_of history)) level
+  row_bins level first last = ap (map (filled s events)) (at.each level first last) ∙ sym (bins-ranges s events level) ∙ sym (bins_same level) ∙ ap (λ keys. bins_of weighed s keys level) (sym firsts)
 
   row_frames : (level : ℕ) → 1 ≤ level → level ≤ s.levels → map (λ (bin : BinAt). bin.frame) (row_of rows level) ≡ slice_index_or (last_directory s logged) (level - 1) []
   row_frames level first last =
@@ -142,23 +145,23 @@ module _ (s : Numbers) (cone : ℕ) (history : List Packet) (events : List ℕ) 
   directory : (file : List ℕ) → HoldsBins s written events rows file → HoldsDirectory s (take (last_n0 logged) (events_of history)) (last_directory s logged) file
   directory file holds = record {
     each = λ level first last.
-        subst (λ (frames : List ℕ). HoldFrames s level file frames (bins s (take (last_n0 logged) (events_of history)) level)) (row_frames level first last)
+        subst (λ (frames : List ℕ). HoldFrames s level file frames (bins_of weighed s (take (last_n0 logged) (events_of history)) level)) (row_frames level first last)
         (subst (λ (bs : List Bin). HoldFrames s level file (map (λ (bin : BinAt). bin.frame) (row_of rows level)) bs) (row_bins level first last)
         (to_frames s events file level (row_of rows level) (holds level first last)));
   }
 
   -- the reports
-  reports_there : listed_in logged ≡ cond (is_closed logged) (closing s (events_of history)) (look s (take (last_n0 logged) (events_of history)))
+  reports_there : listed_in logged ≡ cond (is_closed logged) (closing_of weighed s (events_of history)) (look_of weighed s (take (last_n0 logged) (events_of history)))
   reports_there =
       log_of.reports_are
       ∙ elim (cases_Bool closed) [
         | inl ended ↦
-            ap (λ t. cond t (closing s events) (look s (flushed s events))) ended ∙ ap (closing s) (whole ended)
-            ∙ sym (ap (λ t. cond t (closing s (events_of history)) (look s (take (last_n0 logged) (events_of history)))) (log_of.closed_is ∙ ended))
+            ap (λ t. cond t (closing_of weighed s events) (look_of weighed s (flushed s events))) ended ∙ ap (closing_of weighed s) (whole ended)
+            ∙ sym (ap (λ t. cond t (closing_of weighed s (events_of history)) (look_of weighed s (take (last_n0 logged) (events_of history)))) (log_of.closed_is ∙ ended))
         | inr running ↦
-            ap (λ t. cond t (closing s events) (look s (flushed s events))) running
-            ∙ ap (look s) (ap (λ n. take n events) (sym (n0_running running)) ∙ sym firsts)
-            ∙ sym (ap (λ t. cond t (closing s (events_of history)) (look s (take (last_n0 logged) (events_of history)))) (log_of.closed_is ∙ running))
+            ap (λ t. cond t (closing_of weighed s events) (look_of weighed s (flushed s events))) running
+            ∙ ap (look_of weighed s) (ap (λ n. take n events) (sym (n0_running running)) ∙ sym firsts)
+            ∙ sym (ap (λ t. cond t (closing_of weighed s (events_of history)) (look_of weighed s (take (last_n0 logged) (events_of history)))) (log_of.closed_is ∙ running))
       ]
 
   least : last_flush s (length (events_of (but_last history))) ≤ last_n0 logged
@@ -187,7 +190,7 @@ module _ (s : Numbers) (cone : ℕ) (history : List Packet) (events : List ℕ) 
   sound_as all files journal log holds = record {
     sound = sound_of files journal log holds;
     closed_is = log_of.closed_is;
-    n0_is = log_of.n0_is ∙ ap (λ (keys : List ℕ). cond closed (length keys) (last_flush s (length keys))) all;
+    n0_is = log_of.n0_is ∙ ap (λ (keys : List Item). cond closed (length keys) (last_flush s (length keys))) all;
   }
 
 -- ---- one record more

@@ -3,17 +3,20 @@ use Rattle.std.proofs.Common.{ℕ, ◌≡◌, ◌≢◌, ◌+◌, ◌-◌, ◌^�
 use Rattle.std.proofs.{Common.length-append, lemmas.List.{length-take, get_or-take}}
 use Rattle.std.specs.{Prelude.{MatchResult, IsErrOf}, Result.IsErrAnd}
 use Rattle.lert_bay.specs.Files.{Files}
-use Rattle.lert_spec.specs.{declared.numbers.Numbers.Numbers, declared.piece.Piece.Piece, declared.report.Report.Report, Bins.tallied, Edges.{edge, capacity, tail_bits}, Limits.IsValid}
-use Rattle.lert_spec.specs.Look.{look, closing}
+use Rattle.lert_spec.specs.{declared.numbers.Numbers.Numbers, declared.piece.Piece.Piece, declared.report.Report.Report, Bins.tally}
+use Rattle.lert_spec.specs.{Counts.weighed, declared.item.Item.Item, Items.{most_weight, AreOfVersion}, Edges.{edge, capacity, tail_bits}, Limits.IsValid}
+use Rattle.lert_spec.specs.Look.{look_of, closing_of}
 use Rattle.lert_spec.specs.{Mix.{cone_of, tail_of}, Table.IsTable}
-use Rattle.lert_spec.proofs.TallyLaws.{IsTable-tallied}
+use Rattle.lert_spec.proofs.TallyLaws.{tally_table}
 use Rattle.lert_levels.specs.{declared.rows.bin_at.BinAt.BinAt, declared.rows.fault.FlushFault.FlushFault, declared.rows.fault.FlushFault.TheVariants.{Failed as FlushFailed, Malformed}}
-use Rattle.lert_levels.specs.{rows.Loading.{RowBreaks, OneBreaks}, rows.Ranges.young_bins, rows.Rows.{IsAt, AreRows, HoldsBins}, rows.Young.{Young, with_event}}
+use Rattle.lert_levels.specs.{rows.Loading.{RowBreaks, OneBreaks}, rows.Ranges.young_bins, rows.Rows.{IsAt, AreRows, HoldsBins}, rows.Young.{AreLight, Young, with_event}}
 use Rattle.lert_cone.specs.{declared.tally.TakeFault.TakeFault, declared.tally.TakeFault.TheVariants.Unsound, Due.{Dues, TookFrom, due_reports, started}, Framed.HoldsSome}
 use Rattle.lert_cone.specs.Tally.{Tallied, IsCounted, IsHeld, AreYoung, Shows, totals_at, take_fault}
-use Rattle.lert_cone.proofs.{KeyLemmas.{AreKeys-push, AreOfCone-push}, RoomLaws.{look_fits, closing_fits}, SomeLaws.{with_key, with_key_len, with_key_young, with_key_holds, with_key_some}}
-use Rattle.lert_cone.proofs.{TallyLaws.{next_from, next_bins, frames_more}, TotalLaws.{closing_is, totals_table, look_is}}
-use Rattle.lert_levels.specs.OnDisk.{written}
+use Rattle.lert_cone.proofs.{KeyLemmas.{HaveKeys-push, IsPartOf-push, AreOfVersion-push}}
+use Rattle.lert_cone.proofs.{RoomLaws.{look_fits, closing_fits, few_weigh}, SomeLaws.{with_key, with_key_len, with_key_light, with_key_young, with_key_holds, with_key_some}}
+use Rattle.lert_cone.proofs.{TallyLaws.{next_from, next_bins, frames_more, young_light}, TotalLaws.{closing_is, totals_table, look_is}}
+use Rattle.lert_levels.proofs.rows.WeightLaws.{weigh_some, version_weigh}
+use Rattle.lert_cone.specs.History.{written}
 
 -- what a taker's state says of the definition: the totals of a start bring the definition's reports, or too many
 module _ (s : Numbers) (cone at : ℕ) (before all : List Report) (pieces : List Piece) (start due : Dues)
@@ -34,23 +37,26 @@ module _ (s : Numbers) (cone at : ℕ) (before all : List Report) (pieces : List
       let over = from.took.too_many table_there full in
       omega (arith, ap length shown, ap (λ (t : Numbers). t.room) (from.settings_are ∙ settings))
 
--- the key that a cone takes next, as a piece of its level 0
-pub record IsTaking (t : Tallied) (ls : Numbers) (key tail m : ℕ) (young : Young) : Type 0 where
+-- the item that a cone takes next, as a piece of its level 0
+pub record IsTaking (t : Tallied) (ls : Numbers) (item : Item) (tail m : ℕ) (young : Young) : Type 0 where
   pub levels_are : ls ≡ t.listing.settings
   pub valid : IsValid t.listing.settings
   pub named : t.listing.cone < 2 ^ t.listing.settings.cone_bits
   pub young_settings : t.young.settings ≡ t.listing.settings
   pub counted : IsCounted t
   pub fits : length t.listing.events < capacity t.listing.settings
-  pub tail_is : tail ≡ tail_of t.listing.settings key
+  pub tail_is : tail ≡ tail_of t.listing.settings item.key
   pub m_is : m ≡ suc (length t.listing.events)
-  pub added : young ≡ with_event t.young tail 1 m
+  pub some : 1 ≤ item.weight
+  pub light : item.weight ≤ most_weight written
+  pub added : young ≡ with_event t.young tail item.weight m
 
 -- where the cone was asked for as it is seen
-pub to_take : {t seen : Tallied} {ls : Numbers} {key tail len : ℕ} {young : Young} → t ≡ seen → IsCounted seen → length seen.listing.events < capacity seen.listing.settings →
+pub to_take : {t seen : Tallied} {ls : Numbers} {item : Item} {tail len : ℕ} {young : Young} → t ≡ seen → IsCounted seen → length seen.listing.events < capacity seen.listing.settings →
     ls ≡ t.listing.settings → IsValid t.listing.settings → t.listing.cone < 2 ^ t.listing.settings.cone_bits → t.young.settings ≡ t.listing.settings →
-    tail ≡ tail_of t.listing.settings key → len ≡ length t.listing.events → young ≡ with_event t.young tail 1 (len + 1) → IsTaking t ls key tail (len + 1) young
-to_take same counted fits levels_are valid named young_settings tail_is len_is added = record {
+    tail ≡ tail_of t.listing.settings item.key → len ≡ length t.listing.events → 1 ≤ item.weight → item.weight ≤ most_weight written → young ≡ with_event t.young tail item.weight (len + 1) →
+    IsTaking t ls item tail (len + 1) young
+to_take same counted fits levels_are valid named young_settings tail_is len_is some light added = record {
   levels_are = levels_are;
   valid = valid;
   named = named;
@@ -59,71 +65,83 @@ to_take same counted fits levels_are valid named young_settings tail_is len_is a
   fits = subst (λ (v : Tallied). length v.listing.events < capacity v.listing.settings) (sym same) fits;
   tail_is = tail_is;
   m_is = omega (arith, len_is);
+  some = some;
+  light = light;
   added = added;
 }
 
--- the next key
-module _ {t : Tallied} {ls : Numbers} {key tail m : ℕ} {young : Young} (taking : IsTaking t ls key tail m young) where
-  abbrev all : List ℕ
-  all = t.listing.events ++ key ∷ []
+-- the next item
+module _ {t : Tallied} {ls : Numbers} {item : Item} {tail m : ℕ} {young : Young} (taking : IsTaking t ls item tail m young) where
+  abbrev all : List Item
+  all = t.listing.events ++ item ∷ []
 
   pub all_long : length all ≡ m
-  all_long = omega (arith, taking.m_is, length-append t.listing.events (key ∷ []))
+  all_long = omega (arith, taking.m_is, length-append t.listing.events (item ∷ []))
 
   pub rows_before : IsAt ls (m - 1) t.rows
   rows_before =
       let before : m - 1 ≡ length t.listing.events = omega (arith, taking.m_is) in
       subst (λ (v : Numbers). IsAt v (m - 1) t.rows) (sym taking.levels_are) (subst (λ n. IsAt t.listing.settings n t.rows) (sym before) taking.counted.rows)
 
-  added_here : young ≡ with_event t.young tail 1 (suc (length t.listing.events))
-  added_here = taking.added ∙ ap (with_event t.young tail 1) taking.m_is
+  added_here : young ≡ with_event t.young tail item.weight (suc (length t.listing.events))
+  added_here = taking.added ∙ ap (with_event t.young tail item.weight) taking.m_is
 
   from_now : young.from ≡ edge t.listing.settings 0 (length t.listing.events)
   from_now = ap (λ (y : Young). y.from) added_here
-      ∙ next_from t.listing.settings taking.valid t.young t.listing.events key taking.young_settings taking.counted.from taking.counted.to taking.counted.bins.is taking.fits tail
+      ∙ next_from t.listing.settings taking.valid t.young t.listing.events item taking.young_settings taking.counted.from taking.counted.to taking.counted.bins.is taking.fits tail
 
   pub young_now : AreYoung ls all young.from young.bins
   young_now =
       record {
         is = ap (λ (y : Young). y.bins) added_here
-            ∙ next_bins t.listing.settings taking.valid t.young t.listing.events key taking.young_settings taking.counted.from taking.counted.to taking.counted.bins.is taking.fits tail taking.tail_is
+            ∙ next_bins t.listing.settings taking.valid t.young t.listing.events item taking.young_settings taking.counted.from taking.counted.to taking.counted.bins.is taking.fits tail taking.tail_is
             ∙ ap₂ (λ (v : Numbers) (p : ℕ). young_bins v all p) (sym taking.levels_are) (sym from_now);
       }
+
+  pub light_now : AreOfVersion written (t.listing.events ++ item ∷ [])
+  light_now = AreOfVersion-push written t.listing.events item taking.counted.light taking.some taking.light
+
+  -- level 0 may go into frames of the version that is written
+  pub bins_light : AreLight written young.bins
+  bins_light = subst (AreLight written) (sym young_now.is) (young_light ls all young.from written light_now)
 
   pub frames_now : (seen : Files) → IsHeld t seen → HoldsBins ls written all t.rows (seen 2)
   frames_now seen held =
       subst (λ (v : Numbers). HoldsBins v written all t.rows (seen 2)) (sym taking.levels_are)
-      (frames_more t.listing.settings taking.valid t.listing.events (key ∷ []) t.rows (seen 2) taking.counted.rows held.frames)
+      (frames_more t.listing.settings taking.valid t.listing.events (item ∷ []) t.rows (seen 2) taking.counted.rows held.frames)
 
   -- where the frames hold the bins of some events, whatever these are, level 0 has those of the same ones with the cone's newest
   -- behind them
   module _ (file : List ℕ) (some : HoldsSome t.listing.settings (length t.listing.events) t.rows file) where
-    abbrev pub others : List ℕ
-    others = with_key t.listing.settings taking.valid t.listing.events key t.rows file taking.counted.rows some
+    abbrev pub others : List Item
+    others = with_key t.listing.settings taking.valid t.listing.events item t.rows file taking.counted.rows some
 
     pub others_long : length others ≡ m
-    others_long = with_key_len t.listing.settings taking.valid t.listing.events key t.rows file taking.counted.rows some ∙ sym taking.m_is
+    others_long = with_key_len t.listing.settings taking.valid t.listing.events item t.rows file taking.counted.rows some ∙ sym taking.m_is
+
+    pub others_light : AreOfVersion written others
+    others_light = with_key_light t.listing.settings taking.valid t.listing.events item t.rows file taking.counted.rows some light_now
 
     pub others_young : AreYoung ls others young.from young.bins
     others_young = record {
       is = young_now.is
           ∙ ap₂ (λ (v : Numbers) (p : ℕ). young_bins v all p) taking.levels_are from_now
-          ∙ sym (with_key_young t.listing.settings taking.valid t.listing.events key t.rows file taking.counted.rows some)
+          ∙ sym (with_key_young t.listing.settings taking.valid t.listing.events item t.rows file taking.counted.rows some)
           ∙ ap₂ (λ (v : Numbers) (p : ℕ). young_bins v others p) (sym taking.levels_are) (sym from_now);
     }
 
     pub others_frames : HoldsBins ls written others t.rows file
     others_frames = subst (λ (v : Numbers). HoldsBins v written others t.rows file) (sym taking.levels_are)
-        (with_key_holds t.listing.settings taking.valid t.listing.events key t.rows file taking.counted.rows some)
+        (with_key_holds t.listing.settings taking.valid t.listing.events item t.rows file taking.counted.rows some)
 
     pub others_next : (rows : List (List BinAt)) (after : List ℕ) → IsAt ls m rows → HoldsBins ls written others rows after → HoldsSome t.listing.settings (length all) rows after
     others_next rows after at holds =
         subst (λ n. HoldsSome t.listing.settings n rows after) (sym taking.m_is ∙ sym all_long)
-        (with_key_some t.listing.settings taking.valid t.listing.events key t.rows file taking.counted.rows some rows after
-        (subst (λ n. IsAt t.listing.settings n rows) taking.m_is (subst (λ (v : Numbers). IsAt v m rows) taking.levels_are at))
+        (with_key_some t.listing.settings taking.valid t.listing.events item t.rows file taking.counted.rows some rows after
+        (subst (λ n. IsAt t.listing.settings n rows) taking.m_is (subst (λ (v : Numbers). IsAt v m rows) taking.levels_are at)) light_now
         (subst (λ (v : Numbers). HoldsBins v written others rows after) taking.levels_are holds))
 
-  module _ (below : key < 2 ^ 64) (own : cone_of t.listing.settings key ≡ t.listing.cone) (start due : Dues) (start_is : start ≡ started t.due m) where
+  module _ (below : item.key < 2 ^ 64) (own : cone_of t.listing.settings item.key ≡ t.listing.cone) (start due : Dues) (start_is : start ≡ started t.due m) where
     start_settings : start.settings ≡ t.listing.settings
     start_settings = ap (λ (d : Dues). d.settings) start_is ∙ taking.counted.due_settings
 
@@ -138,8 +156,9 @@ module _ {t : Tallied} {ls : Numbers} {key tail m : ℕ} {young : Young} (taking
         subst (λ (v : Tallied). IsCounted v) (sym after_is) (record {
           valid = taking.valid;
           fits = omega (arith, all_long, taking.m_is);
-          keys = AreKeys-push t.listing.events key taking.counted.keys below;
-          own = AreOfCone-push t.listing.settings t.listing.cone t.listing.events key taking.counted.own own;
+          keys = HaveKeys-push t.listing.events item taking.counted.keys below;
+          own = IsPartOf-push t.listing.settings t.listing.cone t.listing.events item taking.counted.own own;
+          light = light_now;
           from = from ∙ ap₂ (λ (v : Numbers) (p : ℕ). edge v 0 p) taking.levels_are (sym all_long);
           to = to ∙ sym all_long;
           bins = record { is = bins.is ∙ ap₂ (λ (v : Numbers) (p : ℕ). young_bins v all (edge v 0 p)) taking.levels_are (sym all_long) };
@@ -150,29 +169,33 @@ module _ {t : Tallied} {ls : Numbers} {key tail m : ℕ} {young : Young} (taking
         })
 
     module _ (still : t.listing.closed ≡ false) (seen : Files) (held : IsHeld t seen) (took : TookFrom start due (totals_at ls all m tail)) where
-      looked : t.due.reports ≡ look t.listing.settings t.listing.events
-      looked = held.reports ∙ ap (λ b. cond b (closing t.listing.settings t.listing.events) (look t.listing.settings t.listing.events)) still
+      looked : t.due.reports ≡ look_of weighed t.listing.settings t.listing.events
+      looked = held.reports ∙ ap (λ b. cond b (closing_of weighed t.listing.settings t.listing.events) (look_of weighed t.listing.settings t.listing.events)) still
 
       totals : List Piece
-      totals = totals_at t.listing.settings all (suc (length t.listing.events)) (tail_of t.listing.settings key)
+      totals = totals_at t.listing.settings all (suc (length t.listing.events)) (tail_of t.listing.settings item.key)
 
-      took_here : TookFrom start due (totals_at t.listing.settings all (suc (length t.listing.events)) (tail_of t.listing.settings key))
+      took_here : TookFrom start due (totals_at t.listing.settings all (suc (length t.listing.events)) (tail_of t.listing.settings item.key))
       took_here = subst (λ (pieces : List Piece). TookFrom start due pieces)
           ((λ i. totals_at (taking.levels_are i) all (taking.m_is i) (taking.tail_is i))) took
 
-      table : IsTable (2 ^ tail_bits t.listing.settings) (totals_at t.listing.settings all (suc (length t.listing.events)) (tail_of t.listing.settings key))
-      table = totals_table t.listing.settings t.listing.cone t.listing.events taking.valid taking.named taking.counted.keys taking.counted.own key below own
+      table : IsTable (2 ^ tail_bits t.listing.settings) (totals_at t.listing.settings all (suc (length t.listing.events)) (tail_of t.listing.settings item.key))
+      table = totals_table t.listing.settings t.listing.cone t.listing.events taking.valid taking.named taking.counted.keys taking.counted.own (version_weigh written t.listing.events
+          taking.counted.light) item below own taking.some
 
-      all_looked : look t.listing.settings all ≡ look t.listing.settings t.listing.events ++ due_reports t.listing.settings t.listing.cone (look t.listing.settings t.listing.events) (suc
-          (length t.listing.events)) (totals_at t.listing.settings all (suc (length t.listing.events)) (tail_of t.listing.settings key))
-      all_looked = look_is t.listing.settings t.listing.cone t.listing.events taking.valid taking.named taking.counted.keys taking.counted.own key below own
+      all_looked : look_of weighed t.listing.settings all ≡ look_of weighed t.listing.settings t.listing.events ++ due_reports t.listing.settings t.listing.cone (look_of weighed
+          t.listing.settings t.listing.events) (suc
+          (length t.listing.events)) (totals_at t.listing.settings all (suc (length t.listing.events)) (tail_of t.listing.settings item.key))
+      all_looked = look_is t.listing.settings t.listing.cone t.listing.events taking.valid taking.named taking.counted.keys taking.counted.own (version_weigh written t.listing.events
+          taking.counted.light) item below own taking.some
 
       pub never_full : due.is_full ≡ true → ⊥
       never_full full =
-          let over = too_many t.listing.settings t.listing.cone (suc (length t.listing.events)) (look t.listing.settings t.listing.events) (look t.listing.settings all)
-          (totals_at t.listing.settings all (suc (length t.listing.events)) (tail_of t.listing.settings key)) start due
+          let over = too_many t.listing.settings t.listing.cone (suc (length t.listing.events)) (look_of weighed t.listing.settings t.listing.events) (look_of weighed t.listing.settings all)
+          (totals_at t.listing.settings all (suc (length t.listing.events)) (tail_of t.listing.settings item.key)) start due
           start_settings start_cone (ap (λ (d : Dues). d.before) start_is ∙ looked) (ap (λ (d : Dues). d.at) start_is ∙ taking.m_is) table took_here all_looked full in
-          omega (arith, look_fits t.listing.settings all taking.valid (omega (arith, all_long, taking.m_is)))
+          let all_fits : length all ≤ capacity t.listing.settings = omega (arith, all_long, taking.m_is) in
+          omega (arith, look_fits t.listing.settings all taking.valid all_fits (few_weigh t.listing.settings all all_fits light_now))
 
       pub held_next : (next : Young) (rows : List (List BinAt)) (now : Tallied) (after : Files) →
           now ≡ record { listing = record t.listing { events = all }; young = next; rows = rows; due = due } →
@@ -180,10 +203,10 @@ module _ {t : Tallied} {ls : Numbers} {key tail m : ℕ} {young : Young} (taking
       held_next next rows now after now_is room frames =
           subst (λ (v : Tallied). IsHeld v after) (sym now_is) (record {
             frames = subst (λ (v : Numbers). HoldsBins v written all rows (after 2)) taking.levels_are frames;
-            reports = reports_are t.listing.settings t.listing.cone (suc (length t.listing.events)) (look t.listing.settings t.listing.events) (look t.listing.settings all)
-                (totals_at t.listing.settings all (suc (length t.listing.events)) (tail_of t.listing.settings key)) start due
+            reports = reports_are t.listing.settings t.listing.cone (suc (length t.listing.events)) (look_of weighed t.listing.settings t.listing.events) (look_of weighed t.listing.settings all)
+                (totals_at t.listing.settings all (suc (length t.listing.events)) (tail_of t.listing.settings item.key)) start due
                 start_settings start_cone (ap (λ (d : Dues). d.before) start_is ∙ looked) (ap (λ (d : Dues). d.at) start_is ∙ taking.m_is) table took_here all_looked room
-                ∙ sym (ap (λ b. cond b (closing t.listing.settings all) (look t.listing.settings all)) still);
+                ∙ sym (ap (λ b. cond b (closing_of weighed t.listing.settings all) (look_of weighed t.listing.settings all)) still);
           })
 
 -- the end
@@ -217,6 +240,7 @@ module _ (t : Tallied) (ls : Numbers) (levels_are : ls ≡ t.listing.settings) (
       fits = counted.fits;
       keys = counted.keys;
       own = counted.own;
+      light = counted.light;
       from = counted.from;
       to = counted.to;
       bins = counted.bins;
@@ -226,26 +250,28 @@ module _ (t : Tallied) (ls : Numbers) (levels_are : ls ≡ t.listing.settings) (
       due_cone = took.1.cone_is ∙ cone_end;
     }
 
-    module _ (still : t.listing.closed ≡ false) (seen : Files) (held : IsHeld t seen) (took : TookFrom start due (tallied ls t.listing.events)) where
-      looked_end : t.due.reports ≡ look t.listing.settings t.listing.events
-      looked_end = held.reports ∙ ap (λ b. cond b (closing t.listing.settings t.listing.events) (look t.listing.settings t.listing.events)) still
+    module _ (still : t.listing.closed ≡ false) (seen : Files) (held : IsHeld t seen) (took : TookFrom start due (tally weighed ls t.listing.events)) where
+      looked_end : t.due.reports ≡ look_of weighed t.listing.settings t.listing.events
+      looked_end = held.reports ∙ ap (λ b. cond b (closing_of weighed t.listing.settings t.listing.events) (look_of weighed t.listing.settings t.listing.events)) still
 
-      took_end : TookFrom start due (tallied t.listing.settings t.listing.events)
-      took_end = subst (λ (v : Numbers). TookFrom start due (tallied v t.listing.events)) levels_are took
+      took_end : TookFrom start due (tally weighed t.listing.settings t.listing.events)
+      took_end = subst (λ (v : Numbers). TookFrom start due (tally weighed v t.listing.events)) levels_are took
 
       pub never_full_end : due.is_full ≡ true → ⊥
       never_full_end full =
-          let over = too_many t.listing.settings t.listing.cone (length t.listing.events) (look t.listing.settings t.listing.events) (closing t.listing.settings t.listing.events)
-          (tallied t.listing.settings t.listing.events) start due settings_end cone_end (ap (λ (d : Dues). d.before) start_is ∙ looked_end) (ap (λ (d : Dues). d.at) start_is ∙ at_is)
-          (IsTable-tallied t.listing.settings t.listing.events) took_end (closing_is t.listing.settings t.listing.cone t.listing.events valid named counted.keys counted.own) full in
-          omega (arith, closing_fits t.listing.settings t.listing.events valid counted.fits)
+          let over = too_many t.listing.settings t.listing.cone (length t.listing.events) (look_of weighed t.listing.settings t.listing.events) (closing_of weighed t.listing.settings t.listing.events)
+          (tally weighed t.listing.settings t.listing.events) start due settings_end cone_end (ap (λ (d : Dues). d.before) start_is ∙ looked_end) (ap (λ (d : Dues). d.at) start_is ∙ at_is)
+          (tally_table weighed t.listing.settings t.listing.events (weigh_some t.listing.events (version_weigh written t.listing.events counted.light))) took_end (closing_is t.listing.settings
+          t.listing.cone t.listing.events valid named counted.keys counted.own (version_weigh written t.listing.events counted.light)) full in
+          omega (arith, closing_fits t.listing.settings t.listing.events valid counted.fits (few_weigh t.listing.settings t.listing.events counted.fits counted.light))
 
       pub held_end : due.is_full ≡ false → IsHeld (record t { listing = record t.listing { closed = true }; due = due }) seen
       held_end room = record {
         frames = held.frames;
-        reports = reports_are t.listing.settings t.listing.cone (length t.listing.events) (look t.listing.settings t.listing.events) (closing t.listing.settings t.listing.events)
-            (tallied t.listing.settings t.listing.events) start due settings_end cone_end (ap (λ (d : Dues). d.before) start_is ∙ looked_end) (ap (λ (d : Dues). d.at) start_is ∙ at_is)
-            (IsTable-tallied t.listing.settings t.listing.events) took_end (closing_is t.listing.settings t.listing.cone t.listing.events valid named counted.keys counted.own) room;
+        reports = reports_are t.listing.settings t.listing.cone (length t.listing.events) (look_of weighed t.listing.settings t.listing.events) (closing_of weighed t.listing.settings t.listing.events)
+            (tally weighed t.listing.settings t.listing.events) start due settings_end cone_end (ap (λ (d : Dues). d.before) start_is ∙ looked_end) (ap (λ (d : Dues). d.at) start_is ∙ at_is)
+            (tally_table weighed t.listing.settings t.listing.events (weigh_some t.listing.events (version_weigh written t.listing.events counted.light))) took_end (closing_is t.listing.settings
+            t.listing.cone t.listing.events valid named counted.keys counted.own (version_weigh written t.listing.events counted.light)) room;
       }
 
 -- a fault that isn't of a frame
@@ -281,13 +307,13 @@ shows_full s rows reports frames filled file at same =
     inr (number, place, filled)
 
 -- a frame of the first rows is one of all
-pub one_of_first : (s : Numbers) (depth : ℕ) (rows : List (List BinAt)) (file : List ℕ) (at : ℕ) → OneBreaks s written (take depth rows) file at → OneBreaks s written rows file at
-one_of_first s depth rows file at one =
+pub one_of_first : (s : Numbers) (version depth : ℕ) (rows : List (List BinAt)) (file : List ℕ) (at : ℕ) → OneBreaks s version (take depth rows) file at → OneBreaks s version rows file at
+one_of_first s version depth rows file at one =
     let long = length-take depth rows in
     record {
       number = one.number;
       within = omega (arith, one.within);
-      breaks = subst (λ row. RowBreaks s written (one.number + 1) row file at) (get_or-take depth rows one.number [] (omega (arith, one.within))) one.breaks;
+      breaks = subst (λ row. RowBreaks s version (one.number + 1) row file at) (get_or-take depth rows one.number [] (omega (arith, one.within))) one.breaks;
     }
 
 -- a call that hands on a fault as it is

@@ -1,16 +1,48 @@
--- Level 0 and the rows as the next key comes.
+-- Level 0 and the rows as the next item comes.
 use Rattle.std.proofs.Common.{ℕ, ◌≡◌, ◌≢◌, ◌+◌, ◌-◌, ◌*◌, ◌/◌, ◌%◌, ◌<◌, ◌≤◌, zero, suc, cond, List, [], ◌∷◌, ◌++◌, length, drop, get_or, map, All, refl, ap, ap₂, sym, ◌∙◌, arith, inl, inr, subst}
 use Rattle.std.proofs.{Common.{slice_range, sum_by, replicate}, Math.Nat.{div-add-mod, mod-lt, mul-mod_left, mul_comm, mul-suc, suc-mul}, lemmas.Bool.{cases_eq, cases_lt, eq-eqb, ne_eqb}}
 use Rattle.std.proofs.lemmas.List.{get_or-map, length-replicate}
-use Rattle.lert_spec.specs.{declared.numbers.Numbers.Numbers, declared.piece.Piece.Piece, Bins.{Bin, tallied}, Edges.{span, offset, edge, depth, lookback, capacity}, Limits.IsValid, Mix.tail_of}
-use Rattle.lert_spec.specs.Table.{count_of}
+use Rattle.lert_spec.specs.{declared.numbers.Numbers.Numbers, declared.piece.Piece.Piece, Bins.{Bin, bin_in, tally}, Counts.weighed}
+use Rattle.lert_spec.specs.{declared.item.Item.Item, Edges.{span, offset, edge, depth, lookback, capacity}, Limits.IsValid, Mix.tail_of}
+use Rattle.std.proofs.{Common.{Bool, true, false, ltb, max, min, filter}, lemmas.List.Elements.{All-nil, All-cons}}
+use Rattle.std.specs.List.{range_with_len}
+use Rattle.lert_spec.specs.{Items.AreOfVersion, Table.{count_of, costs, total}}
+use Rattle.lert_spec.proofs.TallyLaws.{total-tally}
 use Rattle.lert_spec.proofs.{EdgeLaws.{span_pos, steps, moves_by_one}, LookLaws.slice_range-append}
 use Rattle.lert_frames.specs.Frame.{HoldsFrame}
-use Rattle.lert_levels.specs.{declared.rows.bin_at.BinAt.BinAt, rows.Ranges.{Range, ranges, young_bins}, rows.Rows.{IsAt, HoldsBins, range_of, row_of}, rows.Young.{Young, IsNextPosition, with_event}}
+use Rattle.lert_levels.specs.{declared.rows.bin_at.BinAt.BinAt, rows.Ranges.{Range, ranges, young_bins}}
+use Rattle.lert_levels.specs.{rows.Rows.{IsAt, HoldsBins, range_of, row_of}, rows.Young.{AreLight, Young, IsNextPosition, with_event}}
 use Rattle.lert_levels.proofs.{rows.RangeLaws.{IsCut, cuts_are, depth_moves, depth_stays, ranges_still}, rows.Windows.young_cover, rows.YoungBins.{young-added, young-dropped}}
 use Rattle.lert_cone.specs.Tally.{AreYoung, totals_at}
 use Rattle.lert_cone.proofs.TotalLaws.{edge_within}
-use Rattle.lert_levels.specs.OnDisk.{written}
+use Rattle.lert_levels.proofs.rows.WeightLaws.{WeighAll, costs_number, version_slice, version_weigh, weight_least, window_length}
+use Rattle.lert_cone.specs.History.{written}
+
+-- what holds of the bins of all intervals holds of those that aren't empty
+bins_kept : (P : Bin → Type 0) (f : ℕ → Bin) (ks : List ℕ) → ((k : ℕ) → P (f k)) → All P (filter (λ (bin : Bin). ltb bin.from bin.to) (map f ks))
+bins_kept P f [] each = All-nil P
+bins_kept P f (k ∷ ks) each =
+    let test : Bin → Bool = λ bin. ltb bin.from bin.to in
+    let rest = filter test (map f ks) in
+    elim (test (f k)) as (λ t. All P (cond t (f k ∷ rest) rest)) [
+      | true ↦ All-cons P (f k) rest (each k) (bins_kept P f ks each)
+      | false ↦ bins_kept P f ks each
+    ]
+
+-- the bins of items of a version may go into frames of that version
+pub young_light : (s : Numbers) (events : List Item) (from version : ℕ) → AreOfVersion version events → AreLight version (young_bins s events from)
+young_light s events from version light =
+    let n = length events in
+    bins_kept (λ bin. (costs version bin.pieces ≤ bin.to - bin.from) × (bin.to - bin.from ≤ total bin.pieces)) (bin_in weighed s events 0 from n) (range_with_len 0 (suc (n / span s 0)))
+    (λ k.
+    let low = max from (k * span s 0) in
+    let high = min n (suc k * span s 0) in
+    let items = slice_range events low high in
+    let own = version_slice version events low high light in
+    let long : length items ≡ high - low = window_length events low high (omega arith) in (
+      omega (arith, long, costs_number s version items own),
+      omega (arith, long, weight_least items (version_weigh version items own), total-tally weighed s items),
+    ))
 
 module _ (s : Numbers) (valid : IsValid s) where
   base : 1 ≤ s.base
@@ -36,7 +68,7 @@ module _ (s : Numbers) (valid : IsValid s) where
       omega arith
 
   -- the next event, whose level 0 stands at the events so far
-  module _ (y : Young) (events : List ℕ) (key : ℕ) (settings : y.settings ≡ s) (from : y.from ≡ edge s 0 (length events)) (to : y.to ≡ length events)
+  module _ (y : Young) (events : List Item) (item : Item) (settings : y.settings ≡ s) (from : y.from ≡ edge s 0 (length events)) (to : y.to ≡ length events)
       (bins : y.bins ≡ young_bins s events (edge s 0 (length events))) (fits : length events < capacity s) where
     pub next_position : IsNextPosition y (suc (length events))
     next_position = record {
@@ -51,7 +83,7 @@ module _ (s : Numbers) (valid : IsValid s) where
       free = λ _. subst (λ (t : Numbers). suc (length events) ≤ y.from + t.bins * span t 0) (sym settings) (omega (arith, next_free (length events)));
     }
 
-    pub next_from : (tail : ℕ) → (with_event y tail 1 (suc (length events))).from ≡ edge s 0 (length events)
+    pub next_from : (tail : ℕ) → (with_event y tail item.weight (suc (length events))).from ≡ edge s 0 (length events)
     next_from tail =
         elim (cases_eq y.from y.to) [
           | inl same ↦ ap (λ t. cond {A = ℕ} t (suc (length events) - 1) y.from) (eq-eqb y.from y.to same)
@@ -59,10 +91,10 @@ module _ (s : Numbers) (valid : IsValid s) where
           | inr differs ↦ ap (λ t. cond {A = ℕ} t (suc (length events) - 1) y.from) (ne_eqb y.from y.to differs) ∙ from
         ]
 
-    pub next_bins : (tail : ℕ) → tail ≡ tail_of s key → (with_event y tail 1 (suc (length events))).bins ≡ young_bins s (events ++ key ∷ []) (edge s 0 (length events))
+    pub next_bins : (tail : ℕ) → tail ≡ tail_of s item.key → (with_event y tail item.weight (suc (length events))).bins ≡ young_bins s (events ++ item ∷ []) (edge s 0 (length events))
     next_bins tail tail_is =
-        (λ i. (with_event (record { settings = settings i; from = y.from; to = y.to; bins = bins i }) (tail_is i) 1 (suc (length events))).bins)
-        ∙ sym (young-added s events key (edge s 0 (length events)) wide (aligned (length events)) (edge_within s 0 (length events)))
+        (λ i. (with_event (record { settings = settings i; from = y.from; to = y.to; bins = bins i }) (tail_is i) item.weight (suc (length events))).bins)
+        ∙ sym (young-added s events item (edge s 0 (length events)) wide (aligned (length events)) (edge_within s 0 (length events)))
 
   -- a flush drops the oldest bin of level 0
   pub dropped_edge : (m : ℕ) → depth s m ≢ 0 → edge s 0 m ≡ edge s 0 (m - 1) + span s 0
@@ -76,7 +108,7 @@ module _ (s : Numbers) (valid : IsValid s) where
   pub flush_moves : (m : ℕ) → depth s m ≢ 0 → edge s 0 m ≢ edge s 0 (m - 1)
   flush_moves m deep same = omega (arith, dropped_edge m deep, wide)
 
-  pub dropped_bins : (events : List ℕ) (m : ℕ) → length events ≡ m → depth s m ≢ 0 → drop 1 (young_bins s events (edge s 0 (m - 1))) ≡ young_bins s events (edge s 0 m)
+  pub dropped_bins : (events : List Item) (m : ℕ) → length events ≡ m → depth s m ≢ 0 → drop 1 (young_bins s events (edge s 0 (m - 1))) ≡ young_bins s events (edge s 0 m)
   dropped_bins events m long deep =
       let next = dropped_edge m deep in
       ap (drop 1) (young-dropped s events (edge s 0 (m - 1)) wide (aligned (m - 1)) (omega (arith, edge_within s 0 m)))
@@ -87,25 +119,25 @@ module _ (s : Numbers) (valid : IsValid s) where
   edge_still m shallow = depth_stays s base ratio 0 m (omega (arith, valid.limits.levels_from)) (omega (arith, shallow))
 
   -- and the total that is brought is that of level 0
-  pub young_total : (events : List ℕ) (m tail found from : ℕ) (bins : List Bin) → length events ≡ m → from ≡ edge s 0 (m - 1) → depth s m ≡ 0 → AreYoung s events from bins →
+  pub young_total : (events : List Item) → WeighAll events → (m tail found from : ℕ) (bins : List Bin) → length events ≡ m → from ≡ edge s 0 (m - 1) → depth s m ≡ 0 → AreYoung s events from bins →
       found ≡ sum_by (λ (bin : Bin). count_of bin.pieces tail) bins → record { tail = tail; count = found } ∷ [] ≡ totals_at s events m tail
-  young_total events m tail found from bins long from_is shallow young found_is =
+  young_total events weigh m tail found from bins long from_is shallow young found_is =
       let early = edge_within s 0 (m - 1) in
       let within : from ≤ length events = omega arith in
-      let here : found ≡ count_of (tallied s (slice_range events (edge s 0 (m - 1)) m)) tail =
+      let here : found ≡ count_of (tally weighed s (slice_range events (edge s 0 (m - 1)) m)) tail =
       found_is ∙ ap (sum_by (λ (bin : Bin). count_of bin.pieces tail)) young.is
-      ∙ young_cover s events tail from base ratio within
-      ∙ ap₂ (λ a b. count_of (tallied s (slice_range events a b)) tail) from_is long in
+      ∙ young_cover s events tail from weigh base ratio within
+      ∙ ap₂ (λ a b. count_of (tally weighed s (slice_range events a b)) tail) from_is long in
       ap (λ c. record { tail = tail; count = c } ∷ []) here
-      ∙ ap (λ t. cond {A = List Piece} t (record { tail = tail; count = count_of (tallied s (slice_range events (edge s 0 (m - 1)) m)) tail } ∷ [])
-      (tallied s (slice_range events (lookback s m) m)))
+      ∙ ap (λ t. cond {A = List Piece} t (record { tail = tail; count = count_of (tally weighed s (slice_range events (edge s 0 (m - 1)) m)) tail } ∷ [])
+      (tally weighed s (slice_range events (lookback s m) m)))
       (sym (eq-eqb (depth s m) 0 shallow))
 
   -- at a flush they are those of its window
-  pub flush_total : (events : List ℕ) (m tail : ℕ) → depth s m ≢ 0 → tallied s (slice_range events (lookback s m) m) ≡ totals_at s events m tail
+  pub flush_total : (events : List Item) (m tail : ℕ) → depth s m ≢ 0 → tally weighed s (slice_range events (lookback s m) m) ≡ totals_at s events m tail
   flush_total events m tail deep =
-      ap (λ t. cond {A = List Piece} t (record { tail = tail; count = count_of (tallied s (slice_range events (edge s 0 (m - 1)) m)) tail } ∷ [])
-      (tallied s (slice_range events (lookback s m) m)))
+      ap (λ t. cond {A = List Piece} t (record { tail = tail; count = count_of (tally weighed s (slice_range events (edge s 0 (m - 1)) m)) tail } ∷ [])
+      (tally weighed s (slice_range events (lookback s m) m)))
       (sym (ne_eqb (depth s m) 0 deep))
 
   -- where no edge moves the rows stay
@@ -131,7 +163,7 @@ module _ (s : Numbers) (valid : IsValid s) where
       length_map (bin ∷ row) = ap suc (length_map row)
 
   -- later events change no bin of the rows
-  module _ (events others : List ℕ) (rows : List (List BinAt)) (file : List ℕ) (at : IsAt s (length events) rows) where
+  module _ (events others : List Item) (rows : List (List BinAt)) (file : List ℕ) (at : IsAt s (length events) rows) where
     slice_same : (level : ℕ) → 1 ≤ level → level ≤ s.levels → (k : ℕ) (d : BinAt) → k < length (row_of rows level) →
         slice_range (events ++ others) (get_or (row_of rows level) k d).from (get_or (row_of rows level) k d).to ≡ slice_range events (get_or (row_of rows level) k d).from (get_or
         (row_of rows level) k d).to
@@ -140,7 +172,7 @@ module _ (s : Numbers) (valid : IsValid s) where
 
     pub frames_more : HoldsBins s written events rows file → HoldsBins s written (events ++ others) rows file
     frames_more holds level first last k d within =
-        subst (λ keys. HoldsFrame s written level (get_or (row_of rows level) k d).frame file (tallied s keys)) (sym (slice_same level first last k d within))
+        subst (λ keys. HoldsFrame s written level (get_or (row_of rows level) k d).frame file (tally weighed s keys)) (sym (slice_same level first last k d within))
         (holds level first last k d within)
 
   -- before the first event no level has a bin

@@ -1,13 +1,15 @@
 -- The reports that the next key brings, and those of the end, by the totals that a taker gets.
 use Rattle.std.proofs.Common.{ℕ, ◌≡◌, ◌+◌, ◌-◌, ◌^◌, ◌<◌, ◌≤◌, suc, Bool, true, false, cond, leb, not, ◌&&◌, List, [], ◌∷◌, ◌++◌, length, map, ap, sym, ◌∙◌, arith, inl, inr, subst, slice_range}
-use Rattle.std.proofs.{Common.length-append, Math.Nat.mul-div-le, Math.Seq.take-length, lemmas.Bool.{cases_eq, eq-eqb, ne_eqb}, lemmas.Slice.between_from_start}
-use Rattle.lert_spec.specs.{declared.numbers.Numbers.Numbers, declared.piece.Piece.Piece, declared.report.Report.Report, Bins.tallied, Counts.{count, plain}}
+use Rattle.std.proofs.{Common.length-append, Math.Nat.mul-div-le, Math.Seq.take-length}
+use Rattle.std.proofs.{lemmas.Bool.{cases_eq, eq-eqb, ne_eqb}, lemmas.List.Elements.{All-nil, All-cons, All-append}, lemmas.Slice.between_from_start}
+use Rattle.lert_spec.specs.{declared.numbers.Numbers.Numbers, declared.piece.Piece.Piece, declared.report.Report.Report, Bins.tally, Counts.{weighed, weight_in}, declared.item.Item.Item}
 use Rattle.lert_spec.specs.Edges.{span, offset, edge, depth, lookback, tail_bits}
-use Rattle.lert_spec.specs.{Limits.IsValid, Look.{is_listed, look, closing}, Mix.{cone_of, tail_of}, Table.{count_of, IsTable}}
-use Rattle.lert_spec.proofs.{CountLaws.{count-append, count-push}, EdgeLaws.deepest_reaches, LookLaws.{AreKeys, look-push, look-push_between}, MixLaws.tail_below}
-use Rattle.lert_spec.proofs.{TailLaws.{AreOfCone, key_with, due_by_tails}, TallyLaws.IsTable-tallied, WindowLaws.{count_parts, count_never_falls}}
+use Rattle.lert_spec.specs.{Limits.IsValid, Look.{is_listed, look_of, closing_of}, Mix.{cone_of, tail_of}, Table.{count_of, IsTable}}
+use Rattle.lert_spec.proofs.{CountLaws.{count-append, count-push}, EdgeLaws.deepest_reaches, LookLaws.{HaveKeys, look-push, look-push_between}, MixLaws.tail_below}
+use Rattle.lert_spec.proofs.{TailLaws.{IsPartOf, key_with, due_by_tally}, TallyLaws.tally_table, WindowLaws.{count_parts, count_never_falls}}
 use Rattle.lert_cone.specs.{Due.due_reports, Tally.totals_at}
-use Rattle.lert_cone.proofs.KeyLemmas.{AreKeys-push, AreOfCone-push, count-tail, key_with-tail}
+use Rattle.lert_cone.proofs.KeyLemmas.{HaveKeys-push, IsPartOf-push, count-tail, key_with-tail}
+use Rattle.lert_levels.proofs.rows.WeightLaws.{WeighAll, weigh_some, weigh_slice}
 
 pub edge_within : (s : Numbers) (level n : ℕ) → edge s level n ≤ n
 edge_within s level n = omega (arith, mul-div-le (n - offset s level) (span s level))
@@ -24,64 +26,73 @@ young_stays s n valid shallow =
       ))
     ]
 
-module _ (s : Numbers) (cone : ℕ) (events : List ℕ) (valid : IsValid s) (named : cone < 2 ^ s.cone_bits) (keys : AreKeys events) (own : AreOfCone s cone events) where
+module _ (s : Numbers) (cone : ℕ) (events : List Item) (valid : IsValid s) (named : cone < 2 ^ s.cone_bits) (keys : HaveKeys weighed events) (own : IsPartOf weighed s cone events)
+    (weigh : WeighAll events) where
   bits : s.cone_bits ≤ 64
   bits = omega (arith, valid.limits.cone_bits_to)
 
   -- the reports of the end are those of all counts
-  pub closing_is : closing s events ≡ look s events ++ due_reports s cone (look s events) (length events) (tallied s events)
+  pub closing_is : closing_of weighed s events ≡ look_of weighed s events ++ due_reports s cone (look_of weighed s events) (length events) (tally weighed s events)
   closing_is =
       let n = length events in
-      let due = due_by_tails s cone s.threshold events 0 n (look s events) bits named valid.limits.threshold_from keys own in
-      ap (λ ks. look s events ++ map (λ key. record { key = key; at = n }) ks) due
-      ∙ ap (λ xs. look s events ++ due_reports s cone (look s events) n (tallied s xs)) (between_from_start events n ∙ take-length events)
+      let due = due_by_tally weighed s cone s.threshold events 0 n (look_of weighed s events) bits named valid.limits.threshold_from keys own (weigh_some events weigh) in
+      ap (λ ks. look_of weighed s events ++ map (λ key. record { key = key; at = n }) ks) due
+      ∙ ap (λ xs. look_of weighed s events ++ due_reports s cone (look_of weighed s events) n (tally weighed s xs)) (between_from_start events n ∙ take-length events)
 
-  module _ (key : ℕ) (below : key < 2 ^ 64) (mine : cone_of s key ≡ cone) where
+  module _ (item : Item) (below : item.key < 2 ^ 64) (mine : cone_of s item.key ≡ cone) (weighs : 1 ≤ item.weight) where
+    abbrev key : ℕ
+    key = item.key
+
     n : ℕ
     n = length events
 
-    abbrev all : List ℕ
-    all = events ++ key ∷ []
+    abbrev all : List Item
+    all = events ++ item ∷ []
 
     abbrev tail : ℕ
     tail = tail_of s key
 
     abbrev window : ℕ
-    window = count_of (tallied s (slice_range all (edge s 0 (suc (length events) - 1)) (suc (length events)))) tail
+    window = count_of (tally weighed s (slice_range all (edge s 0 (suc (length events) - 1)) (suc (length events)))) tail
 
-    all_keys : AreKeys all
-    all_keys = AreKeys-push events key keys below
+    all_keys : HaveKeys weighed all
+    all_keys = HaveKeys-push events item keys below
 
-    all_own : AreOfCone s cone all
-    all_own = AreOfCone-push s cone events key own mine
+    all_own : IsPartOf weighed s cone all
+    all_own = IsPartOf-push s cone events item own mine
+
+    all_weigh : WeighAll all
+    all_weigh = All-append (λ (i : Item). 1 ≤ i.weight) events (item ∷ []) weigh (All-cons (λ (i : Item). 1 ≤ i.weight) item [] weighs (All-nil (λ (i : Item). 1 ≤ i.weight)))
 
     before_is : suc (length events) - 1 ≡ length events
     before_is = omega arith
 
-    counted : window ≡ count key all (edge s 0 (length events)) (suc (length events))
-    counted = count-tail s cone key (edge s 0 (suc (length events) - 1)) (suc (length events)) all below mine all_keys all_own
-        ∙ ap (λ p. count key all (edge s 0 p) (suc (length events))) before_is
+    counted : window ≡ weight_in weighed key all (edge s 0 (length events)) (suc (length events))
+    counted = count-tail s cone key (edge s 0 (suc (length events) - 1)) (suc (length events)) all below mine all_keys all_own all_weigh
+        ∙ ap (λ p. weight_in weighed key all (edge s 0 p) (suc (length events))) before_is
 
-    -- the key itself is counted
+    -- the item itself is counted
     some : 1 ≤ window
     some =
         let from = edge s 0 (length events) in
         let early = edge_within s 0 (length events) in
-        let longer : length all ≡ suc (length events) = omega (arith, length-append events (key ∷ [])) in
-        let whole = ap (count key all 0) (sym longer) ∙ count-push plain key events key ∙ ap (λ t. count key events 0 (length events) + cond {A = ℕ} t 1 0) (eq-eqb key key (λ _. key)) in
-        let first = count-append plain key events (key ∷ []) from early in
-        omega (arith, counted, whole, first, count_never_falls plain key events from (length events) early, count_parts plain key all from (suc (length events)) (omega (arith, early)))
+        let longer : length all ≡ suc (length events) = omega (arith, length-append events (item ∷ [])) in
+        let whole = ap (weight_in weighed key all 0) (sym longer) ∙ count-push weighed key events item
+        ∙ ap (λ t. weight_in weighed key events 0 (length events) + cond {A = ℕ} t item.weight 0) (eq-eqb key key (λ _. key)) in
+        let first = count-append weighed key events (item ∷ []) from early in
+        omega (arith, counted, whole, first, weighs, count_never_falls weighed key events from (length events) early, count_parts weighed key all from (suc (length events)) (omega (arith, early)))
 
     pub totals_table : IsTable (2 ^ tail_bits s) (totals_at s all (suc (length events)) tail)
     totals_table =
         elim (cases_eq (depth s (suc (length events))) 0) [
           | inl shallow ↦ subst (λ t. IsTable (2 ^ tail_bits s) (cond t (record { tail = tail; count = window } ∷ [])
-              (tallied s (slice_range all (lookback s (suc (length events))) (suc
+              (tally weighed s (slice_range all (lookback s (suc (length events))) (suc
               (length events))))))
               (sym (eq-eqb (depth s (suc (length events))) 0 shallow)) (omega arith, tail_below s key, some, tt)
-          | inr deep ↦ subst (λ t. IsTable (2 ^ tail_bits s) (cond t (record { tail = tail; count = window } ∷ []) (tallied s (slice_range all (lookback s (suc (length events))) (suc
+          | inr deep ↦ subst (λ t. IsTable (2 ^ tail_bits s) (cond t (record { tail = tail; count = window } ∷ []) (tally weighed s (slice_range all (lookback s (suc (length events))) (suc
               (length events))))))
-              (sym (ne_eqb (depth s (suc (length events))) 0 deep)) (IsTable-tallied s (slice_range all (lookback s (suc (length events))) (suc (length events))))
+              (sym (ne_eqb (depth s (suc (length events))) 0 deep)) (tally_table weighed s (slice_range all (lookback s (suc (length events))) (suc (length events))) (weigh_slice all
+              (lookback s (suc (length events))) (suc (length events)) all_weigh))
         ]
 
     -- the report of one piece
@@ -101,21 +112,21 @@ module _ (s : Numbers) (cone : ℕ) (events : List ℕ) (valid : IsValid s) (nam
         shown true = ap (λ k. record { key = k; at = at } ∷ []) (key_with-tail s cone bits named key below mine)
         shown false = λ _. []
 
-    pub look_is : look s all ≡ look s events ++ due_reports s cone (look s events) (suc (length events)) (totals_at s all (suc (length events)) tail)
+    pub look_is : look_of weighed s all ≡ look_of weighed s events ++ due_reports s cone (look_of weighed s events) (suc (length events)) (totals_at s all (suc (length events)) tail)
     look_is =
         let m = suc (length events) in
-        let reports = look s events in
+        let reports = look_of weighed s events in
         elim (cases_eq (depth s m) 0) [
           | inl shallow ↦
-              look-push_between plain s events key valid keys below (young_stays s (length events) valid shallow)
+              look-push_between weighed s events item valid keys below (young_stays s (length events) valid shallow)
               ∙ ap (λ c. reports ++ cond {A = List Report} (leb s.threshold c && not (is_listed key reports)) (record { key = key; at = m } ∷ []) []) (sym counted)
               ∙ ap (λ rs. reports ++ rs) (sym (one_report window m reports))
-              ∙ ap (λ t. reports ++ due_reports s cone reports m (cond t (record { tail = tail; count = window } ∷ []) (tallied s (slice_range all (lookback s m) m)))) (sym (eq-eqb
+              ∙ ap (λ t. reports ++ due_reports s cone reports m (cond t (record { tail = tail; count = window } ∷ []) (tally weighed s (slice_range all (lookback s m) m)))) (sym (eq-eqb
               (depth s m) 0 shallow))
           | inr deep ↦
-              look-push plain s events key valid.limits.threshold_from keys below
+              look-push weighed s events item valid.limits.threshold_from keys below
               ∙ ap (λ ks. reports ++ map (λ k. record { key = k; at = m }) ks)
-              (due_by_tails s cone s.threshold all (lookback s m) m reports bits named valid.limits.threshold_from all_keys all_own)
-              ∙ ap (λ t. reports ++ due_reports s cone reports m (cond t (record { tail = tail; count = window } ∷ []) (tallied s (slice_range all (lookback s m) m)))) (sym (ne_eqb
+              (due_by_tally weighed s cone s.threshold all (lookback s m) m reports bits named valid.limits.threshold_from all_keys all_own (weigh_some all all_weigh))
+              ∙ ap (λ t. reports ++ due_reports s cone reports m (cond t (record { tail = tail; count = window } ∷ []) (tally weighed s (slice_range all (lookback s m) m)))) (sym (ne_eqb
               (depth s m) 0 deep))
         ]

@@ -1,17 +1,19 @@
--- The keys that a reopening doesn't read: as many keys of the cone as are asked for, and of a journal its first ones.
+-- The items that a reopening doesn't read: as many items of the cone as are asked for, and of a journal its first ones.
+use Rattle.std.proofs.Common.{min}
+use Rattle.std.proofs.Common.{max}
 use Rattle.std.proofs.Common.{◌≡◌, ℕ, zero, suc, ◌+◌, ◌<◌, ◌≤◌, ◌^◌, List, [], ◌∷◌, ◌++◌, length, map, take, replicate, All, Option, Some, refl, sym, ap, ap₂, ◌∙◌, subst, arith, append_assoc}
-use Rattle.std.proofs.{Common.length-append, lemmas.List.{length-map, length-replicate, length-take-le, map-append, take-append-le, take_all}, lemmas.List.Elements.{All-head, All-tail}}
-use Rattle.lert_spec.proofs.ItemLaws.{length-keys_in}
-use Rattle.lert_levels.specs.OnDisk.{written}
+use Rattle.std.proofs.{Common.length-append}
+use Rattle.std.proofs.{lemmas.List.{length-map, length-replicate, length-take-le, map-append, take-append-le, take_all}, lemmas.List.Elements.{All-nil, All-cons, All-head, All-tail}}
+use Rattle.lert_cone.specs.History.{written}
 use Rattle.lert_base.specs.Packet.{keys_of}
 use Rattle.lert_base.specs.Packet.{Packet, events_of}
 use Rattle.lert_bay.specs.{Files.Files, Settled.part}
 use Rattle.lert_gatelog.specs.Gated.{Records, IsOpen, counted_at}
 use Rattle.lert_journal.specs.Payload.{IsJournaled, packet_in, payload_of}
 use Rattle.lert_journal.proofs.PayloadBack.{packet_back}
-use Rattle.lert_spec.specs.{declared.numbers.Numbers.Numbers, Limits.IsValid, Mix.{cone_of, tail_of}}
-use Rattle.lert_spec.proofs.{LookLaws.AreKeys, MixLaws.tail_below, TailLaws.AreOfCone}
-use Rattle.lert_cone.specs.{History.{most_payload, end_of}, Sound.{IsJournal, KeysFit}, Unread.{journal_of, keys_from, own_key, unread}}
+use Rattle.lert_spec.specs.{Counts.weighed, declared.item.Item.Item, declared.numbers.Numbers.Numbers, Items.{keys_in, most_weight, unit, AreOfVersion}, Limits.IsValid, Mix.{cone_of, tail_of}}
+use Rattle.lert_spec.proofs.{LookLaws.HaveKeys, MixLaws.tail_below, TailLaws.IsPartOf}
+use Rattle.lert_cone.specs.{History.{most_payload, end_of}, Sound.{IsJournal, KeysFit}, Unread.{journal_of, items_from, own_item, unread}}
 use Rattle.lert_cone.proofs.KeyLemmas.{cone-key_with, key_with-tail, key_with_below}
 
 -- ---- whatever the journal holds
@@ -19,9 +21,9 @@ use Rattle.lert_cone.proofs.KeyLemmas.{cone-key_with, key_with-tail, key_with_be
 pub length_unread : (s : Numbers) (cone n : ℕ) (told : Option Files) → length (unread s cone n told) ≡ n
 unfolding unread
 length_unread s cone n told =
-    let all = keys_from n (journal_of told) 32 ++ replicate n 0 in
-    let enough : n ≤ length all = omega (arith, length-append (keys_from n (journal_of told) 32) (replicate n 0), length-replicate {A = ℕ} n 0) in
-    length-map (take n all) (own_key s cone) ∙ length-take-le n all enough
+    let all = items_from n (journal_of told) 32 ++ replicate n (unit 0) in
+    let enough : n ≤ length all = omega (arith, length-append (items_from n (journal_of told) 32) (replicate n (unit 0)), length-replicate {A = Item} n (unit 0)) in
+    length-map (take n all) (own_item s cone) ∙ length-take-le n all enough
 
 pub unread_none : (s : Numbers) (cone : ℕ) (told : Option Files) → unread s cone 0 told ≡ []
 unfolding unread
@@ -31,49 +33,61 @@ module _ (s : Numbers) (cone : ℕ) (valid : IsValid s) (named : cone < 2 ^ s.co
   bits : s.cone_bits ≤ 64
   bits = omega (arith, valid.limits.cone_bits_to)
 
-  own_keys : (keys : List ℕ) → AreKeys (map (own_key s cone) keys)
+  own_keys : (items : List Item) → HaveKeys weighed (map (own_item s cone) items)
   own_keys [] = tt
-  own_keys (key ∷ keys) = (key_with_below s cone bits named (tail_of s key) (tail_below s key), own_keys keys)
+  own_keys (item ∷ items) = (key_with_below s cone bits named (tail_of s item.key) (tail_below s item.key), own_keys items)
 
-  own_cone : (keys : List ℕ) → AreOfCone s cone (map (own_key s cone) keys)
+  own_cone : (items : List Item) → IsPartOf weighed s cone (map (own_item s cone) items)
   own_cone [] = tt
-  own_cone (key ∷ keys) = (cone-key_with s cone bits named (tail_of s key) (tail_below s key), own_cone keys)
+  own_cone (item ∷ items) = (cone-key_with s cone bits named (tail_of s item.key) (tail_below s item.key), own_cone items)
 
-  pub unread_keys : (n : ℕ) (told : Option Files) → AreKeys (unread s cone n told)
-  unfolding unread
-  unread_keys n told = own_keys (take n (keys_from n (journal_of told) 32 ++ replicate n 0))
+  own_weights : (items : List Item) → AreOfVersion written (map (own_item s cone) items)
+  own_weights [] = All-nil (λ (i : Item). (1 ≤ i.weight) × (i.weight ≤ most_weight written))
+  own_weights (item ∷ items) =
+      All-cons (λ (i : Item). (1 ≤ i.weight) × (i.weight ≤ most_weight written)) (own_item s cone item) (map (own_item s cone) items) (omega arith, omega arith) (own_weights items)
 
-  pub unread_own : (n : ℕ) (told : Option Files) → AreOfCone s cone (unread s cone n told)
+  pub unread_keys : (n : ℕ) (told : Option Files) → HaveKeys weighed (unread s cone n told)
   unfolding unread
-  unread_own n told = own_cone (take n (keys_from n (journal_of told) 32 ++ replicate n 0))
+  unread_keys n told = own_keys (take n (items_from n (journal_of told) 32 ++ replicate n (unit 0)))
+
+  pub unread_own : (n : ℕ) (told : Option Files) → IsPartOf weighed s cone (unread s cone n told)
+  unfolding unread
+  unread_own n told = own_cone (take n (items_from n (journal_of told) 32 ++ replicate n (unit 0)))
+
+  pub unread_light : (n : ℕ) (told : Option Files) → AreOfVersion written (unread s cone n told)
+  unfolding unread
+  unread_light n told = own_weights (take n (items_from n (journal_of told) 32 ++ replicate n (unit 0)))
 
   -- ---- of the journal of packets
 
-  -- keys of the cone stay as they are
-  kept : (keys : List ℕ) → All (λ key. key < 2 ^ 64) keys → All (λ key. cone_of s key ≡ cone) keys → map (own_key s cone) keys ≡ keys
-  kept [] fit own = refl
-  kept (key ∷ keys) fit own =
-      ap₂ (λ x xs. x ∷ xs)
-      (key_with-tail s cone bits named key (All-head (λ k. k < 2 ^ 64) key keys fit) (All-head (λ k. cone_of s k ≡ cone) key keys own))
-      (kept keys (All-tail (λ k. k < 2 ^ 64) key keys fit) (All-tail (λ k. cone_of s k ≡ cone) key keys own))
+  -- items of the cone stay as they are
+  kept : (items : List Item) → All (λ key. key < 2 ^ 64) (keys_in items) → All (λ key. cone_of s key ≡ cone) (keys_in items) → AreOfVersion written items → map (own_item s cone) items ≡ items
+  kept [] fit own light = refl
+  kept (item ∷ items) fit own light =
+      let keys = keys_in items in
+      let IsLight = λ (i : Item). (1 ≤ i.weight) × (i.weight ≤ most_weight written) in
+      let weight : min (most_weight written) (max 1 item.weight) ≡ item.weight = omega (arith, All-head IsLight item items light) in
+      ap₂ (λ (x : Item) xs. x ∷ xs)
+      (ap₂ (λ key w. record { key = key; weight = w })
+      (key_with-tail s cone bits named item.key (All-head (λ k. k < 2 ^ 64) item.key keys fit) (All-head (λ k. cone_of s k ≡ cone) item.key keys own)) weight)
+      (kept items (All-tail (λ k. k < 2 ^ 64) item.key keys fit) (All-tail (λ k. cone_of s k ≡ cone) item.key keys own) (All-tail IsLight item items light))
 
   module _ (rest : List Packet) where
-    all_kept : (done : List Packet) → KeysFit (done ++ rest) → All (IsJournaled written s cone) (done ++ rest) → map (own_key s cone) (events_of done) ≡ events_of done
+    all_kept : (done : List Packet) → KeysFit (done ++ rest) → All (IsJournaled written s cone) (done ++ rest) → map (own_item s cone) (events_of done) ≡ events_of done
     all_kept [] fit journaled = refl
     all_kept (packet ∷ done) fit journaled =
-        map-append (own_key s cone) (keys_of packet) (events_of done)
+        map-append (own_item s cone) packet.items (events_of done)
         ∙ ap₂ (λ xs ys. xs ++ ys)
-        (kept (keys_of packet) (All-head (λ (p : Packet). All (λ key. key < 2 ^ 64) (keys_of p)) packet (done ++ rest) fit)
-        (All-head (IsJournaled written s cone) packet (done ++ rest) journaled).of_cone)
+        (kept packet.items (All-head (λ (p : Packet). All (λ key. key < 2 ^ 64) (keys_of p)) packet (done ++ rest) fit)
+        (All-head (IsJournaled written s cone) packet (done ++ rest) journaled).of_cone (All-head (IsJournaled written s cone) packet (done ++ rest) journaled).weighed)
         (all_kept done (All-tail (λ (p : Packet). All (λ key. key < 2 ^ 64) (keys_of p)) packet (done ++ rest) fit) (All-tail (IsJournaled written s cone) packet (done ++ rest) journaled))
 
     few : (done : List Packet) → All (IsJournaled written s cone) (done ++ rest) → length done ≤ length (events_of done)
     few [] journaled = omega arith
     few (packet ∷ done) journaled = omega (
       arith,
-      length-append (keys_of packet) (events_of done),
+      length-append packet.items (events_of done),
       (All-head (IsJournaled written s cone) packet (done ++ rest) journaled).some,
-      length-keys_in packet.items,
       few done (All-tail (IsJournaled written s cone) packet (done ++ rest) journaled),
     )
 
@@ -88,8 +102,8 @@ module _ (s : Numbers) (cone : ℕ) (valid : IsValid s) (named : cone < 2 ^ s.co
 
       -- as many records as there are packets, or more, begin with their keys
       begun : (done : List Packet) (n gate : ℕ) → length done ≤ n → Records most bytes gate (map (payload_of written) (done ++ rest)) end → KeysFit (done ++ rest) →
-          All (IsJournaled written s cone) (done ++ rest) → (more : List ℕ) × (keys_from n bytes gate ≡ events_of done ++ more)
-      begun [] n gate enough records fit journaled = (keys_from n bytes gate, refl)
+          All (IsJournaled written s cone) (done ++ rest) → (more : List Item) × (items_from n bytes gate ≡ events_of done ++ more)
+      begun [] n gate enough records fit journaled = (items_from n bytes gate, refl)
       begun (packet ∷ done) zero gate enough records fit journaled = absurd (omega (arith, enough))
       begun (packet ∷ done) (suc n) gate enough records fit journaled =
           let is_keys : All (λ key. key < 2 ^ 64) (keys_of packet) = All-head (λ (p : Packet). All (λ key. key < 2 ^ 64) (keys_of p)) packet (done ++ rest) fit in
@@ -98,14 +112,15 @@ module _ (s : Numbers) (cone : ℕ) (valid : IsValid s) (named : cone < 2 ^ s.co
           let behind = begun done n (gate + 5 + length (payload_of written packet)) (omega (arith, enough)) records.1
           (All-tail (λ (p : Packet). All (λ key. key < 2 ^ 64) (keys_of p)) packet (done ++ rest) fit) (All-tail (IsJournaled written s cone) packet (done ++ rest) journaled) in (
             behind.0,
-            ap₂ (λ (p : Packet) keys. (keys_of p) ++ keys) first (ap (keys_from n bytes) next ∙ behind.1) ∙ sym (append_assoc (keys_of packet) (events_of done) behind.0),
+            ap₂ (λ (p : Packet) items. p.items ++ items) first (ap (items_from n bytes) next ∙ behind.1) ∙ sym (append_assoc packet.items (events_of done) behind.0),
           )
 
-    taken : (done : List Packet) (keys more : List ℕ) → keys ≡ events_of done ++ more → take (length (events_of done)) (keys ++ replicate (length (events_of done)) 0) ≡ events_of done
-    taken done keys more is =
-        let events : List ℕ = events_of done in
-        let zeros : List ℕ = replicate (length events) 0 in
-        ap (λ ks. take (length events) ks) (ap (λ ks. ks ++ zeros) is ∙ append_assoc events more zeros)
+    taken : (done : List Packet) (items more : List Item) → items ≡ events_of done ++ more →
+        take (length (events_of done)) (items ++ replicate (length (events_of done)) (unit 0)) ≡ events_of done
+    taken done items more is =
+        let events : List Item = events_of done in
+        let zeros : List Item = replicate (length events) (unit 0) in
+        ap (λ list. take (length events) list) (ap (λ list. list ++ zeros) is ∙ append_assoc events more zeros)
         ∙ (take-append-le (length events) events (more ++ zeros) (omega arith)
         ∙ take_all (length events) events (omega arith))
 
@@ -119,6 +134,6 @@ module _ (s : Numbers) (cone : ℕ) (valid : IsValid s) (named : cone < 2 ^ s.co
       let records : Records (most_payload s) (seen 0) 32 (map (payload_of written) (done ++ rest)) (end_of history) =
       subst (λ (h : List Packet). Records (most_payload s) (seen 0) 32 (map (payload_of written) h) (end_of history)) is journal.records.records in
       let there = begun rest (most_payload s) (seen 0) (end_of history) done n 32 (few rest done journaled) records fit journaled in
-      ap (λ (t : Option Files). map (own_key s cone) (take n (keys_from n (journal_of t) 32 ++ replicate n 0))) told_is
-      ∙ (ap (map (own_key s cone)) (taken rest done (keys_from n (seen 0) 32) there.0 there.1)
+      ap (λ (t : Option Files). map (own_item s cone) (take n (items_from n (journal_of t) 32 ++ replicate n (unit 0)))) told_is
+      ∙ (ap (map (own_item s cone)) (taken rest done (items_from n (seen 0) 32) there.0 there.1)
       ∙ all_kept rest done fit journaled)

@@ -1,11 +1,13 @@
--- What a key, and the end, make of a cone's counts and of its bay.
+-- What an item, and the end, make of a cone's counts and of its bay.
 use Rattle.std.specs.Prelude.{◌≡◌, ◌≢◌, ℕ, ◌+◌, ◌-◌, ◌≤◌, true, List, [], ◌∷◌, ◌++◌, length, slice_range, None, Result, Err, OnOk, OnErr, IsErrOf}
 use Rattle.lert_bay.specs.{Kept.{Bays, KeepsBay, OnlyReads}, Files.{Files, IfTold}, declared.bay.TheConstants.FRAMES}
 use Rattle.lert_gatelog.specs.Kept.{InEach}
 use Rattle.lert_levels.specs.{declared.rows.fault.FlushFault.FlushFault, declared.rows.fault.FlushFault.TheVariants.{Failed as FlushFailed, Malformed}, Flushed.InNamed, rows.Checked.rows_left}
-use Rattle.lert_levels.specs.{rows.Landing.KeepsRest, rows.Rows.{IsAt, AreRows, HoldsBins, moved}, rows.Loading.OneBreaks, OnDisk.{OnDisk, written}, rows.Young.Young}
-use Rattle.lert_spec.specs.{declared.piece.Piece.Piece, Bins.tallied, Edges.{edge, lookback, capacity}}
+use Rattle.lert_levels.specs.{rows.Landing.KeepsRest, rows.Rows.{IsAt, AreRows, HoldsBins, moved}, rows.Loading.OneBreaks, OnDisk.OnDisk, rows.Young.Young}
+use Rattle.lert_spec.specs.{declared.piece.Piece.Piece, Bins.tally, Edges.{edge, lookback, capacity}}
 use Rattle.lert_cone.specs.{declared.tally.TakeFault.TakeFault, declared.tally.TakeFault.TheVariants.{Failed, Unsound}, Due.{Dues, TookFrom}, Framed.HoldsSome}
+use Rattle.lert_spec.specs.{Counts.weighed, Items.AreOfVersion, declared.item.Item.Item}
+use Rattle.lert_cone.specs.History.{written}
 use Rattle.lert_cone.specs.Tally.{Tallied, AreYoung, IsCounted, IsHeld, Shows, totals_at}
 
 -- the levels are flushed at position m, with the reports as the taker of the totals
@@ -13,19 +15,19 @@ pub record Flushes {B : Type 0} (bays : Bays B) (start : Dues) (m : ℕ) (bay ba
     (Unit {0}) FlushFault) : Type 0 where
   pub flushed : OnOk result (levels_after ≡ record levels { rows = moved levels.settings m levels.rows })
   pub refused : OnErr result (levels_after ≡ levels)
-  pub holds : (events : List ℕ) → length events ≡ m → AreYoung levels.settings events zero.from zero.bins →
-      IfTold (bays.files bay) (λ seen. HoldsBins levels.settings written events levels.rows (seen FRAMES) →
-      OnOk result (IfTold (bays.files bay_after) (λ after. HoldsBins levels_after.settings written events levels_after.rows (after FRAMES))))
-  pub totals : (events : List ℕ) → length events ≡ m → AreYoung levels.settings events zero.from zero.bins →
-      IfTold (bays.files bay) (λ seen. HoldsBins levels.settings written events levels.rows (seen FRAMES) →
-      OnOk result (TookFrom start due (tallied levels.settings (slice_range events (lookback levels.settings m) m))))
+  pub holds : (events : List Item) → length events ≡ m → AreOfVersion levels.version events → AreYoung levels.settings events zero.from zero.bins →
+      IfTold (bays.files bay) (λ seen. HoldsBins levels.settings levels.version events levels.rows (seen FRAMES) →
+      OnOk result (IfTold (bays.files bay_after) (λ after. HoldsBins levels_after.settings levels.version events levels_after.rows (after FRAMES))))
+  pub totals : (events : List Item) → length events ≡ m → AreOfVersion levels.version events → AreYoung levels.settings events zero.from zero.bins →
+      IfTold (bays.files bay) (λ seen. HoldsBins levels.settings levels.version events levels.rows (seen FRAMES) →
+      OnOk result (TookFrom start due (tally weighed levels.settings (slice_range events (lookback levels.settings m) m))))
   pub took : OnOk result ((list : List Piece) × TookFrom start due list)
-  pub sound : (events : List ℕ) → length events ≡ m → AreYoung levels.settings events zero.from zero.bins →
-      IfTold (bays.files bay) (λ seen. HoldsBins levels.settings written events levels.rows (seen FRAMES) → (at : ℕ) → result ≢ Err (Malformed at))
-  pub malformed : IfTold (bays.files bay) (λ seen. (at : ℕ) → IsErrOf result (Malformed at) → OneBreaks levels.settings written levels.rows (seen FRAMES) at)
-  pub malformed_after : IfTold (bays.files bay_after) (λ after. (at : ℕ) → IsErrOf result (Malformed at) → OneBreaks levels.settings written levels.rows (after FRAMES) at)
+  pub sound : (events : List Item) → length events ≡ m → AreOfVersion levels.version events → AreYoung levels.settings events zero.from zero.bins →
+      IfTold (bays.files bay) (λ seen. HoldsBins levels.settings levels.version events levels.rows (seen FRAMES) → (at : ℕ) → result ≢ Err (Malformed at))
+  pub malformed : IfTold (bays.files bay) (λ seen. (at : ℕ) → IsErrOf result (Malformed at) → OneBreaks levels.settings levels.version levels.rows (seen FRAMES) at)
+  pub malformed_after : IfTold (bays.files bay_after) (λ after. (at : ℕ) → IsErrOf result (Malformed at) → OneBreaks levels.settings levels.version levels.rows (after FRAMES) at)
   pub durable : OnOk result (IfTold (bays.files bay_after) (λ seen. (image : Files) → bays.leaves bay_after image → image FRAMES ≡ seen FRAMES))
-  pub rest : KeepsRest bays (InNamed levels.settings written levels.rows) bay bay_after
+  pub rest : KeepsRest bays (InNamed levels.settings levels.version levels.rows) bay bay_after
   pub kept : KeepsBay bays bay bay_after (IsErrOf result FlushFailed)
 
 -- The totals come to the reports that the event at position m brings, which level 0 has, its tail being this one: the levels
@@ -34,50 +36,52 @@ pub record GivesTotals {B : Type 0} (bays : Bays B) (start : Dues) (m tail : ℕ
     (Unit {0}) FlushFault) : Type 0 where
   pub young_settings : zero_after.settings ≡ zero.settings
   pub settings : levels_after.settings ≡ levels.settings
+  pub version : levels_after.version ≡ levels.version
   pub from : OnOk result (zero_after.from ≡ edge levels.settings 0 m)
   pub to : OnOk result (zero_after.to ≡ m)
-  pub bins : (events : List ℕ) → length events ≡ m → AreYoung levels.settings events zero.from zero.bins →
+  pub bins : (events : List Item) → length events ≡ m → AreOfVersion levels.version events → AreYoung levels.settings events zero.from zero.bins →
       OnOk result (AreYoung levels.settings events (edge levels.settings 0 m) zero_after.bins)
   pub rows : OnOk result (IsAt levels.settings m levels_after.rows)
-  pub holds : (events : List ℕ) → length events ≡ m → AreYoung levels.settings events zero.from zero.bins →
-      IfTold (bays.files bay) (λ seen. HoldsBins levels.settings written events levels.rows (seen FRAMES) →
-      OnOk result (IfTold (bays.files bay_after) (λ after. HoldsBins levels.settings written events levels_after.rows (after FRAMES))))
-  pub totals : (events : List ℕ) → length events ≡ m → AreYoung levels.settings events zero.from zero.bins →
-      IfTold (bays.files bay) (λ seen. HoldsBins levels.settings written events levels.rows (seen FRAMES) → OnOk result (TookFrom start due (totals_at levels.settings events m tail)))
+  pub holds : (events : List Item) → length events ≡ m → AreOfVersion levels.version events → AreYoung levels.settings events zero.from zero.bins →
+      IfTold (bays.files bay) (λ seen. HoldsBins levels.settings levels.version events levels.rows (seen FRAMES) →
+      OnOk result (IfTold (bays.files bay_after) (λ after. HoldsBins levels.settings levels.version events levels_after.rows (after FRAMES))))
+  pub totals : (events : List Item) → length events ≡ m → AreOfVersion levels.version events → AreYoung levels.settings events zero.from zero.bins →
+      IfTold (bays.files bay) (λ seen. HoldsBins levels.settings levels.version events levels.rows (seen FRAMES) → OnOk result (TookFrom start due (totals_at levels.settings events m tail)))
   pub took : OnOk result ((list : List Piece) × TookFrom start due list)
-  pub sound : (events : List ℕ) → length events ≡ m → AreYoung levels.settings events zero.from zero.bins →
-      IfTold (bays.files bay) (λ seen. HoldsBins levels.settings written events levels.rows (seen FRAMES) → (at : ℕ) → result ≢ Err (Malformed at))
-  pub malformed : IfTold (bays.files bay) (λ seen. (at : ℕ) → IsErrOf result (Malformed at) → OneBreaks levels_after.settings written levels_after.rows (seen FRAMES) at)
-  pub malformed_after : IfTold (bays.files bay_after) (λ after. (at : ℕ) → IsErrOf result (Malformed at) → OneBreaks levels_after.settings written levels_after.rows (after FRAMES) at)
-  pub images : (events : List ℕ) → length events ≡ m → AreYoung levels.settings events zero.from zero.bins →
-      IfTold (bays.files bay) (λ seen. HoldsBins levels.settings written events levels.rows (seen FRAMES) → InEach (bays.leaves bay) FRAMES (HoldsBins levels.settings written events levels.rows) →
-      OnOk result (IfTold (bays.files bay_after) (λ _. InEach (bays.leaves bay_after) FRAMES (HoldsBins levels.settings written events levels_after.rows))))
+  pub sound : (events : List Item) → length events ≡ m → AreOfVersion levels.version events → AreYoung levels.settings events zero.from zero.bins →
+      IfTold (bays.files bay) (λ seen. HoldsBins levels.settings levels.version events levels.rows (seen FRAMES) → (at : ℕ) → result ≢ Err (Malformed at))
+  pub malformed : IfTold (bays.files bay) (λ seen. (at : ℕ) → IsErrOf result (Malformed at) → OneBreaks levels_after.settings levels.version levels_after.rows (seen FRAMES) at)
+  pub malformed_after : IfTold (bays.files bay_after) (λ after. (at : ℕ) → IsErrOf result (Malformed at) → OneBreaks levels_after.settings levels.version levels_after.rows (after FRAMES) at)
+  pub images : (events : List Item) → length events ≡ m → AreOfVersion levels.version events → AreYoung levels.settings events zero.from zero.bins →
+      IfTold (bays.files bay) (λ seen. HoldsBins levels.settings levels.version events levels.rows (seen FRAMES) → InEach (bays.leaves bay) FRAMES (HoldsBins levels.settings levels.version
+      events levels.rows) →
+      OnOk result (IfTold (bays.files bay_after) (λ _. InEach (bays.leaves bay_after) FRAMES (HoldsBins levels.settings levels.version events levels_after.rows))))
   pub are : OnOk result (AreRows levels.settings levels.rows → AreRows levels.settings levels_after.rows)
   pub still : edge levels.settings 0 m ≡ edge levels.settings 0 (m - 1) → OnOk result (levels_after.rows ≡ levels.rows)
   pub unflushed : edge levels.settings 0 m ≡ edge levels.settings 0 (m - 1) → bay_after ≡ bay
-  pub rest : KeepsRest bays (InNamed levels.settings written levels.rows) bay bay_after
+  pub rest : KeepsRest bays (InNamed levels.settings levels.version levels.rows) bay bay_after
   pub kept : KeepsBay bays bay bay_after (IsErrOf result FlushFailed)
 
 -- all levels are scanned, with the reports as the taker of the totals
 pub record Scans {B : Type 0} (bays : Bays B) (start : Dues) (bay bay_after : B) (zero : Young) (levels levels_after : OnDisk) (due : Dues) (result : Result (Unit {0}) FlushFault) : Type 0 where
   pub stays : levels_after ≡ levels
-  pub totals : (events : List ℕ) → length events ≤ capacity levels.settings → IsAt levels.settings (length events) levels.rows →
+  pub totals : (events : List Item) → length events ≤ capacity levels.settings → AreOfVersion levels.version events → IsAt levels.settings (length events) levels.rows →
       zero.from ≡ edge levels.settings 0 (length events) → zero.to ≡ length events → AreYoung levels.settings events zero.from zero.bins →
-      IfTold (bays.files bay) (λ seen. HoldsBins levels.settings written events levels.rows (seen FRAMES) → OnOk result (TookFrom start due (tallied levels.settings events)))
+      IfTold (bays.files bay) (λ seen. HoldsBins levels.settings levels.version events levels.rows (seen FRAMES) → OnOk result (TookFrom start due (tally weighed levels.settings events)))
   pub took : OnOk result ((list : List Piece) × TookFrom start due list)
-  pub sound : (events : List ℕ) → length events ≤ capacity levels.settings → IsAt levels.settings (length events) levels.rows →
+  pub sound : (events : List Item) → length events ≤ capacity levels.settings → AreOfVersion levels.version events → IsAt levels.settings (length events) levels.rows →
       zero.from ≡ edge levels.settings 0 (length events) → AreYoung levels.settings events zero.from zero.bins →
-      IfTold (bays.files bay) (λ seen. HoldsBins levels.settings written events levels.rows (seen FRAMES) → (at : ℕ) → result ≢ Err (Malformed at))
-  pub malformed : IfTold (bays.files bay) (λ seen. (at : ℕ) → IsErrOf result (Malformed at) → OneBreaks levels.settings written levels.rows (seen FRAMES) at)
-  pub whole : IfTold (bays.files bay) (λ seen. OnOk result (rows_left levels.settings written (seen FRAMES) levels.rows ≡ None))
+      IfTold (bays.files bay) (λ seen. HoldsBins levels.settings levels.version events levels.rows (seen FRAMES) → (at : ℕ) → result ≢ Err (Malformed at))
+  pub malformed : IfTold (bays.files bay) (λ seen. (at : ℕ) → IsErrOf result (Malformed at) → OneBreaks levels.settings levels.version levels.rows (seen FRAMES) at)
+  pub whole : IfTold (bays.files bay) (λ seen. OnOk result (rows_left levels.settings levels.version (seen FRAMES) levels.rows ≡ None))
   pub reads : OnlyReads bays bay bay_after (IsErrOf result FlushFailed)
 
--- A key is counted. Where the edge of level 0 stays the rows stay, and no call of the bay is made; the frames that the rows named stay in any case. Where
--- the files are told, and the frames and reports are those of the keys so far, they are so again, in every image too, and no
+-- An item is counted. Where the edge of level 0 stays the rows stay, and no call of the bay is made; the frames that the rows named stay in any case. Where
+-- the files are told, and the frames and reports are those of the items so far, they are so again, in every image too, and no
 -- frame is found malformed; that holds too where the frames hold the bins of some events, whatever these are.
-pub record CountsKey {B : Type 0} (bays : Bays B) (key : ℕ) (bay bay_after : B) (old new : Tallied) (result : Result (Unit {0}) TakeFault) : Type 0 where
+pub record CountsItem {B : Type 0} (bays : Bays B) (item : Item) (bay bay_after : B) (old new : Tallied) (result : Result (Unit {0}) TakeFault) : Type 0 where
   pub listing : new.listing ≡ record old.listing { events = new.listing.events }
-  pub taken : OnOk result (new.listing.events ≡ old.listing.events ++ key ∷ [])
+  pub taken : OnOk result (new.listing.events ≡ old.listing.events ++ item ∷ [])
   pub counted : OnOk result (IsCounted new)
   pub grows : OnOk result (length old.due.reports ≤ length new.due.reports)
   pub still : edge old.listing.settings 0 (length old.listing.events + 1) ≡ edge old.listing.settings 0 (length old.listing.events) → OnOk result (new.rows ≡ old.rows)

@@ -1,4 +1,5 @@
 -- How a cone's files and its memory go together between two calls of its bay.
+use Rattle.lert_spec.specs.declared.item.Item.{Item}
 use Rattle.std.specs.Prelude.{◌≡◌, ℕ, ◌+◌, ◌*◌, ◌^◌, ◌≤◌, List, [], ◌++◌, length}
 use Rattle.lert_base.specs.Packet.{Packet, events_of}
 use Rattle.lert_bay.specs.{Files.Files, declared.bay.TheConstants.{JOURNAL, LOG, FRAMES}}
@@ -8,12 +9,12 @@ use Rattle.lert_reports.specs.{Log.{HasLog, last_n0, listed_in, most_record}, Lo
 use Rattle.lert_spec.specs.{declared.numbers.Numbers.Numbers, declared.report.Report.Report, Edges.edge}
 use Rattle.lert_cone.specs.{Framed.last_flush, Listing.{Listing, reports_of}, Logged.IsLogOf, JournalPlaces.{ArePlacesIn, NamesRecord, last_place}, Record.LogPlace, Sound.{IsJournal, but_last}}
 use Rattle.lert_cone.specs.Tally.{Tallied}
-use Rattle.lert_levels.specs.OnDisk.{written}
+use Rattle.lert_cone.specs.History.{written}
 
--- In every image the journal has these packets, the log has the records of the keys so far, and the frames that the rows
+-- In every image the journal has these packets, the log has the records of the items so far, and the frames that the rows
 -- name hold their bins. The journal and the log are settled from their first byte to their last. The records name as
--- many reports as the log's place says, and memory has the reports of the keys so far. The last record says where the journal's
--- record begins that holds the first key of level 0 at its place, and memory has the same of the newest bins, of each that
+-- many reports as the log's place says, and memory has the reports of the items so far. The last record says where the journal's
+-- record begins that holds the first item of level 0 at its place, and memory has the same of the newest bins, of each that
 -- begins at level 0's edge or behind it at least.
 pub record IsInStep (leaves : Files → Type 0) (seen : Files) (history : List Packet) (listing : Listing) (rows : List (List BinAt)) (reports : List Report) (log : LogPlace) : Type 0 where
   pub logged : List LogRecord
@@ -29,14 +30,14 @@ pub record IsInStep (leaves : Files → Type 0) (seen : Files) (history : List P
   pub placed : ArePlacesIn history log.places
   pub reach : log.places.from ≤ edge listing.settings 0 (length listing.events) + 1
 
--- these keys and then these begin those of the packets, and no flush of an earlier packet than the last one is left
-pub record IsPartway (s : Numbers) (history : List Packet) (events more : List ℕ) : Type 0 where
-  pub rest : List ℕ
+-- these items and then these begin those of the packets, and no flush of an earlier packet than the last one is left
+pub record IsPartway (s : Numbers) (history : List Packet) (events more : List Item) : Type 0 where
+  pub rest : List Item
   pub is : events_of history ≡ events ++ (more ++ rest)
   pub late : last_flush s (length (events_of (but_last history))) ≤ last_flush s (length events)
 
--- what is so of a cone's log before its next record: the records name none but the cone's reports, a key takes a bounded
--- number of bytes of the log, and the buffer has room for a record. The places are of these settings, after all keys
+-- what is so of a cone's log before its next record: the records name none but the cone's reports, an item takes a bounded
+-- number of bytes of the log, and the buffer has room for a record. The places are of these settings, after all items
 pub record IsLogging (tally : Tallied) (log : LogPlace) (room : ℕ) : Type 0 where
   pub most : log.most ≡ most_record tally.listing.settings
   pub named : log.named ≤ length tally.due.reports

@@ -1,6 +1,5 @@
 -- Where the records of a journal begin, and which of them the log's records name.
 use Rattle.std.specs.Prelude.{◌≡◌, ℕ, ◌+◌, ◌-◌, ◌*◌, ◌/◌, ◌^◌, ◌<◌, ◌≤◌, ◌==◌, List, ◌∷◌, ◌++◌, length, replicate, slice_index_or, if◌then◌else◌}
-use Rattle.lert_base.specs.Packet.{keys_of}
 use Rattle.lert_base.specs.Packet.{Packet, events_of}
 use Rattle.lert_spec.specs.{declared.numbers.Numbers.Numbers, Edges.{span, edge, capacity}, Limits.IsValid}
 use Rattle.lert_reports.specs.{Log.{last_first, last_offset}, LogText.LogRecord}
@@ -12,7 +11,7 @@ use Rattle.lert_cone.specs.{declared.journal_places.JournalPlace.JournalPlace, H
 abbrev pub first_place : JournalPlace
 first_place = record { gate = 32; first = 1 }
 
--- in the journal of these packets the record that begins at a place is that of one of them, and holds the key at position p
+-- in the journal of these packets the record that begins at a place is that of one of them, and holds the item at position p
 pub record HoldsPosition (history : List Packet) (place : JournalPlace) (p : ℕ) : Type 0 where
   pub done : List Packet
   pub packet : Packet
@@ -21,7 +20,7 @@ pub record HoldsPosition (history : List Packet) (place : JournalPlace) (p : ℕ
   pub gate_is : place.gate ≡ end_of done
   pub first_is : place.first ≡ length (events_of done) + 1
   pub from : place.first ≤ p
-  pub to : p < place.first + length (keys_of packet)
+  pub to : p < place.first + length packet.items
 
 -- and so for each position behind n up to the last one
 pub record AreOfRecord (history : List Packet) (place : JournalPlace) (n last : ℕ) : Type 0 where
@@ -55,11 +54,11 @@ last_place records = record { gate = last_offset records; first = last_first rec
 
 -- ---- the places of the newest bins
 
--- how many bins of level 0's span have begun once n keys are there
+-- how many bins of level 0's span have begun once n items are there
 abbrev pub bins_begun : Numbers → ℕ → ℕ
 bins_begun s n = (n + span s 0 - 1) / span s 0
 
--- places after so many keys, the newest bin's first, and the least position from which on they know the bins: of one that begins
+-- places after so many items, the newest bin's first, and the least position from which on they know the bins: of one that begins
 -- before it they say nothing
 pub record Places : Type 0 where
   pub settings : Numbers
@@ -67,11 +66,11 @@ pub record Places : Type 0 where
   pub passed : ℕ
   pub from : ℕ
 
--- so many keys are passed unseen, so no bin that has begun is known
+-- so many items are passed unseen, so no bin that has begun is known
 abbrev pub places_from : Numbers → ℕ → Places
 places_from s n = record { settings = s; places = replicate 17 first_place; passed = n; from = n + 1 }
 
--- no key yet
+-- no item yet
 abbrev pub places_at_start : Numbers → Places
 places_at_start s = places_from s 0
 
@@ -86,11 +85,11 @@ pub record ArePlacesIn (history : List Packet) (places : Places) : Type 0 where
 abbrev pub bins_behind : Numbers → ℕ → ℕ
 bins_behind s n = bins_begun s n - edge s 0 n / span s 0 - 1
 
--- the place of level 0's first bin, or without a key that of the journal's first record
+-- the place of level 0's first bin, or without an item that of the journal's first record
 unfoldable pub oldest_place : Places → JournalPlace
 oldest_place places = if places.passed == 0 then first_place else slice_index_or places.places (bins_behind places.settings places.passed) first_place
 
--- the keys up to position `last` are passed, which are those of the record at a place: in a journal whose record there holds their
+-- the items up to position `last` are passed, which are those of the record at a place: in a journal whose record there holds their
 -- positions the places are those of the newest bins again, and know them from the same position on
 pub record HasPassed (last : ℕ) (place : JournalPlace) (old new : Places) : Type 0 where
   pub settings : new.settings ≡ old.settings

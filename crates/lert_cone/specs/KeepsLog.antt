@@ -7,7 +7,7 @@ use Rattle.lert_levels.specs.{declared.rows.bin_at.BinAt.BinAt, rows.Rows.IsAt}
 use Rattle.lert_reports.specs.{declared.log.LogKind.LogKind, Log.{HasRecords, last_n0, last_directory}, LogRules.AreFrames, LogText.LogRecord}
 use Rattle.lert_spec.specs.{declared.numbers.Numbers.Numbers, Edges.{edge, capacity}}
 use Rattle.lert_cone.specs.{Framed.HoldsSome, Logged.frames_of, Replaying.Replaying}
-use Rattle.lert_levels.specs.OnDisk.{written}
+use Rattle.lert_cone.specs.History.{written}
 
 -- ---- the frames that a log names
 

@@ -1,9 +1,9 @@
 -- What a lock says of the cone that it holds, by the cone's terms alone.
+use Rattle.lert_spec.specs.Counts.{weighed}
 use Rattle.std.specs.Prelude.{◌≡◌, ◌+◌, ◌<◌, Bool, true, false, List, [], ◌∷◌, ◌++◌, length, Option}
-use Rattle.lert_base.specs.Packet.{keys_of}
 use Rattle.lert_base.specs.{Packet.{Packet, events_of}, declared.cone_fault.ConeFault.ConeFault, declared.cone_fault.ConeFault.TheVariants.CapacityFull}
 use Rattle.lert_bay.specs.Files.{Files, IfTold}
-use Rattle.lert_spec.specs.{Edges.capacity, Look.look}
+use Rattle.lert_spec.specs.{Edges.capacity, Look.look_of}
 use Rattle.lert_cone.specs.{declared.acked.Acked.Acked, declared.state.ConeState.ConeState, declared.state.ConeState.TheVariants.{Running, Finished, BrokenByBay, BrokenByRead}}
 use Rattle.lert_cone.specs.Stands.{Terms, WereSound}
 
@@ -14,14 +14,14 @@ is_stopped Finished = true
 is_stopped BrokenByBay = true
 is_stopped (BrokenByRead file at) = true
 
--- the reply of a cone with these terms to a packet behind a list: the positions of its first and its last key, and how many
+-- the reply of a cone with these terms to a packet behind a list: the positions of its first and its last item, and how many
 -- reports stand with it where the bay told its files as the cone was made, since no call changes whether it tells them
 pub record AnswersUnder {B : Type 0} (files : B → Option Files) (terms : Terms B) (history : List Packet) (packet : Packet) (acked : Acked) : Type 0 where
   pub from_is : acked.from ≡ length (events_of history) + 1
-  pub to_is : acked.to ≡ length (events_of history) + length (keys_of packet)
-  pub reports_are : WereSound files terms → IfTold (files terms.made) (λ _. acked.reports ≡ length (look terms.settings (events_of (history ++ packet ∷ []))))
+  pub to_is : acked.to ≡ length (events_of history) + length packet.items
+  pub reports_are : WereSound files terms → IfTold (files terms.made) (λ _. acked.reports ≡ length (look_of weighed terms.settings (events_of (history ++ packet ∷ []))))
 
--- its refusal by its rule: the packet has more keys than it takes behind the list
+-- its refusal by its rule: the packet has more items than it takes behind the list
 pub record RefusesUnder {B : Type 0} (terms : Terms B) (history : List Packet) (packet : Packet) (fault : ConeFault) : Type 0 where
-  pub fault_is : fault ≡ CapacityFull (length (events_of history)) (length (keys_of packet))
-  pub too_many : capacity terms.settings < length (events_of history) + length (keys_of packet)
+  pub fault_is : fault ≡ CapacityFull (length (events_of history)) (length packet.items)
+  pub too_many : capacity terms.settings < length (events_of history) + length packet.items

@@ -13,7 +13,7 @@ pub record LogPlace : Type 0 where
   pub places : Places
 
 -- the payload of a record that names the reports behind those that were named before. It says that the journal is to be read from
--- the record on that holds the first key of level 0
+-- the record on that holds the first item of level 0
 unfoldable pub payload_at : LogPlace → LogKind → ℕ → List ℕ → List Report → List ℕ
 payload_at log kind n0 directory reports = log_payload kind n0 (oldest_place log.places).gate (oldest_place log.places).first directory (drop log.named reports)
 

@@ -1,8 +1,8 @@
 -- A cone on its way through the journal of a stopped run: what its memory and its files have by then, and where a record
 -- leaves the format.
+use Rattle.lert_spec.specs.declared.item.Item.{Item}
 use Rattle.std.specs.Prelude.{◌≡◌, ℕ, ◌+◌, ◌<◌, ◌≤◌, max, Bool, true, false, List, ◌∷◌, ◌++◌, length, take}
-use Rattle.lert_levels.specs.OnDisk.{written}
-use Rattle.lert_base.specs.Packet.{keys_of}
+use Rattle.lert_cone.specs.History.{written}
 use Rattle.lert_base.specs.Packet.{Packet, events_of}
 use Rattle.lert_bay.specs.Files.{Files}
 use Rattle.lert_gatelog.specs.Gated.{IsClosed}
@@ -13,7 +13,7 @@ use Rattle.lert_spec.specs.{declared.numbers.Numbers.Numbers, declared.report.Re
 use Rattle.lert_cone.specs.{Framed.last_flush, History.{most_payload, end_of}, InStep.IsInStep, Listing.Listing, Logged.frames_of, Record.LogPlace, Sound.but_last}
 
 -- what the last of some records says, as it is in memory: after how many events it was written, from which record of the
--- journal on that is to be read and the position of its first key, whether it is a closing one, and the frames of the rows;
+-- journal on that is to be read and the position of its first item, whether it is a closing one, and the frames of the rows;
 -- and the reports of all records
 pub record IsLastOf (s : Numbers) (n0 offset first : ℕ) (closed : Bool) (rows : List (List BinAt)) (reports : List Report) (records : List LogRecord) : Type 0 where
   pub n0_is : n0 ≡ last_n0 records
@@ -23,8 +23,8 @@ pub record IsLastOf (s : Numbers) (n0 offset first : ℕ) (closed : Bool) (rows 
   pub directory_is : last_directory s records ≡ frames_of rows
   pub reports_are : reports ≡ listed_in records
 
--- The journal has the packets of a history, of which the listing has the keys so far. Memory and files go together as after
--- n0 events, the place of the log's last record, until more are there, and from then on as after the keys so far. No flush
+-- The journal has the packets of a history, of which the listing has the items so far. Memory and files go together as after
+-- n0 events, the place of the log's last record, until more are there, and from then on as after the items so far. No flush
 -- position lies between n0 and the last packet, and a closing record stands behind all events.
 pub record IsOnWay (leaves : Files → Type 0) (seen : Files) (history : List Packet) (listing : Listing) (rows : List (List BinAt)) (reports : List Report) (log : LogPlace) (n0 : ℕ) : Type 0
   where
@@ -33,8 +33,8 @@ pub record IsOnWay (leaves : Files → Type 0) (seen : Files) (history : List Pa
     pub closed_behind : listing.closed ≡ true → n0 ≡ length (events_of history)
     pub in_step : IsInStep leaves seen history (record listing { events = take (max n0 (length listing.events)) (events_of history) }) rows reports log
 
--- the first packets of a history were read, or needn't be: these are their keys, and the gate behind them is the next one
-pub record IsPast (history done : List Packet) (events : List ℕ) (gate : ℕ) : Type 0 where
+-- the first packets of a history were read, or needn't be: these are their items, and the gate behind them is the next one
+pub record IsPast (history done : List Packet) (events : List Item) (gate : ℕ) : Type 0 where
   pub rest : List Packet
   pub is : history ≡ done ++ rest
   pub keys : events ≡ events_of done
@@ -48,8 +48,8 @@ pub record IsNext (history done : List Packet) (packet : Packet) : Type 0 where
 -- a packet may stand behind n events: with it they are no more than a cone takes, and no more than n0, where the log's last
 -- record is a closing one and was written after n0 events
 pub record MayFollow (s : Numbers) (n0 : ℕ) (closed : Bool) (n : ℕ) (packet : Packet) : Type 0 where
-  pub within : n + length (keys_of packet) ≤ capacity s
-  pub before_closing : closed ≡ true → n + length (keys_of packet) ≤ n0
+  pub within : n + length packet.items ≤ capacity s
+  pub before_closing : closed ≡ true → n + length packet.items ≤ n0
 
 -- The place at which what stands at a gate, behind n events, leaves the format, in a journal whose log's last record was
 -- written after n0 events: as a record of the journal; a closed gate before n0 events are there, and a record that goes
@@ -57,7 +57,7 @@ pub record MayFollow (s : Numbers) (n0 : ℕ) (closed : Bool) (n : ℕ) (packet 
 pub data ReplayLeavesAt (s : Numbers) (cone n0 : ℕ) (closed : Bool) (n : ℕ) (bytes : List ℕ) (gate at : ℕ) : Type 0 where
   In_record : LeavesAt written s cone (most_payload s) bytes gate at → ReplayLeavesAt s cone n0 closed n bytes gate at
   Too_few : IsClosed bytes gate → n < n0 → at ≡ gate → ReplayLeavesAt s cone n0 closed n bytes gate at
-  Past_the_end : (packet : Packet) → HoldsPacket written s cone (most_payload s) bytes gate packet → closed ≡ true → n0 < n + length (keys_of packet) → at ≡ gate →
+  Past_the_end : (packet : Packet) → HoldsPacket written s cone (most_payload s) bytes gate packet → closed ≡ true → n0 < n + length packet.items → at ≡ gate →
       ReplayLeavesAt s cone n0 closed n bytes gate at
-  Too_many : (packet : Packet) → HoldsPacket written s cone (most_payload s) bytes gate packet → closed ≡ false → capacity s < n + length (keys_of packet) → at ≡ gate + 1 →
+  Too_many : (packet : Packet) → HoldsPacket written s cone (most_payload s) bytes gate packet → closed ≡ false → capacity s < n + length packet.items → at ≡ gate + 1 →
       ReplayLeavesAt s cone n0 closed n bytes gate at

@@ -8,8 +8,8 @@ use Rattle.lert_spec.specs.{declared.report.Report.Report, Edges.capacity, Limit
 use Rattle.lert_cone.specs.{declared.refusal.ReplayFault.ReplayFault, declared.state.ConeState.TheVariants.{Running, Finished}, History.most_payload, InStep.IsLogging, Listing.Listing}
 use Rattle.lert_cone.specs.{Record.LogPlace, Room.room_of, Stands.{Standing, IsSameCone}, Tally.{Tallied, IsRecounted}, Wrote.{Anything, IsShutIfTold}}
 
--- a cone whose journal is read again: its bay now and as it was when it was adopted, its keys, the rows of its levels, its reports,
--- how many keys its packets have so far, why it takes no more of them, where a record was refused, the journal's gate, its log, and
+-- a cone whose journal is read again: its bay now and as it was when it was adopted, its items, the rows of its levels, its reports,
+-- how many items its packets have so far, why it takes no more of them, where a record was refused, the journal's gate, its log, and
 -- what the log's last record said when it was adopted
 pub record Replaying (B : Type 0) : Type 0 where
   pub bay : B
@@ -43,8 +43,8 @@ readied cone = record {
 abbrev pub IsSameReplay : {B : Type 0} → Replaying B → Replaying B → Type 0
 IsSameReplay old new = IsSameCone (readied old) (readied new)
 
--- what is so of one that takes records, of its counts and of the room of its buffer: its counts are those of its keys, up to the
--- place of the log's last record as far as level 0 goes, and a key takes at most 21 bytes of its journal. The journal and the log are
+-- what is so of one that takes records, of its counts and of the room of its buffer: its counts are those of its items, up to the
+-- place of the log's last record as far as level 0 goes, and an item takes at most 21 bytes of its journal. The journal and the log are
 -- settled, and the log's gate is closed in every image
 pub record IsTaking {B : Type 0} (files : B → Option Files) (leaves : B → Files → Type 0) (cone : Replaying B) (tally : Tallied) (room : ℕ) : Type 0 where
   pub counted : length cone.listing.events ≡ cone.events

@@ -1,7 +1,6 @@
 -- What the record at a gate makes of a cone whose journal is read again.
 use Rattle.std.specs.Prelude.{◌≡◌, ℕ, ◌+◌, ◌≤◌, max, List, [], ◌∷◌, ◌++◌, length, Option, Some, None, Result, Ok, Err}
-use Rattle.lert_levels.specs.OnDisk.{written}
-use Rattle.lert_base.specs.Packet.{keys_of}
+use Rattle.lert_cone.specs.History.{written}
 use Rattle.lert_base.specs.Packet.{Packet}
 use Rattle.lert_bay.specs.{Files.{Files, IfTold}, Images.KeepsImages, Kept.Bays, declared.bay.TheConstants.JOURNAL}
 use Rattle.lert_gatelog.specs.{declared.fault.LogFault.LogFault, declared.fault.LogFault.TheVariants.{Failed as LogFailed, Malformed as LogMalformed}, Gated.{IsClosed, next_gate}}
@@ -12,7 +11,7 @@ use Rattle.lert_cone.specs.{declared.refusal.ReplayFault.ReplayFault, declared.r
 use Rattle.lert_cone.specs.{declared.tally.TakeFault.TheVariants.{Failed as TakeFailed, Unsound as TakeUnsound}, Framed.last_flush, History.most_payload, Record.LogPlace}
 use Rattle.lert_cone.specs.{Replay.{IsOnWay, IsPast, MayFollow, ReplayLeavesAt}, Replaying.Replaying, Wrote.IsShutIfTold}
 
--- the cone has the keys of the first packets of its journal, which is that of a history, and where its bay tells its files, these and
+-- the cone has the items of the first packets of its journal, which is that of a history, and where its bay tells its files, these and
 -- its memory are on their way through it
 pub record Replays {B : Type 0} (files : B → Option Files) (leaves : B → Files → Type 0) (cone : Replaying B) (history done : List Packet) : Type 0 where
   pub taking : cone.stopped ≡ None
@@ -23,22 +22,22 @@ pub record Replays {B : Type 0} (files : B → Option Files) (leaves : B → Fil
 abbrev pub HoldsNext : {B : Type 0} → Replaying B → List ℕ → ℕ → Packet → Type 0
 HoldsNext cone bytes gate packet = HoldsPacket written cone.listing.settings cone.listing.cone (most_payload cone.listing.settings) bytes gate packet
 
--- and may stand behind the keys that the cone has
+-- and may stand behind the items that the cone has
 abbrev pub MayTake : {B : Type 0} → Replaying B → Packet → Type 0
 MayTake cone packet = MayFollow cone.listing.settings cone.last.n0 cone.last.closed (length cone.listing.events) packet
 
--- the place at which what stands at a gate leaves the format, behind the keys that the cone has
+-- the place at which what stands at a gate leaves the format, behind the items that the cone has
 abbrev pub LeavesBehind : {B : Type 0} → Replaying B → List ℕ → ℕ → ℕ → Type 0
 LeavesBehind cone bytes gate at = ReplayLeavesAt cone.listing.settings cone.listing.cone cone.last.n0 cone.last.closed (length cone.listing.events) bytes gate at
 
--- a cone with the keys of a packet more, and what that makes of the rest
+-- a cone with the items of a packet more, and what that makes of the rest
 abbrev pub with_packet : {B : Type 0} → Replaying B → Packet → ℕ → B → List (List BinAt) → List Report → LogPlace → Replaying B
 with_packet cone packet gate bay rows reports log = record cone {
   bay = bay;
-  listing = record cone.listing { events = cone.listing.events ++ keys_of packet };
+  listing = record cone.listing { events = cone.listing.events ++ packet.items };
   rows = rows;
   reports = reports;
-  events = cone.events + length (keys_of packet);
+  events = cone.events + length packet.items;
   gate = gate;
   log = log;
 }
@@ -52,7 +51,7 @@ pub record HasTaken {B : Type 0} (files : B → Option Files) (old new : Replayi
   pub next_is : next ≡ next_gate gate (payload_of written packet)
   pub is : new ≡ with_packet old packet next new.bay new.rows new.reports new.log
 
--- a closed gate was found, where the files are told, behind enough keys, and nothing else changed
+-- a closed gate was found, where the files are told, behind enough items, and nothing else changed
 pub record HasEnded {B : Type 0} (files : B → Option Files) (leaves : B → Files → Type 0) (old new : Replaying B) (gate : ℕ) : Type 0 where
   pub enough : old.last.n0 ≤ length old.listing.events
   pub stands : IfTold (files old.bay) (λ seen. IsClosed (seen JOURNAL) gate)
@@ -61,11 +60,11 @@ pub record HasEnded {B : Type 0} (files : B → Option Files) (leaves : B → Fi
   pub images : KeepsImages (leaves old.bay) (leaves new.bay)
   pub is : new ≡ record old { bay = new.bay; gate = gate }
 
--- No flush comes with what stands at a gate of told files: behind the keys of a packet there that the cone may take the last flush
--- position is n0 at most, or one of the keys so far.
+-- No flush comes with what stands at a gate of told files: behind the items of a packet there that the cone may take the last flush
+-- position is n0 at most, or one of the items so far.
 abbrev pub BringsNoFlush : {B : Type 0} → Replaying B → List ℕ → ℕ → Type 0
 BringsNoFlush cone bytes gate = (packet : Packet) → HoldsNext cone bytes gate packet → MayTake cone packet →
-    last_flush cone.listing.settings (length cone.listing.events + length (keys_of packet)) ≤ max cone.last.n0 (length cone.listing.events)
+    last_flush cone.listing.settings (length cone.listing.events + length packet.items) ≤ max cone.last.n0 (length cone.listing.events)
 
 -- from one state of a bay to another the files are as they were, byte for byte, and so are the images, also at each moment
 -- between
@@ -81,13 +80,13 @@ pub record IsThere {B : Type 0} (cone : Replaying B) (bytes : List ℕ) (gate : 
   pub follows : MayTake cone packet
 
 -- what stands at a gate of told files where a record isn't taken: a place at which the format is left; or a packet, of which
--- the keys weren't all taken
+-- the items weren't all taken
 abbrev pub WhyRefused : {B : Type 0} → Replaying B → List ℕ → ℕ → ReplayFault → Type 0
 WhyRefused cone bytes gate Failed = Unit {0}
 WhyRefused cone bytes gate (Malformed at) = LeavesBehind cone bytes gate at
 WhyRefused cone bytes gate (Unsound file at) = IsThere cone bytes gate
 
--- what becomes of a cone on its way through the journal of a history, of whose first packets it has the keys: it took one more,
+-- what becomes of a cone on its way through the journal of a history, of whose first packets it has the items: it took one more,
 -- or it has those of all; or a call of its bay failed
 abbrev pub GoesOn : {B : Type 0} → (B → Option Files) → (B → Files → Type 0) → Replaying B → List Packet → List Packet → Result (Option ℕ) ReplayFault → Type 0
 GoesOn files leaves new history done (Ok (Some next)) = (packet : Packet) × Replays files leaves new history (done ++ packet ∷ [])

@@ -4,7 +4,7 @@ use Rattle.lert_base.specs.Keys.{Keys}
 use Rattle.lert_levels.specs.{OnDisk.OnDisk, rows.Rows.{IsAt, AreRows}, rows.Young.Young}
 use Rattle.lert_reports.specs.{Log.most_record, Stored.Stored, declared.log_point.LogPoint.LogPoint}
 use Rattle.lert_spec.specs.{declared.numbers.Numbers.Numbers, Edges.capacity, Limits.IsValid, Mix.cone_of}
-use Rattle.lert_cone.specs.{History.most_payload, JournalPlaces.MayName}
+use Rattle.lert_cone.specs.{History.{most_payload, written}, JournalPlaces.MayName}
 
 -- the bytes of the greatest text that is appended, a packet's or a log record's: its length, its payload and the next gate
 abbrev pub room_of : Numbers → ℕ
@@ -14,7 +14,7 @@ room_of s = max (most_payload s) (most_record s) + 5
 pub record IsRoom (s : Numbers) (young : Young) (levels : OnDisk) (stored : Stored) (keys : Keys) (room : ℕ) : Type 0 where
   pub valid : IsValid s
   pub young_is : young ≡ record { settings = s; from = 0; to = 0; bins = [] }
-  pub levels_are : levels ≡ record { settings = s; rows = replicate s.levels [] }
+  pub levels_are : levels ≡ record { settings = s; version = written; rows = replicate s.levels [] }
   pub stored_is : stored ≡ record { settings = s; reports = [] }
   pub keys_are : keys ≡ record { items = []; room = 4 * s.packet }
   pub roomy : room ≡ room_of s
@@ -24,6 +24,7 @@ pub record IsRestored (s : Numbers) (cone n0 : ℕ) (young : Young) (levels : On
   pub valid : IsValid s
   pub young_is : young ≡ record { settings = s; from = 0; to = 0; bins = [] }
   pub levels_of : levels.settings ≡ s
+  pub version : levels.version ≡ written
   pub at : IsAt s n0 levels.rows
   pub are : AreRows s levels.rows
   pub stored_of : stored.settings ≡ s

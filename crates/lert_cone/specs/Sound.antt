@@ -8,9 +8,9 @@ use Rattle.lert_frames.specs.Frame.{HoldsFrame}
 use Rattle.lert_gatelog.specs.Kept.{IsWhollySettled}
 use Rattle.lert_journal.specs.{Header.{magic, header}, Journal.HasPackets, Payload.IsJournaled}
 use Rattle.lert_reports.specs.{Log.{HasLog, listed_in, last_n0, last_directory, is_closed}, LogText.LogRecord}
-use Rattle.lert_spec.specs.{declared.numbers.Numbers.Numbers, Bins.{Bin, bins}, Edges.capacity, Look.{look, closing}}
+use Rattle.lert_spec.specs.{Counts.weighed, declared.item.Item.Item, declared.numbers.Numbers.Numbers, Bins.{Bin, bins_of}, Edges.capacity, Look.{look_of, closing_of}}
 use Rattle.lert_cone.specs.{Framed.last_flush, History.{most_payload, end_of}, JournalPlaces.{NamesRecord, last_place}}
-use Rattle.lert_levels.specs.OnDisk.{written}
+use Rattle.lert_cone.specs.History.{written}
 
 -- ---- the journal
 
@@ -19,7 +19,7 @@ abbrev pub KeysFit : List Packet → Type 0
 KeysFit history = All (λ packet. All (λ key. key < 2 ^ 64) (keys_of packet)) history
 
 -- the bytes are the journal of a list of packets: the header of the cone, and open records of these packets, each of which
--- a journal may hold, and which together have no more keys than a cone takes
+-- a journal may hold, and which together have no more items than a cone takes
 pub record IsJournal (s : Numbers) (cone : ℕ) (history : List Packet) (bytes : List ℕ) : Type 0 where
   pub headed : part bytes 0 32 ≡ header (magic written) s cone
   pub records : HasPackets written (most_payload s) bytes 32 history (end_of history)
@@ -42,8 +42,8 @@ HoldFrames s level file (frame ∷ frames) (bin ∷ bins) =
     HoldsFrame s written level frame file bin.pieces × HoldFrames s level file frames bins
 
 -- those that a directory names hold the bins of each level from 1 on after these events
-pub record HoldsDirectory (s : Numbers) (events : List ℕ) (directory : List (List ℕ)) (file : List ℕ) : Type 0 where
-  pub each : (level : ℕ) → 1 ≤ level → level ≤ s.levels → HoldFrames s level file (slice_index_or directory (level - 1) []) (bins s events level)
+pub record HoldsDirectory (s : Numbers) (events : List Item) (directory : List (List ℕ)) (file : List ℕ) : Type 0 where
+  pub each : (level : ℕ) → 1 ≤ level → level ≤ s.levels → HoldFrames s level file (slice_index_or directory (level - 1) []) (bins_of weighed s events level)
 
 -- ---- all three files
 
@@ -51,7 +51,7 @@ pub record HoldsDirectory (s : Numbers) (events : List ℕ) (directory : List (L
 -- the rules. The last of them was written after n0 events, 0 where there is none. These are no more than those of the list,
 -- and no flush position lies between them and the last packet. The frames that it names hold the bins of the first n0
 -- events, and the reports of all records are those that the definition makes of these, or, behind a closing record, which
--- stands behind all events, those at the end. The last record says where the journal's record begins that holds the first key
+-- stands behind all events, those at the end. The last record says where the journal's record begins that holds the first item
 -- of level 0 after n0 events.
 pub record IsSound (s : Numbers) (cone : ℕ) (history : List Packet) (files : Files) : Type 0 where
   pub journal : IsJournal s cone history (files JOURNAL)
@@ -61,7 +61,7 @@ pub record IsSound (s : Numbers) (cone : ℕ) (history : List Packet) (files : F
   pub n0_most : last_n0 logged ≤ length (events_of history)
   pub n0_least : last_flush s (length (events_of (but_last history))) ≤ last_n0 logged
   pub frames : HoldsDirectory s (take (last_n0 logged) (events_of history)) (last_directory s logged) (files FRAMES)
-  pub reports_are : listed_in logged ≡ (if is_closed logged then closing s (events_of history) else look s (take (last_n0 logged) (events_of history)))
+  pub reports_are : listed_in logged ≡ (if is_closed logged then closing_of weighed s (events_of history) else look_of weighed s (take (last_n0 logged) (events_of history)))
   pub closed_behind : is_closed logged ≡ true → last_n0 logged ≡ length (events_of history)
   pub begins : NamesRecord s history (last_n0 logged) (last_place logged)
 

@@ -1,13 +1,13 @@
 -- What a cone is seen as, and which lists of packets it stands for.
+use Rattle.lert_spec.specs.Counts.{weighed}
 use Rattle.std.specs.{Prelude.{◌≡◌, ℕ, ◌+◌, ◌*◌, ◌^◌, ◌<◌, ◌≤◌, Bool, true, false, List, [], ◌∷◌, ◌++◌, length, All, Option, None, option_map}, declared.snapshot.Snapshot.Snapshot}
-use Rattle.lert_base.specs.Packet.{keys_of}
 use Rattle.lert_base.specs.{declared.entry.Entry.Entry, Entries.packet_of, Packet.{Packet, events_of}, declared.cone_fault.ConeFault.ConeFault}
 use Rattle.lert_base.specs.declared.cone_fault.ConeFault.TheVariants.{Closed, Broken, CapacityFull, BayFailed, Unsound}
 use Rattle.lert_bay.specs.{Files.{Files, IfTold, Turns}, declared.bay.TheConstants.{JOURNAL, LOG}}
 use Rattle.lert_gatelog.specs.Gated.{Log}
 use Rattle.lert_io.specs.Fault.{HasRisen}
 use Rattle.lert_levels.specs.declared.rows.bin_at.BinAt.{BinAt}
-use Rattle.lert_spec.specs.{declared.numbers.Numbers.Numbers, declared.report.Report.Report, Edges.capacity, Limits.IsValid, Look.look}
+use Rattle.lert_spec.specs.{declared.numbers.Numbers.Numbers, declared.report.Report.Report, Edges.capacity, Limits.IsValid, Look.look_of}
 use Rattle.lert_cone.specs.{declared.state.ConeState.ConeState, declared.state.ConeState.TheVariants.{Running, Finished, BrokenByBay, BrokenByRead}, declared.acked.Acked.Acked}
 use Rattle.lert_cone.specs.{History.{most_payload, end_of}, InStep.{IsInStep, IsLogging}, Listing.Listing, Record.LogPlace, Room.room_of, Sound.{IsSound, IsSoundAs, IsSoundOver, IsKept, IsKeptWhole}}
 use Rattle.lert_cone.specs.{Tally.{Tallied, IsCounted}, Wrote.{Anything, IsShutIfTold}, declared.tally.TakeFault.TakeFault}
@@ -48,7 +48,7 @@ cone_fault (TakeUnsound file at) = Unsound file at
 abbrev pub over_of : Option (Snapshot Entry) → Option Packet
 over_of over = option_map (λ kept. packet_of kept.value) over
 
--- a cone: its bay now and as it was when the cone was made, its keys, the rows of its levels, its reports, how many keys it
+-- a cone: its bay now and as it was when the cone was made, its items, the rows of its levels, its reports, how many items it
 -- acknowledged, its state, the packet that a broken call left over, the journal's gate, its log, and what the log's last
 -- record said when the cone was made
 pub record Standing (B : Type 0) : Type 0 where
@@ -105,8 +105,8 @@ WasSound files cone = WereSoundAs files cone.listing.settings cone.listing.cone 
 
 -- A cone that isn't broken stands for a list, where its bay tells its files. As a read gives them, and in every image, they
 -- are sound for it, with a closing record exactly where the cone is finished, and with the last record of a running one
--- at the last flush. The journal and the log are settled. In every image the log has its records, which say of the keys
--- what memory has of them, and the frames that the rows name hold the older levels. Memory holds the keys and reports.
+-- at the last flush. The journal and the log are settled. In every image the log has its records, which say of the items
+-- what memory has of them, and the frames that the rows name hold the older levels. Memory holds the items and reports.
 pub record IsWhole (leaves : Files → Type 0) (seen : Files) (listing : Listing) (rows : List (List BinAt)) (reports : List Report) (gate : ℕ) (log : LogPlace) (history : List Packet) : Type 0
   where
     pub files : IsKeptWhole leaves seen (IsSoundAs listing.settings listing.cone listing.closed history)
@@ -114,13 +114,13 @@ pub record IsWhole (leaves : Files → Type 0) (seen : Files) (listing : Listing
     pub keys : listing.events ≡ events_of history
     pub in_step : IsInStep leaves seen history listing rows reports log
 
--- A cone stands for a list of packets. Each has a key, and together they have as many as the cone acknowledged, which are
+-- A cone stands for a list of packets. Each has an item, and together they have as many as the cone acknowledged, which are
 -- no more than it takes. Where its bay tells its files, they are sound for the list; of a broken cone for
 -- the list or for the list and the packet that was left over. It is broken by its bay only where the bay's count of faults
 -- rose since the cone was made, and by a read only where the bay doesn't tell its files. Where the bay told files that were
 -- sound for no list when the cone was made, nothing is said of them, as of files that aren't told.
 pub record StandsFor {B : Type 0} (files : B → Option Files) (leaves : B → Files → Type 0) (faults : B → ℕ) (cone : Standing B) (history : List Packet) : Type 0 where
-  pub some : All (λ packet. 0 < length (keys_of packet)) history
+  pub some : All (λ packet. 0 < length packet.items) history
   pub counted : length (events_of history) ≡ cone.events
   pub within : cone.events ≤ capacity cone.listing.settings
   pub valid : IsValid cone.listing.settings
@@ -134,7 +134,7 @@ pub record StandsFor {B : Type 0} (files : B → Option Files) (leaves : B → F
 
 -- what is so of every cone, of its journal's place and of the rooms of its buffer and of its list of keys. Its bay is the one
 -- that it was made with, which tells its files exactly where it did then. A cone that isn't broken has nothing left over, its
--- counts are those of its keys, and a key takes at most 21 bytes of its journal. The gates of a running one are closed in
+-- counts are those of its items, and an item takes at most 21 bytes of its journal. The gates of a running one are closed in
 -- every image, and the journal and the log are settled
 pub record IsCone {B : Type 0} (files : B → Option Files) (leaves : B → Files → Type 0) (faults mark : B → ℕ) (cone : Standing B) (tally : Tallied) (journal : Log) (room keys_room : ℕ)
     : Type 0 where
@@ -157,9 +157,9 @@ pub record IsCone {B : Type 0} (files : B → Option Files) (leaves : B → File
   pub logging : cone.state ≡ Running → IsLogging tally cone.log room
   pub log_shut : cone.state ≡ Running → IsShutIfTold (files cone.bay) (leaves cone.bay) LOG cone.log.gate
 
--- the reply of a cone to a packet behind a list: the positions of its first and its last key, and, where its bay tells its
+-- the reply of a cone to a packet behind a list: the positions of its first and its last item, and, where its bay tells its
 -- files, how many reports stand with it
 pub record Answers {B : Type 0} (files : B → Option Files) (cone : Standing B) (history : List Packet) (packet : Packet) (acked : Acked) : Type 0 where
   pub from_is : acked.from ≡ length (events_of history) + 1
-  pub to_is : acked.to ≡ length (events_of history) + length (keys_of packet)
-  pub reports_are : WasSound files cone → IfTold (files cone.bay) (λ _. acked.reports ≡ length (look cone.listing.settings (events_of (history ++ packet ∷ []))))
+  pub to_is : acked.to ≡ length (events_of history) + length packet.items
+  pub reports_are : WasSound files cone → IfTold (files cone.bay) (λ _. acked.reports ≡ length (look_of weighed cone.listing.settings (events_of (history ++ packet ∷ []))))

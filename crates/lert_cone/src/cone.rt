@@ -1,8 +1,9 @@
 //! A cone over its files.
 
 ghost use Rattle.std.specs.Prelude.{◌≡◌, ℕ, ◌+◌, ◌<◌, ◌≤◌, ◌^◌, ◌↔◌, ◌++◌, [], ◌∷◌, true, false, List, length, replicate, Some, None, Err, IfOk, IfErr, MatchResult, OnOk, OnErr, IsErrOf};
+ghost use Rattle.lert_spec.specs.Counts.{weighed};
 ghost use Rattle.lert_spec.specs.Items.{keys_in};
-ghost use Rattle.lert_levels.specs.OnDisk.{written};
+ghost use Rattle.lert_cone.specs.History.{written};
 ghost use Rattle.lert_base.specs.Entries.{packet_of};
 ghost use Rattle.lert_base.specs.Packet.{Packet, events_of};
 ghost use Rattle.lert_bay.specs.Files.{Files, IfTold, Turns};
@@ -14,7 +15,7 @@ ghost use Rattle.lert_reports.specs.Log.{most_record};
 ghost use Rattle.lert_io.specs.Fault.{HasRisen};
 ghost use Rattle.lert_journal.specs.Payload.{IsJournaled, payload_of};
 ghost use Rattle.lert_spec.specs.Edges.{capacity};
-ghost use Rattle.lert_spec.specs.Timely.{IsTimelySoFar};
+ghost use Rattle.lert_spec.specs.Timely.{IsTimelySoFarIn};
 ghost use Rattle.lert_cone.specs.History.{most_payload};
 ghost use Rattle.lert_cone.specs.InStep.{AreNew};
 ghost use Rattle.lert_cone.specs.JournalPlaces.{places_at_start};
@@ -50,7 +51,7 @@ pub use terms::ConeTerms;
 /// A cone that acknowledges a packet only when its record is on the disk.
 ///
 /// It stands for the list of the packets that it acknowledged. A packet costs the four calls of one append, two of
-/// them syncs, a place in level 0 for each of its keys, and one flush and one append to the log at each flush position.
+/// them syncs, a place in level 0 for each of its items, and one flush and one append to the log at each flush position.
 #[derive(Drop)]
 pub struct Cone<B: Bay, T: CountTable> {
     bay: B,
@@ -160,8 +161,8 @@ impl<B: Bay, T: CountTable> Cone<B, T> {
         }
     }
 
-    /// Takes the packet of an entry: appends it to the journal, and then takes its keys, one after another. At a flush position
-    /// the log gets a record. Ok comes when the packet is on the disk and its keys are counted. No clause tells in which order
+    /// Takes the packet of an entry: appends it to the journal, and then takes its items, one after another. At a flush position
+    /// the log gets a record. Ok comes when the packet is on the disk and its items are counted. No clause tells in which order
     /// journal and memory take a packet without a flush, since memory is lost with the machine. What it says of its refusals, of
     /// a fault in the middle and of the bay is what each call says that steps a cone on: `StepsCone`.
     pub fn admit(&mut self, entry: &Entry) -> Result<Acked, ConeFault>
@@ -174,22 +175,22 @@ impl<B: Bay, T: CountTable> Cone<B, T> {
             Answers B.files self.old h (packet_of entry.now) acked) }
         ensures acked { IfOk result (λ acked. acked ≡ record {
           from = self.old.events + 1;
-          to = self.old.events + length (keys_in entry.now.keys.items);
+          to = self.old.events + length entry.now.keys.items;
           reports = length self.new.reports;
         }) }
         ensures taken { OnOk result (self.new ≡ record self.old {
           bay = self.new.bay;
-          listing = record self.old.listing { events = self.old.listing.events ++ (keys_in entry.now.keys.items) };
+          listing = record self.old.listing { events = self.old.listing.events ++ entry.now.keys.items };
           rows = self.new.rows;
           reports = self.new.reports;
-          events = self.old.events + length (keys_in entry.now.keys.items);
+          events = self.old.events + length entry.now.keys.items;
           gate = next_gate self.old.gate (payload_of written (packet_of entry.now));
           log = self.new.log;
         }) }
 
         // After Ok each key that has reached the threshold is reported soon enough, or may still wait, and none stands there twice.
         ensures in_time_so_far { OnOk result ((h : List Packet) → StandsFor B.files B.leaves B.faults self.old h → WasSound B.files self.old →
-            IfTold (B.files self.old.bay) (λ _. IsTimelySoFar self.old.listing.settings.threshold self.old.listing.settings.bins
+            IfTold (B.files self.old.bay) (λ _. IsTimelySoFarIn weighed self.old.listing.settings.threshold self.old.listing.settings.bins
             (events_of (h ++ packet_of entry.now ∷ [])) self.new.reports)) }
 
         // A refusal before the first step leaves all, and any other error the lists.
@@ -205,9 +206,9 @@ impl<B: Bay, T: CountTable> Cone<B, T> {
           log = self.new.log;
         }) }
 
-        // CapacityFull comes exactly where a running cone has no place for so many keys.
+        // CapacityFull comes exactly where a running cone has no place for so many items.
         ensures full { (n len : ℕ) → (result ≡ Err (ConeFault.CapacityFull n len)) ↔
-            ((self.old.state ≡ ConeState.Running) × (n ≡ self.old.events) × (len ≡ length (keys_in entry.now.keys.items))
+            ((self.old.state ≡ ConeState.Running) × (n ≡ self.old.events) × (len ≡ length entry.now.keys.items)
             × (capacity self.old.listing.settings < n + len)) }
 
         // In each image of each moment of the call the files are sound for the list, or for the list and the packet.
@@ -231,7 +232,7 @@ impl<B: Bay, T: CountTable> Cone<B, T> {
             self.state = broken_by(fault);
             return Err(ConeFault::from(fault));
         }
-        // Acknowledged only here: the packet is on the disk and its keys are counted.
+        // Acknowledged only here: the packet is on the disk and its items are counted.
         let from = self.events + 1;
         self.events += len;
         Ok(Acked {
@@ -241,7 +242,7 @@ impl<B: Bay, T: CountTable> Cone<B, T> {
         })
     }
 
-    /// How many keys the packets have that it acknowledged.
+    /// How many items the packets have that it acknowledged.
     pub fn events(&self) -> u64
         ensures count { result ≡ self.now.events }
         ensures within { result ≤ capacity self.now.listing.settings }
@@ -270,7 +271,7 @@ impl<B: Bay, T: CountTable> Cone<B, T> {
         bay
     }
 
-    // The tests of a packet of so many keys, in their order.
+    // The tests of a packet of so many items, in their order.
     fn test(&self, len: u64) -> Result<(), ConeFault>
         requires { len < 2 ^ 32 }
         ensures ok { OnOk result ((self.now.state ≡ ConeState.Running) × (self.now.events + len ≤ capacity self.now.listing.settings)) }

@@ -21,7 +21,7 @@ use lert_reports::{LOG_HEADER, greatest_record};
 /// The version of the journals that it writes and reads.
 pub const WRITTEN: u8 = 1;
 
-/// The greatest length of a packet's payload in a journal: eight bytes, and eight for each of its keys, which are at most
+/// The greatest length of a packet's payload in a journal: eight bytes, and eight for each of its items, which are at most
 /// four times as many as a packet of the settings has.
 pub fn greatest_payload(settings: &Settings) -> u32
     ensures value { result ≡ most_payload settings.now }

@@ -1,4 +1,4 @@
-//! Where the journal's records begin that hold the first keys of a cone's newest bins.
+//! Where the journal's records begin that hold the first items of a cone's newest bins.
 
 ghost use Rattle.std.specs.Prelude.{◌≡◌, ℕ, ◌+◌, ◌*◌, ◌<◌, ◌≤◌, slice_index_or};
 ghost use Rattle.lert_spec.specs.Edges.{span, capacity};
@@ -12,7 +12,7 @@ use std::marker::Model;
 // One more than the bins that a level has at most.
 const MOST: usize = 17;
 
-/// Where a record of the journal begins: its gate, and the position of its first key.
+/// Where a record of the journal begins: its gate, and the position of its first item.
 #[derive(Clone, Copy, Debug, PartialEq, Eq)]
 pub struct JournalPlace {
     pub gate: u64,
@@ -25,14 +25,14 @@ const START: JournalPlace = JournalPlace {
     first: FIRST,
 };
 
-/// For each of the newest bins of level 0's span, one more than a level has, the place of the record that holds its first key.
-/// Of bins that began among keys that were passed unseen it has none. A key costs a comparison. No call takes memory.
+/// For each of the newest bins of level 0's span, one more than a level has, the place of the record that holds its first item.
+/// Of bins that began among items that were passed unseen it has none. An item costs a comparison. No call takes memory.
 #[derive(Drop)]
 pub struct JournalPlaces {
     settings: Settings,
     // The newest bin's first.
     places: [JournalPlace; MOST],
-    // The position of the last key that is passed.
+    // The position of the last item that is passed.
     passed: u64,
     // The position of the next bin's first key, kept so that no key divides.
     next: u64,
@@ -51,7 +51,7 @@ impl Model for JournalPlaces {
 }
 
 impl JournalPlaces {
-    /// Behind so many keys, which are passed unseen: none of the bins that began among them is known.
+    /// Behind so many items, which are passed unseen: none of the bins that began among them is known.
     pub fn new(settings: &Settings, passed: u64) -> JournalPlaces
         requires { passed ≤ capacity settings.now }
         ensures { result ≡ places_from settings.now passed }
@@ -68,7 +68,7 @@ impl JournalPlaces {
         }
     }
 
-    /// Passes the keys up to position `last`, which are those of the record at `place`: it stands from now on for the bins that
+    /// Passes the items up to position `last`, which are those of the record at `place`: it stands from now on for the bins that
     /// begin among them.
     pub fn pass(&mut self, last: u64, place: JournalPlace)
         requires forward { self.old.passed ≤ last }
@@ -81,7 +81,7 @@ impl JournalPlaces {
         self.stand_at(last);
     }
 
-    /// The place of the record that holds level 0's first key, or without a key that of the journal's first record.
+    /// The place of the record that holds level 0's first item, or without an item that of the journal's first record.
     pub fn oldest(&self) -> JournalPlace
         ensures { result ≡ oldest_place self.now }
     {
@@ -93,7 +93,7 @@ impl JournalPlaces {
         self.places[bins as usize - 1]
     }
 
-    // The position of the next bin's first key.
+    // The position of the next bin's first item.
     fn next_first(&self) -> u64
         ensures place { result ≡ bins_begun self.now.settings self.now.passed * span self.now.settings 0 + 1 }
         ensures valid { IsValid self.now.settings }
@@ -101,7 +101,7 @@ impl JournalPlaces {
         self.next
     }
 
-    // Passes the keys up to the first one of the next bin.
+    // Passes the items up to the first one of the next bin.
     fn begin(&mut self, place: JournalPlace)
         requires { bins_begun self.old.settings self.old.passed * span self.old.settings 0 + 1 ≤ capacity self.old.settings }
         ensures settings { self.new.settings ≡ self.old.settings }
@@ -116,7 +116,7 @@ impl JournalPlaces {
         self.next += self.settings.span(0);
     }
 
-    // Passes keys of bins that have begun.
+    // Passes items of bins that have begun.
     fn stand_at(&mut self, last: u64)
         requires forward { self.old.passed ≤ last }
         requires within { last ≤ capacity self.old.settings }

@@ -1,10 +1,10 @@
-//! One cone over its files: it appends packets to its journal, takes their keys one by one, and lists its reports.
+//! One cone over its files: it appends packets to its journal, takes their items one by one, and lists its reports.
 //!
 //! The one contract is that of `Cone`: after each call it stands for the list of the packets that it acknowledged. Where its
 //! bay tells its files, these are sound for the list, the frames hold the bins of the last flush, and the reports are those
-//! that the definition makes of the keys, so they are in time.
+//! that the definition makes of the items, so they are in time.
 //!
-//! `Tally` counts the keys over level 0 and the levels on the bay, and `Due` takes the totals of a flush as reports.
+//! `Tally` counts the items over level 0 and the levels on the bay, and `Due` takes the totals of a flush as reports.
 //! `ReportLog` writes the records of the log: one behind each flush, and one at the end. `JournalPlaces` keeps which record of the
 //! journal each is to name. The command that runs a trace through all cones stands on this crate.
 #![tactic(auto)]
@@ -13,6 +13,7 @@ mod acked;
 mod cone;
 mod due;
 mod headers;
+mod items;
 mod journal_places;
 mod keys;
 mod packets;

@@ -1,7 +1,6 @@
 //! The records of a journal that is read again.
 
 ghost use Rattle.std.specs.Prelude.{◌≡◌, ◌⊎◌, ℕ, ◌+◌, ◌*◌, ◌<◌, ◌≤◌, ◌^◌, length, true, false, IfOk, IsErrOf, IsFalse, IsTrue, MatchOption};
-ghost use Rattle.lert_levels.specs.OnDisk.{written};
 ghost use Rattle.lert_base.specs.Entries.{packet_of};
 ghost use Rattle.lert_bay.specs.Files.{Files, IfTold};
 ghost use Rattle.lert_bay.specs.Handed.{ReadsUpTo};
@@ -11,12 +10,12 @@ ghost use Rattle.lert_journal.specs.Cost.{entry_cost};
 ghost use Rattle.lert_journal.specs.Journal.{HoldsPacket};
 ghost use Rattle.lert_journal.specs.Payload.{IsJournaled, payload_of};
 ghost use Rattle.lert_spec.specs.Edges.{capacity};
-ghost use Rattle.lert_cone.specs.History.{most_payload};
+ghost use Rattle.lert_cone.specs.History.{most_payload, written};
 ghost use Rattle.lert_cone.specs.Reads.{OnlyReadsJournal};
 ghost use Rattle.lert_cone.specs.Replay.{MayFollow, ReplayLeavesAt};
 
 use crate::headers::WRITTEN;
-use crate::keys::keys_of;
+use crate::items::Items;
 use crate::tally::Tally;
 use lert_base::{CountTable, Entry, Settings};
 use lert_bay::Bay;
@@ -25,7 +24,7 @@ use lert_journal::read_entry;
 use lert_reports::LogPoint;
 
 /// Reads the packet at the journal's gate into the entry, and moves the journal on behind it, where the packet may stand behind
-/// the keys so far. False comes exactly at a closed gate behind as many keys as the log's last record has, and then the journal
+/// the items so far. False comes exactly at a closed gate behind as many items as the log's last record has, and then the journal
 /// and the entry are as they were. After a refusal nothing is said of these two. It changes no file and takes no memory.
 pub fn read_packet<B: Bay, T: CountTable>(
     journal: &mut GateLog,
@@ -50,7 +49,7 @@ pub fn read_packet<B: Bay, T: CountTable>(
     ensures malformed { IfTold (B.files bay.old) (λ seen. (at : ℕ) → IsErrOf result (LogFault.Malformed at) →
         ReplayLeavesAt tally.now.listing.settings tally.now.listing.cone last.now.n0 last.now.closed (length tally.now.listing.events) (seen JOURNAL) journal.old.gate at) }
 
-    // Told or not, the packet is one that this cone's journal may hold here, and the end stands behind enough keys.
+    // Told or not, the packet is one that this cone's journal may hold here, and the end stands behind enough items.
     ensures journaled { IfOk result (λ found. IsTrue found → IsJournaled written tally.now.listing.settings tally.now.listing.cone (packet_of entry.new)) }
     ensures follows { IfOk result (λ found. IsTrue found →
         MayFollow tally.now.listing.settings last.now.n0 last.now.closed (length tally.now.listing.events) (packet_of entry.new)) }
@@ -75,14 +74,14 @@ pub fn read_packet<B: Bay, T: CountTable>(
             None => Ok(false),
         };
     }
-    let len = keys_of(entry).len() as u64;
+    let len = Items::of(entry).len() as u64;
     match packet_left(settings, last, n, len, gate) {
         Some(at) => Err(LogFault::Malformed { at }),
         None => Ok(true),
     }
 }
 
-/// The place at which a closed gate of a journal leaves the format, behind so many keys: the gate, where the log's last record
+/// The place at which a closed gate of a journal leaves the format, behind so many items: the gate, where the log's last record
 /// has more. None where the journal may end there.
 pub fn end_left(last: &LogPoint, events: u64, gate: u64) -> Option<u64>
     ensures { MatchOption result (last.now.n0 ≤ events) (λ at. (events < last.now.n0) × (at ≡ gate)) }
@@ -93,7 +92,7 @@ pub fn end_left(last: &LogPoint, events: u64, gate: u64) -> Option<u64>
     None
 }
 
-/// The place at which a packet with so many keys leaves the format of a journal, behind so many: its gate, where it goes past a
+/// The place at which a packet with so many items leaves the format of a journal, behind so many: its gate, where it goes past a
 /// closing record of the log; and its length, which stands behind the gate, where a cone takes no more. None where it may follow.
 pub fn packet_left(
     settings: &Settings,

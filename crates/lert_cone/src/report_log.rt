@@ -40,7 +40,7 @@ impl Model for ReportLog {
 }
 
 impl ReportLog {
-    /// The log of a cone of these settings at its first gate: no record names a report yet, and no key is passed.
+    /// The log of a cone of these settings at its first gate: no record names a report yet, and no item is passed.
     pub fn new(log: GateLog, settings: &Settings) -> ReportLog
         requires { log.file ≡ LOG }
         ensures { result ≡ record { gate = log.gate; most = log.most; named = 0; places = places_at_start settings.now } }
@@ -52,7 +52,7 @@ impl ReportLog {
         }
     }
 
-    /// The log at a closed gate, whose records name so many reports. So many keys are passed, unseen. Nothing is read.
+    /// The log at a closed gate, whose records name so many reports. So many items are passed, unseen. Nothing is read.
     pub fn at(settings: &Settings, gate: u64, most: u32, named: usize, passed: u64) -> ReportLog
         requires { passed ≤ capacity settings.now }
         ensures { result ≡ record { gate = gate; most = most; named = named; places = places_from settings.now passed } }
@@ -71,7 +71,7 @@ impl ReportLog {
         self.log.gate()
     }
 
-    /// Passes the keys up to position `last`, which are those of the journal's record at `place`.
+    /// Passes the items up to position `last`, which are those of the journal's record at `place`.
     pub fn pass(&mut self, last: u64, place: JournalPlace)
         requires forward { self.old.places.passed ≤ last }
         requires within { last ≤ capacity self.old.places.settings }
@@ -81,7 +81,7 @@ impl ReportLog {
         self.places.pass(last, place);
     }
 
-    /// Appends a record behind `n0` events: it names the journal's record that holds the first key of level 0, the frames of the
+    /// Appends a record behind `n0` events: it names the journal's record that holds the first item of level 0, the frames of the
     /// directory, and the reports behind those that earlier records name. `buffer` holds five bytes more than the greatest payload; any bytes are in it afterwards. After
     /// `Failed` the log stands where it stood. Four calls of the bay, two of them syncs. Takes no memory.
     pub fn append<B: Bay>(

@@ -16,7 +16,7 @@ use lert_levels::{Levels, Zero};
 use lert_reports::{ReportStore, greatest_record};
 use std::alloc::Global;
 
-// A packet of a journal has at most so many times the keys that the settings name.
+// A packet of a journal has at most so many times the items that the settings name.
 const PACKETS: usize = 4;
 
 /// The memory of a cone that isn't numbered yet. As `new` makes it, the tables of level 0, the levels and the store of
@@ -61,7 +61,7 @@ impl<T: CountTable> ConeRoom<T> {
         }
     }
 
-    // The counts and reports of a cone with this number, which has no key yet, the entry, and the buffer.
+    // The counts and reports of a cone with this number, which has no item yet, the entry, and the buffer.
     pub(crate) fn into_parts<B: Bay>(self, bay: &B, cone: u32) -> (Tally<B, T>, Entry, Vec<u8>)
         requires named { cone < 2 ^ self.settings.cone_bits }
         requires room { IsRoom self.settings self.zero self.levels self.store self.entry.keys (length self.buffer.items) }

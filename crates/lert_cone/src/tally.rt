@@ -4,14 +4,17 @@ ghost use Rattle.std.specs.Prelude.{◌≡◌, ◌≢◌, ℕ, ◌-◌, ◌^◌,
 ghost use Rattle.lert_bay.specs.Files.{Files};
 ghost use Rattle.lert_spec.specs.Edges.{edge, capacity};
 ghost use Rattle.lert_spec.specs.Mix.{cone_of};
-ghost use Rattle.lert_spec.proofs.LookLaws.{AreKeys};
-ghost use Rattle.lert_spec.proofs.TailLaws.{AreOfCone};
+ghost use Rattle.lert_spec.specs.Counts.{weighed};
+ghost use Rattle.lert_spec.specs.Items.{most_weight, AreOfVersion};
+ghost use Rattle.lert_spec.proofs.LookLaws.{HaveKeys};
+ghost use Rattle.lert_spec.proofs.TailLaws.{IsPartOf};
+ghost use Rattle.lert_cone.specs.History.{written};
 ghost use Rattle.lert_levels.specs.rows.Rows.{IsAt, AreRows, directory_text};
 
 use crate::due::Due;
 use crate::unread::Unread;
 use flush::{flush_behind, flush_from, give_totals};
-use lert_base::{CountTable, Settings};
+use lert_base::{CountTable, Item, Settings};
 use lert_bay::{Bay, FRAMES, LOG};
 use lert_io::{Failed, Seen};
 use lert_levels::{FlushFault, Levels, Zero};
@@ -24,7 +27,7 @@ mod flush;
 mod recount;
 mod totals;
 
-/// Why a key isn't taken, or the end isn't reached. What then stands in memory is of no use.
+/// Why an item isn't taken, or the end isn't reached. What then stands in memory is of no use.
 #[derive(Clone, Copy, Debug, PartialEq, Eq)]
 pub enum TakeFault {
     /// A call of the bay failed.
@@ -56,11 +59,11 @@ impl From<Failed> for TakeFault {
     }
 }
 
-/// A cone's keys as counts: those of level 0 in memory, the others in the frames of its bay; and the reports that they
-/// bring. Seen as its keys, level 0, the rows of the older levels, and the reports. The first keys may be ones that weren't
+/// A cone's items as counts: those of level 0 in memory, the others in the frames of its bay; and the reports that they
+/// bring. Seen as its items, level 0, the rows of the older levels, and the reports. The first items may be ones that weren't
 /// read.
 ///
-/// A key costs a place in level 0. At a flush position it costs a flush.
+/// An item costs a place in level 0. At a flush position it costs a flush.
 #[derive(Drop)]
 pub struct Tally<B: Bay, T: CountTable> {
     settings: Settings,
@@ -70,7 +73,7 @@ pub struct Tally<B: Bay, T: CountTable> {
     // None only while a merge gives them its totals.
     due: Option<Due<T>>,
     unread: Unread<B>,
-    taken: Seen<u64>,
+    taken: Seen<Item>,
     len: u64,
     // The least flush position from that of the last key on, kept so that no key divides.
     flush: u64,
@@ -95,14 +98,14 @@ impl<B: Bay, T: CountTable> Model for Tally<B, T> {
       young = t.zero;
       rows = t.levels.rows;
       due = due_in t.due;
-    }) t.levels.settings t.due t.len t.flush };
+    }) t.levels t.due t.len t.flush };
 }
 
 impl<B: Bay, T: CountTable> Tally<B, T> {
     ghost use Rattle.lert_cone.specs.Tally.{IsCounted, IsHeld, IsRecounted};
-    ghost use Rattle.lert_cone.specs.Counts.{CountsEnd, CountsKey};
+    ghost use Rattle.lert_cone.specs.Counts.{CountsEnd, CountsItem};
 
-    /// No key yet.
+    /// No item yet.
     pub fn new(
         settings: &Settings,
         cone: u32,
@@ -113,7 +116,7 @@ impl<B: Bay, T: CountTable> Tally<B, T> {
     ) -> Tally<B, T>
         requires named { cone < 2 ^ settings.now.cone_bits }
         requires zero { zero ≡ record { settings = settings.now; from = 0; to = 0; bins = [] } }
-        requires levels { levels ≡ record { settings = settings.now; rows = replicate settings.now.levels [] } }
+        requires levels { levels ≡ record { settings = settings.now; version = written; rows = replicate settings.now.levels [] } }
         requires store { store ≡ record { settings = settings.now; reports = [] } }
         requires unread { unread ≡ [] }
         ensures listing { result.listing ≡ record { settings = settings.now; cone = cone; events = []; closed = false } }
@@ -126,8 +129,8 @@ impl<B: Bay, T: CountTable> Tally<B, T> {
         Tally::adopted(settings, cone, zero, levels, store, unread, false)
     }
 
-    /// The keys that aren't read, none of which level 0 has, over levels and reports as a log's last record has them.
-    /// `recount` takes the keys behind them up to that record again.
+    /// The items that aren't read, none of which level 0 has, over levels and reports as a log's last record has them.
+    /// `recount` takes the items behind them up to that record again.
     pub fn adopted(
         settings: &Settings,
         cone: u32,
@@ -140,11 +143,13 @@ impl<B: Bay, T: CountTable> Tally<B, T> {
         requires named { cone < 2 ^ settings.now.cone_bits }
         requires zero { zero ≡ record { settings = settings.now; from = 0; to = 0; bins = [] } }
         requires levels { levels.settings ≡ settings.now }
+        requires version { levels.version ≡ written }
         requires are { AreRows settings.now levels.rows }
         requires store { store.settings ≡ settings.now }
         requires own { All (λ report. cone_of settings.now report.key ≡ cone) store.reports }
-        requires keys { AreKeys unread }
-        requires keys_own { AreOfCone settings.now cone unread }
+        requires keys { HaveKeys weighed unread }
+        requires keys_own { IsPartOf weighed settings.now cone unread }
+        requires light { AreOfVersion written unread }
         requires within { length unread ≤ capacity settings.now }
         ensures listing { result.listing ≡ record { settings = settings.now; cone = cone; events = unread; closed = closed } }
         ensures young { result.young ≡ zero }
@@ -192,7 +197,7 @@ impl<B: Bay, T: CountTable> Tally<B, T> {
         }
     }
 
-    /// How many keys there are.
+    /// How many items there are.
     pub fn len(&self) -> u64
         ensures { result ≡ length self.now.listing.events }
     {
@@ -206,7 +211,7 @@ impl<B: Bay, T: CountTable> Tally<B, T> {
         self.levels.directory()
     }
 
-    /// Whether the last key stands at a flush position.
+    /// Whether the last item stands at a flush position.
     pub fn is_flushed(&self) -> bool
         requires some { 0 < length self.now.listing.events }
         requires fits { length self.now.listing.events ≤ capacity self.now.listing.settings }
@@ -216,20 +221,23 @@ impl<B: Bay, T: CountTable> Tally<B, T> {
         self.len == self.flush
     }
 
-    /// Takes the next key: counts it in level 0, flushes where its position is a flush position, and lists the reports that
+    /// Takes the next item: counts it in level 0, flushes where its position is a flush position, and lists the reports that
     /// are due with it.
-    pub fn take(&mut self, bay: &mut B, key: u64) -> Result<(), TakeFault>
+    pub fn take(&mut self, bay: &mut B, item: Item) -> Result<(), TakeFault>
         requires still { self.old.listing.closed ≡ false }
-        requires own { cone_of self.old.listing.settings key ≡ self.old.listing.cone }
+        requires own { cone_of self.old.listing.settings item.key ≡ self.old.listing.cone }
+        requires below { item.key < 2 ^ 64 }
+        requires some { 1 ≤ item.weight }
+        requires light { item.weight ≤ most_weight written }
         requires fits { length self.old.listing.events < capacity self.old.listing.settings }
         requires counted { IsCounted self.old }
-        ensures { CountsKey B.Bay key bay.old bay.new self.old self.new result }
+        ensures { CountsItem B.Bay item bay.old bay.new self.old self.new result }
     {
         let m = self.len + 1;
-        let tail = tail_of(&self.settings, key);
+        let tail = tail_of(&self.settings, item.key);
         let flush = flush_behind(&self.settings, self.len, self.flush);
-        // Into level 0 first: a flush at this position counts the key.
-        self.zero.add(tail, m);
+        // Into level 0 first: a flush at this position counts the item.
+        self.zero.add(tail, item.weight, m);
         begin(&mut self.due, m);
         give_totals::<B, T, Brand>(
             &mut self.zero,
@@ -243,7 +251,7 @@ impl<B: Bay, T: CountTable> Tally<B, T> {
         if is_full(&self.due) {
             return Err(TakeFault::Unsound { file: LOG, at: 0 });
         }
-        self.taken.push(&key);
+        self.taken.push(&item);
         self.len = m;
         self.flush = flush;
         Ok(())

@@ -1,4 +1,4 @@
-//! The keys of a journal that a reopening doesn't read.
+//! The items of a journal that a reopening doesn't read.
 
 ghost use Rattle.std.specs.Prelude.{◌≡◌, length};
 ghost use Rattle.lert_cone.specs.Unread.{unread};
@@ -8,7 +8,7 @@ use lert_bay::Bay;
 use std::marker::Model;
 use std::snapshot::Snapshot;
 
-/// The keys before the record of the journal at which a reopening begins. Nobody reads them: contracts alone see them, by the
+/// The items before the record of the journal at which a reopening begins. Nobody reads them: contracts alone see them, by the
 /// bay as the cone was made.
 #[derive(Drop)]
 pub struct Unread<B: Bay> {
@@ -19,16 +19,17 @@ pub struct Unread<B: Bay> {
 }
 
 impl<B: Bay> Model for Unread<B> {
-    ghost use Rattle.std.specs.Prelude.{ℕ, List};
+    ghost use Rattle.std.specs.Prelude.{List};
     ghost use Rattle.lert_cone.specs.Unread.{unread};
+    ghost use Rattle.lert_spec.specs.declared.item.Item.{Item};
 
-    ghost Value = { List ℕ };
+    ghost Value = { List Item };
 
     ghost view = { λ u. unread u.settings u.cone u.len (B.files u.made.value) };
 }
 
 impl<B: Bay> Unread<B> {
-    /// So many keys from the first one of a bay's journal on. Makes no call of the bay.
+    /// So many items from the first one of a bay's journal on. Makes no call of the bay.
     pub fn of(bay: &B, settings: &Settings, cone: u32, len: u64) -> Unread<B>
         ensures { result ≡ unread settings.now cone len (B.files bay.now) }
     {
@@ -40,7 +41,7 @@ impl<B: Bay> Unread<B> {
         }
     }
 
-    /// How many keys they are.
+    /// How many they are.
     pub fn len(&self) -> u64
         ensures { result ≡ length self.now }
     {

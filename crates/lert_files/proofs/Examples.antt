@@ -1,11 +1,10 @@
 -- The beginning of a journal of one cone, of others, and what is read of a log without a record.
 use Rattle.std.proofs.Common.{◌≡◌, ℕ, List, [], ◌∷◌, ◌++◌, take, false, refl, ap, arith, inl, inr}
-use Rattle.lert_levels.specs.OnDisk.{written}
 use Rattle.lert_base.specs.declared.kept.Kept.{Kept}
 use Rattle.lert_spec.specs.declared.numbers.Numbers.{Numbers}
 use Rattle.lert_reports.proofs.LogLaws.{records_none}
 use Rattle.lert_journal.specs.Header.{magic, header}
-use Rattle.lert_files.specs.{Headed.{BeginningLeaves, IsHeaded, HasOther}, Read.{most_directory, IsReadOf}}
+use Rattle.lert_files.specs.{Headed.{written, BeginningLeaves, IsHeaded, HasOther}, Read.{most_directory, IsReadOf}}
 
 abbrev alone : Numbers
 alone = record { threshold = 3; bins = 3; ratio = 2; base = 4; levels = 2; cone_bits = 0; room = 32; packet = 8 }

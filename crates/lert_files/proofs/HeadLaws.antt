@@ -4,7 +4,6 @@ use Rattle.std.proofs.Common.{ℕ, ◌≡◌, ◌≢◌, ◌+◌, ◌<◌, ◌�
 use Rattle.std.proofs.{Common.length-take, Math.Seq.take-add, lemmas.Bool.{cases_lt, le-ltb}, lemmas.List.{drop_more, get_or-drop, length-drop, take_all, take-take}, lemmas.Option.none-some}
 use Rattle.std.specs.Prelude.{slice_index, if◌then◌else◌, MatchResult, IsErrAnd}
 use Rattle.byteorder.specs.Endian.{little_bytes}
-use Rattle.lert_levels.specs.OnDisk.{written}
 use Rattle.lert_base.specs.declared.kept.Kept.{Kept}
 use Rattle.lert_bay.specs.declared.bay.TheConstants.{JOURNAL}
 use Rattle.lert_spec.specs.{declared.numbers.Numbers.Numbers, Limits.IsInLimits, Agreed.agreed}
@@ -12,7 +11,7 @@ use Rattle.lert_spec.proofs.ByteLaws.{bytes_back}
 use Rattle.lert_journal.specs.Header.{magic, header, header_left, number_at, kept_in}
 use Rattle.lert_journal.proofs.HeaderLaws.{reads_back, begins}
 use Rattle.lert_files.specs.{declared.fault.ReopenFault.ReopenFault, declared.fault.ReopenFault.TheVariants.{Failed, Malformed, OtherSettings}}
-use Rattle.lert_files.specs.Headed.{BeginningLeaves, IsHeaded, HasOther, IsHeaderFault}
+use Rattle.lert_files.specs.Headed.{written, BeginningLeaves, IsHeaded, HasOther, IsHeaderFault}
 use Rattle.lert_files.proofs.AgreedLaws.{agreed_whole}
 
 -- ---- the header of what it says

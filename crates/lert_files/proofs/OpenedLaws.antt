@@ -1,18 +1,18 @@
 -- What stands in a cone's files before the records of its journal is one of three: all of it in its format, a first place at
 -- which it leaves that, or another header. So what is right of an answer is right the other way round.
-use Rattle.std.proofs.{Common.{ℕ, ◌≡◌, ◌<◌, ◌^◌, Bool, Some, None, Result, Ok, Err, List, refl, ap, sym, ◌∙◌, subst, inl, inr, ◌⊎◌}, lemmas.Option.none-some}
+use Rattle.std.proofs.{Common.{ℕ, ◌≡◌, ◌<◌, ◌^◌, Bool, Option, Some, None, Result, Ok, Err, List, refl, ap, sym, ◌∙◌, subst, inl, inr, ◌⊎◌}, lemmas.Option.none-some}
 use Rattle.std.specs.Prelude.{IfOk, MatchResult, IsErrOf, IsErrAnd}
 use Rattle.lert_base.specs.declared.kept.Kept.{Kept}
 use Rattle.lert_bay.specs.{declared.bay.TheConstants.{JOURNAL, LOG, FRAMES}, Files.Files}
 use Rattle.lert_levels.specs.{declared.rows.bin_at.BinAt.BinAt, declared.rows.fault.FlushFault.FlushFault}
-use Rattle.lert_levels.specs.{declared.rows.fault.FlushFault.TheVariants.{Failed as CheckFailed, Malformed as CheckMalformed}, rows.Checked.rows_left, OnDisk.{OnDisk, written}}
+use Rattle.lert_levels.specs.{declared.rows.fault.FlushFault.TheVariants.{Failed as CheckFailed, Malformed as CheckMalformed}, rows.Checked.rows_left, OnDisk.OnDisk}
 use Rattle.lert_levels.specs.rows.Rows.{IsAt, AreRows, directory_text}
 use Rattle.lert_levels.proofs.rows.NamedLaws.{same_named}
 use Rattle.lert_reports.specs.{Log.{last_directory, last_n0, HasLog, LogLeavesAt}, LogText.{LogRecord, directory_bytes}, declared.log_point.LogPoint.LogPoint}
 use Rattle.lert_reports.proofs.LogOnce.{one_log, log_or_left, one_left}
 use Rattle.lert_spec.specs.{declared.numbers.Numbers.Numbers, declared.report.Report.Report, Limits.IsValid}
 use Rattle.lert_files.specs.{declared.fault.ReopenFault.ReopenFault, declared.fault.ReopenFault.TheVariants.{Failed, Malformed, OtherSettings}}
-use Rattle.lert_files.specs.Headed.{BeginningLeaves, HasOther, IsHeaded, IsHeaderFault}
+use Rattle.lert_files.specs.Headed.{written, BeginningLeaves, HasOther, IsHeaded, IsHeaderFault}
 use Rattle.lert_files.specs.{Opened.{AreLastRows, AreOpened, checked_fault, IsRefused, By_call, By_place, By_header, LeaveAt, In_beginning, In_log, In_frame}, Read.IsReadOf}
 use Rattle.lert_files.proofs.HeadLaws.{headed_or_fault, headed_whole, one_beginning, other_or_left}
 
@@ -175,7 +175,7 @@ module _ (s : Numbers) (cone : ℕ) (valid : IsValid s) (below : cone < 2 ^ 32) 
 
 module _ (s : Numbers) (cone : ℕ) (seen : Files) (n0 offset first : ℕ) (closed : Bool) (reports : List Report) (directory : List ℕ) (records : List LogRecord) (log_end : ℕ)
     (headed : IsHeaded s cone (seen JOURNAL)) (read : IsReadOf s cone n0 offset first closed reports directory records) (log : HasLog s cone (seen LOG) records log_end)
-    (levels : OnDisk) (own : levels.settings ≡ s) (at : IsAt levels.settings n0 levels.rows) (are : AreRows levels.settings levels.rows)
+    (levels : OnDisk) (own : levels.settings ≡ s) (version : levels.version ≡ written) (at : IsAt levels.settings n0 levels.rows) (are : AreRows levels.settings levels.rows)
     (text : directory_text levels.rows ≡ directory) where
   named : AreLastRows s records levels.rows
   named = record {
@@ -184,21 +184,26 @@ module _ (s : Numbers) (cone : ℕ) (seen : Files) (n0 offset first : ℕ) (clos
     text_is = text ∙ read.directory_is;
   }
 
-  pub opened_of : (now : OnDisk) → now ≡ levels → rows_left levels.settings written (seen FRAMES) levels.rows ≡ None →
+  -- what their own numbers say of their frames
+  frames_left : (left : Option ℕ) → rows_left levels.settings levels.version (seen FRAMES) levels.rows ≡ left → rows_left s written (seen FRAMES) levels.rows ≡ left
+  frames_left left is =
+      subst (λ (v : ℕ). rows_left s v (seen FRAMES) levels.rows ≡ left) version
+      (subst (λ (numbers : Numbers). rows_left numbers levels.version (seen FRAMES) levels.rows ≡ left) own is)
+
+  pub opened_of : (now : OnDisk) → now ≡ levels → rows_left levels.settings levels.version (seen FRAMES) levels.rows ≡ None →
       IsReadOf s cone n0 offset first closed reports (directory_text now.rows) records × AreOpened s cone seen records log_end now.rows
   opened_of now same whole =
       subst (λ (disk : OnDisk). IsReadOf s cone n0 offset first closed reports (directory_text disk.rows) records × AreOpened s cone seen records log_end disk.rows) (sym same) (
         subst (λ bytes. IsReadOf s cone n0 offset first closed reports bytes records) (sym text) read,
-        record { headed = headed; log = log; named = named; frames = subst (λ (numbers : Numbers). rows_left numbers written (seen FRAMES) levels.rows ≡ None) own whole },
+        record { headed = headed; log = log; named = named; frames = frames_left None whole },
       )
 
   -- why the frames are refused
   pub check_refused : (fault : ReopenFault) (check : FlushFault) → fault ≡ checked_fault check →
-      ((place : ℕ) → check ≡ CheckMalformed place → rows_left levels.settings written (seen FRAMES) levels.rows ≡ Some place) → IsRefused s cone seen fault
+      ((place : ℕ) → check ≡ CheckMalformed place → rows_left levels.settings levels.version (seen FRAMES) levels.rows ≡ Some place) → IsRefused s cone seen fault
   check_refused fault CheckFailed is said = By_call is
   check_refused fault (CheckMalformed place) is said =
-      By_place 2 place is (In_frame headed records log_end log levels.rows named refl
-      (subst (λ (numbers : Numbers). rows_left numbers written (seen FRAMES) levels.rows ≡ Some place) own (said place refl)))
+      By_place 2 place is (In_frame headed records log_end log levels.rows named refl (frames_left (Some place) (said place refl)))
 
 pub check_failed : (check : FlushFault) → checked_fault check ≡ Failed → check ≡ CheckFailed
 check_failed CheckFailed is = refl

@@ -2,12 +2,15 @@
 -- leave the format.
 use Rattle.std.specs.Prelude.{◌≡◌, ◌≢◌, ℕ, ◌<◌, List, length, take, Some, None}
 use Rattle.std.proofs.Common.{◌⊎◌}
-use Rattle.lert_levels.specs.OnDisk.{written}
 use Rattle.lert_base.specs.declared.kept.Kept.{Kept}
 use Rattle.lert_bay.specs.declared.bay.TheConstants.{JOURNAL}
 use Rattle.lert_journal.specs.Header.{magic, header, header_left, kept_in}
 use Rattle.lert_files.specs.{declared.fault.ReopenFault.ReopenFault, declared.fault.ReopenFault.TheVariants.{Malformed, OtherSettings}}
 use Rattle.lert_spec.specs.declared.numbers.Numbers.{Numbers}
+
+-- the version of the files that are read, in which each item weighs 1
+abbrev pub written : ℕ
+written = 1
 
 -- a file is the header of this cone's journal, and no gate stands behind it
 pub record IsGateless (s : Numbers) (cone : ℕ) (bytes : List ℕ) : Type 0 where

@@ -4,10 +4,9 @@ use Rattle.lert_base.specs.declared.kept.Kept.{Kept}
 use Rattle.lert_bay.specs.{declared.bay.TheConstants.{JOURNAL, LOG, FRAMES}, Files.{Files, IfTold}, Kept.{Bays, CallsBay}}
 use Rattle.lert_levels.specs.{declared.rows.bin_at.BinAt.BinAt, declared.rows.fault.FlushFault.FlushFault}
 use Rattle.lert_levels.specs.{declared.rows.fault.FlushFault.TheVariants.{Failed as CheckFailed, Malformed as CheckMalformed}, rows.Checked.rows_left, rows.Named.AreNamed}
-use Rattle.lert_files.specs.{declared.fault.ReopenFault.ReopenFault, declared.fault.ReopenFault.TheVariants.{Failed, Malformed, OtherSettings}, Headed.{BeginningLeaves, IsHeaded, HasOther}}
+use Rattle.lert_files.specs.{declared.fault.ReopenFault.ReopenFault, declared.fault.ReopenFault.TheVariants.{Failed, Malformed, OtherSettings}, Headed.{written, BeginningLeaves, IsHeaded, HasOther}}
 use Rattle.lert_reports.specs.{Log.{last_directory, last_n0, HasLog, LogLeavesAt}, LogText.{LogRecord, directory_bytes}}
 use Rattle.lert_spec.specs.declared.numbers.Numbers.{Numbers}
-use Rattle.lert_levels.specs.OnDisk.{written}
 
 -- rows that the last record of a log names: the bins of the levels after its events, in its frames
 abbrev pub AreLastRows : Numbers → List LogRecord → List (List BinAt) → Type 0

@@ -7,16 +7,15 @@ ghost use Rattle.lert_bay.specs.Files.{Files, IfTold};
 ghost use Rattle.lert_levels.specs.declared.rows.bin_at.BinAt.{BinAt};
 ghost use Rattle.lert_levels.specs.rows.Checked.{EachStands};
 ghost use Rattle.lert_levels.specs.rows.Rows.{IsAt, AreRows, directory_text};
-ghost use Rattle.lert_files.specs.Headed.{HasOther};
+ghost use Rattle.lert_files.specs.Headed.{written, HasOther};
 ghost use Rattle.lert_files.specs.Opened.{AreOpened, IsAsRead, IsRefused, LeaveAt, WritesNothing};
 ghost use Rattle.lert_files.specs.Read.{IsReadOf, IsPoint, AreReportsUpTo};
 ghost use Rattle.lert_reports.specs.Log.{most_record};
 ghost use Rattle.lert_reports.specs.LogText.{LogRecord};
-ghost use Rattle.lert_levels.specs.OnDisk.{written};
 
 use crate::directory::Directory;
 use crate::fault::ReopenFault;
-use crate::journal_header::read_journal_header;
+use crate::journal_header::{WRITTEN, read_journal_header};
 use crate::log::read_whole_log;
 use lert_base::{CountTable, Settings};
 use lert_bay::{Bay, FRAMES, JOURNAL, LOG};
@@ -47,6 +46,7 @@ pub fn read_files<B: Bay, T: CountTable>(
     ensures reach { IfOk result (λ end. end.log_end ≤ 2 ^ 62) }
     ensures at { IfOk result (λ end. IsAt settings.now end.n0 levels.new.rows) }
     ensures rows { OnOk result (AreRows settings.now levels.new.rows) }
+    ensures version { OnOk result (levels.new.version ≡ written) }
     ensures reports { IfOk result (λ end. AreReportsUpTo settings.now cone end.n0 store.new.reports) }
 
     // Where the files are told, it is what stands in them, and every image is what a read gives.
@@ -99,6 +99,7 @@ fn read_in_order<B: Bay, T: CountTable>(
     ensures reach { IfOk result (λ end. end.log_end ≤ 2 ^ 62) }
     ensures at { IfOk result (λ end. IsAt settings.now end.n0 levels.new.rows) }
     ensures rows { OnOk result (AreRows settings.now levels.new.rows) }
+    ensures version { OnOk result (levels.new.version ≡ written) }
     ensures reports { IfOk result (λ end. AreReportsUpTo settings.now cone end.n0 store.new.reports) }
     ensures told { IfTold (B.files bay.old) (λ seen. MatchResult result
         (λ end. (records : List LogRecord)
@@ -117,7 +118,7 @@ fn read_in_order<B: Bay, T: CountTable>(
     read_journal_header(bay, settings, cone)?;
     let mut directory = Directory::new();
     let end = read_whole_log(bay, settings, cone, store, &mut directory, buffer)?;
-    levels.restore(end.n0, directory.bytes());
+    levels.restore(end.n0, directory.bytes(), WRITTEN);
     levels.check(bay)?;
     Ok(end)
 }

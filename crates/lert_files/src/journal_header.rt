@@ -1,21 +1,20 @@
 //! The header of the journal.
 
 ghost use Rattle.std.specs.Prelude.{◌≡◌, ◌≢◌, ◌⊎◌, ℕ, ◌≤◌, List, Some, length, take, IsTrue, IsFalse, IfErr, MatchResult, IsErrOf, IsErrAnd};
-ghost use Rattle.lert_levels.specs.OnDisk.{written};
 ghost use Rattle.lert_base.specs.declared.kept.Kept.{Kept as KeptOf};
 ghost use Rattle.lert_bay.specs.declared.bay.TheConstants.{JOURNAL};
 ghost use Rattle.lert_bay.specs.Files.{IfTold};
 ghost use Rattle.lert_bay.specs.Handed.{ReadsUpTo};
 ghost use Rattle.lert_bay.specs.Kept.{ReadsBay};
-ghost use Rattle.lert_files.specs.Headed.{BeginningLeaves, IsHeaded, HasOther, IsHeaderFault, IsOfHeader};
+ghost use Rattle.lert_files.specs.Headed.{written, BeginningLeaves, IsHeaded, HasOther, IsHeaderFault, IsOfHeader};
 
 use crate::fault::ReopenFault;
 use lert_base::{Kept, Settings};
 use lert_bay::{Bay, JOURNAL};
 use lert_journal::{HEADER_LEN, header_left, read_header};
 
-// The version of the journals that are read.
-const WRITTEN: u8 = 1;
+/// The version of the files that are read.
+pub const WRITTEN: u8 = 1;
 
 /// Reads the header of the journal. Ok comes exactly where it is that of this cone with these settings and a gate stands
 /// behind it, but where a call of the bay fails. Reads 32 bytes and a length, changes no file and takes no memory.

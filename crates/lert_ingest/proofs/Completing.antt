@@ -2,7 +2,6 @@
 use Rattle.std.proofs.Common.{◌≡◌, ◌≢◌, ◌⊎◌, ℕ, ◌%◌, ◌<◌, List, [], ◌∷◌, length, Some, None, slice_get, refl, ap, sym, ◌∙◌, subst, inl, inr, arith}
 use Rattle.std.proofs.lemmas.Option.{none-some, same_Some, slice_get_within}
 use Rattle.std.specs.Prelude.{Contains}
-use Rattle.lert_base.specs.Packet.{keys_of}
 use Rattle.lert_base.specs.{Packet.{Packet, events_of}, declared.cone_fault.ConeFault.ConeFault}
 use Rattle.lert_cone.specs.{Stands.{Standing, is_finished}, declared.state.ConeState.ConeState}
 use Rattle.lert_cone.specs.declared.state.ConeState.TheVariants as state
@@ -84,7 +83,7 @@ module _ {S B : Type 0} (crew : Crewed S B) where
 
             by_refusal : (c.closed.state ≢ state.Running) ⊎ IsFullAt s c.back.history e.0 f → ⊥
             by_refusal (inl broke) = broke (all_run cone c.first c.closed c.first_is c.closed_is)
-            by_refusal (inr full) = none-some (status.CapacityFull cone (length (events_of full.past)) (length (keys_of e.0)))
+            by_refusal (inr full) = none-some (status.CapacityFull cone (length (events_of full.past)) (length e.0.items))
                 (sym (no_end_fault by below) ∙ (ap end_fault is ∙ ap (full_fault cone) full.fault_is))
 
     at_ends : (by place : ℕ) (now : Reading S) → by < workers → slice_get (readings by) place ≡ Some now → IsAtEnd remaining now

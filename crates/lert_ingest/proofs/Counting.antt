@@ -2,9 +2,9 @@
 use Rattle.std.proofs.Common.{◌≡◌, ◌≢◌, ℕ, ◌+◌, ◌<◌, ◌≤◌, zero, suc, Bool, cond, List, [], ◌∷◌, ◌++◌, length, Some, slice_get, refl, ap, sym, ◌∙◌, subst, inl, inr, arith, length-append}
 use Rattle.std.proofs.{lemmas.Bool.{cases_eq, eq-eqb, ne_eqb}, lemmas.List.Elements.{All-head, All-tail}, lemmas.List.Sums.sum_by-cons}
 use Rattle.std.specs.Prelude.{All, sum_by}
-use Rattle.lert_base.specs.Packet.{keys_of}
 use Rattle.lert_base.specs.{Packet.{Packet, events_of, of_trace}, Weave.{IsBrought, IsPartWoven, IsWoven}}
-use Rattle.lert_spec.specs.{declared.numbers.Numbers.Numbers, Mix.part_of}
+use Rattle.lert_spec.specs.{declared.item.Item.Item, declared.numbers.Numbers.Numbers, Items.units, Mix.part_of}
+use Rattle.lert_spec.proofs.ItemLaws.{length-units}
 use Rattle.lert_ingest.specs.Traces.{part_length}
 
 -- how many keys the packets of so many traces have, from a trace on
@@ -14,10 +14,10 @@ spread history from (suc count) = length (events_of (of_trace history from)) + s
 
 -- a packet in front
 here_same : (e : Packet) (history : List Packet) (trace : ℕ) → e.trace ≡ trace →
-    length (events_of (of_trace (e ∷ history) trace)) ≡ length (keys_of e) + length (events_of (of_trace history trace))
+    length (events_of (of_trace (e ∷ history) trace)) ≡ length e.items + length (events_of (of_trace history trace))
 here_same e history trace same =
     ap (λ (b : Bool). length (events_of (cond b (e ∷ of_trace history trace) (of_trace history trace)))) (eq-eqb e.trace trace same)
-    ∙ length-append (keys_of e) (events_of (of_trace history trace))
+    ∙ length-append e.items (events_of (of_trace history trace))
 
 here_other : (e : Packet) (history : List Packet) (trace : ℕ) → e.trace ≢ trace → length (events_of (of_trace (e ∷ history) trace)) ≡ length (events_of (of_trace history trace))
 here_other e history trace other =
@@ -30,7 +30,7 @@ spread_below e history from (suc count) below =
     let rest = spread_below e history (suc from) count (omega (arith, below)) in
     omega (arith, here, rest)
 
-spread_in : (e : Packet) (history : List Packet) (from count : ℕ) → from ≤ e.trace → e.trace < from + count → spread (e ∷ history) from count ≡ length (keys_of e) + spread history
+spread_in : (e : Packet) (history : List Packet) (from count : ℕ) → from ≤ e.trace → e.trace < from + count → spread (e ∷ history) from count ≡ length e.items + spread history
     from count
 spread_in e history from zero low high = absurd (omega (arith, low, high))
 spread_in e history from (suc count) low high =
@@ -56,7 +56,7 @@ all_spread [] count below = sym (spread_none 0 count)
 all_spread (e ∷ history) count below =
     let here = spread_in e history 0 count (omega arith) (let head = All-head (λ p. p.trace < count) e history below in omega (arith, head)) in
     let rest = all_spread history count (All-tail (λ p. p.trace < count) e history below) in
-    let parts = length-append (keys_of e) (events_of history) in
+    let parts = length-append e.items (events_of history) in
     omega (arith, here, rest, parts)
 
 -- as each trace has at most, or at least, so many
@@ -96,10 +96,10 @@ module _ (s : Numbers) (cone workers : ℕ) (traces : List (List ℕ)) (history 
       (begun keys place (part.joined place keys is))) in
       omega (arith, all, most)
     where
-      begun : (keys : List ℕ) (place : ℕ) → (rest : List ℕ) × (events_of (of_trace history place) ++ rest ≡ part_of s cone keys) →
+      begun : (keys : List ℕ) (place : ℕ) → (rest : List Item) × (events_of (of_trace history place) ++ rest ≡ units (part_of s cone keys)) →
           length (events_of (of_trace history place)) ≤ length (part_of s cone keys)
       begun keys place begins =
-          let whole = ap (λ (xs : List ℕ). length xs) begins.1 in
+          let whole = ap (λ (xs : List Item). length xs) begins.1 ∙ length-units (part_of s cone keys) in
           let sum = length-append (events_of (of_trace history place)) begins.0 in
           omega (arith, whole, sum)
 
@@ -109,5 +109,5 @@ module _ (s : Numbers) (cone workers : ℕ) (traces : List (List ℕ)) (history 
       let all = all_spread history (length traces) (of_them woven.each) in
       let least = spread_least (λ keys. length (part_of s cone keys)) history 0 traces
       (λ place keys is. subst (λ n. length (part_of s cone keys) ≤ length (events_of (of_trace history n))) (let e : place ≡ 0 + place = omega arith in e)
-      (let same = ap (λ (xs : List ℕ). length xs) (woven.joined place keys is) in omega (arith, same))) in
+      (let same = ap (λ (xs : List Item). length xs) (woven.joined place keys is) ∙ length-units (part_of s cone keys) in omega (arith, same))) in
       omega (arith, all, least)

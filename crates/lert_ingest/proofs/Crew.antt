@@ -3,11 +3,10 @@ use Rattle.std.proofs.Common.{◌≡◌, ◌≢◌, ℕ, ◌<◌, ◌≤◌, suc
 use Rattle.std.proofs.{Common.length-append, lemmas.Bool.{cases_eq, eq-eqb, ne_eqb}, lemmas.List.Concat.flat_map-append}
 use Rattle.std.proofs.{lemmas.List.Elements.{All-append, All-cons, All-contains, All-nil, filter-append}, lemmas.List.get_or_append_left}
 use Rattle.std.specs.Prelude.{All, Contains}
-use Rattle.lert_base.specs.Packet.{keys_of}
 use Rattle.lert_base.specs.{Beginning.BeginsWith, Packet.{Packet, events_of, of_trace, own}, Weave.{AreCut, IsPartWoven, IsWoven}, declared.cone_fault.ConeFault.ConeFault}
 use Rattle.lert_conelock.proofs.Contained.{no_item, item_here, item_cases}
 use Rattle.lert_conelock.specs.Sight.{Sight}
-use Rattle.lert_spec.specs.declared.numbers.Numbers.{Numbers}
+use Rattle.lert_spec.specs.{declared.item.Item.Item, declared.numbers.Numbers.Numbers}
 use Rattle.lert_worker.specs.{Brings.{Brings, BringsPart, IsOwn}, Ran.{IsTurned, RanIn}, declared.end.WorkerEnd.WorkerEnd, declared.end.WorkerEnd.TheVariants.{Ran, Trace, Cone}}
 use Rattle.lert_ingest.specs.Shares.{HasAll, HasPart, IsShare, LeftIn}
 use Rattle.lert_ingest.proofs.Gathering.{cut_first, part_gathered, gathered}
@@ -27,10 +26,10 @@ module _ (s : Numbers) (number cone : ℕ) (share : List ℕ) (reads : List (Lis
     each = λ k d below. subst (IsOwn s number share) (get_or_append_left xs ys d k below) (part.each k d (omega (arith, below, length-append xs ys)));
     joined = λ place trace keys there is.
         let begins = part.joined place trace keys there is in
-        let parts = ap events_of (filter-append (λ (p : Packet). eqb p.trace trace) xs ys) ∙ flat_map-append (λ (p : Packet). (keys_of p)) (of_trace xs trace) (of_trace ys trace) in (
+        let parts = ap events_of (filter-append (λ (p : Packet). eqb p.trace trace) xs ys) ∙ flat_map-append (λ (p : Packet). p.items) (of_trace xs trace) (of_trace ys trace) in (
           events_of (of_trace ys trace) ++ begins.0,
           sym (append_assoc (events_of (of_trace xs trace)) (events_of (of_trace ys trace)) begins.0)
-              ∙ (ap (λ (zs : List ℕ). zs ++ begins.0) (sym parts) ∙ begins.1),
+              ∙ (ap (λ (zs : List Item). zs ++ begins.0) (sym parts) ∙ begins.1),
         );
     cut = λ trace. cut_first s.packet (of_trace xs trace) (of_trace ys trace) (subst (AreCut s.packet) (filter-append (λ (p : Packet). eqb p.trace trace) xs ys) (part.cut trace));
   }

@@ -2,7 +2,6 @@
 use Rattle.std.proofs.{Common.{◌≡◌, ◌≢◌, ◌⊎◌, ℕ, ◌+◌, ◌<◌, Bool, false, eqb, List, [], ◌++◌, length, get_or, Option, Some, None, refl, ap, sym, ◌∙◌, subst, inl, inr}, lemmas.Bool.eq-eqb}
 use Rattle.std.proofs.{lemmas.List.Elements.Contains-get_or, lemmas.Option.{none-some, same_Some}}
 use Rattle.std.specs.Prelude.{Contains, IsTrue}
-use Rattle.lert_base.specs.Packet.{keys_of}
 use Rattle.lert_base.specs.{declared.held.Held.{Ghosts as HeldOf}, Packet.{Packet, events_of, own}, declared.cone_fault.ConeFault.ConeFault, declared.cone_fault.ConeFault.TheVariants.CapacityFull}
 use Rattle.lert_bay.specs.Files.{Files}
 use Rattle.lert_cone.specs.{Listing.Listing, Stands.{Standing, StandsFor, Terms, WereSound, is_broken, is_finished, terms_of}, declared.state.ConeState.TheVariants.Running}
@@ -19,7 +18,7 @@ pub record IsConeHeld {B R : Type 0} (files : B → Option Files) (leaves : B �
   pub stopped_is : (cone : Standing B) → IsTrue (held.stopped cone) → cone.state ≢ Running
   pub over_is : (cone : Standing B) → held.over cone ≡ cone.over
   pub refuses : (terms : Terms B) (history : List Packet) (packet : Packet) (fault : ConeFault) → held.refuses terms history packet fault →
-      (fault ≡ CapacityFull (length (events_of history)) (length (keys_of packet))) × (capacity terms.settings < length (events_of history) + length (keys_of packet))
+      (fault ≡ CapacityFull (length (events_of history)) (length packet.items)) × (capacity terms.settings < length (events_of history) + length packet.items)
 
 module _ {B R : Type 0} (files : B → Option Files) (leaves : B → Files → Type 0) (faults mark : B → ℕ) (held : HeldOf (Standing B) (Terms B) R ConeFault)
     (is_held : IsConeHeld files leaves faults mark held) (s : Numbers) (workers number : ℕ) (added : ℕ → List Packet) (turned : ℕ → List (Packet × ConeFault)) (first closed : Standing B)
@@ -84,7 +83,7 @@ module _ {B R : Type 0} (files : B → Option Files) (leaves : B → Files → T
             past = rule.0;
             begins = rule.1;
             fault_is = why.0;
-            over = subst (λ (t : Terms B). capacity t.settings < length (events_of rule.0) + length (keys_of e)) terms why.1;
+            over = subst (λ (t : Terms B). capacity t.settings < length (events_of rule.0) + length e.items) terms why.1;
           })
 
   pub is_back : IsLater files faults mark first.bay closed.bay → (is_broken closed.state ≡ false → closed.listing.closed ≡ is_finished closed.state) →

@@ -2,10 +2,9 @@
 use Rattle.std.proofs.Common.{◌≡◌, ℕ, ◌%◌, ◌^◌, ◌<◌, ◌≤◌, zero, suc, List, [], ◌∷◌, ◌++◌, length, drop, take, get_or, Option, Some, Result, slice_get, refl, ap, sym, ◌∙◌, subst, arith}
 use Rattle.std.proofs.{lemmas.List.{length-take, take-append-drop}, lemmas.Option.{none-some, same_Some, slice_get-get_or, slice_get_within}}
 use Rattle.std.specs.Prelude.{All}
-use Rattle.lert_levels.specs.OnDisk.{written}
 use Rattle.lert_base.specs.{declared.held.Held.{Ghosts as HeldOf}, Packet.Packet, declared.cone_fault.ConeFault.ConeFault}
 use Rattle.lert_bay.specs.Files.{Files}
-use Rattle.lert_cone.specs.{Listing.Listing, Stands.{Standing, Terms, terms_of}}
+use Rattle.lert_cone.specs.{History.written, Listing.Listing, Stands.{Standing, Terms, terms_of}}
 use Rattle.lert_conelock.specs.Sight.{LockSight}
 use Rattle.lert_fleet.proofs.Places.{some_at}
 use Rattle.lert_fleet.specs.Cones.{ClosesEach, FleetPassSight, FleetSight}

@@ -1,10 +1,10 @@
 -- What all workers brought to a cone, told from what each of them brought.
 use Rattle.std.proofs.Common.{◌≡◌, ℕ, ◌%◌, ◌<◌, ◌≤◌, Bool, true, false, cond, eqb, List, [], ◌∷◌, ◌++◌, length, Some, slice_get, refl, ap, sym, ◌∙◌, subst, inl, inr, arith, append_assoc}
 use Rattle.std.proofs.{Common.length-append, lemmas.Bool.{cases_eq, eq-eqb, ne_eqb}, lemmas.List.Elements.{All-head, All-tail, All-cons, All-contains, All-nil, filter-append}}
-use Rattle.std.proofs.lemmas.Option.{slice_get_within}
+use Rattle.std.proofs.lemmas.{List.map-append, Option.slice_get_within}
 use Rattle.std.specs.Prelude.{All}
 use Rattle.lert_base.specs.{Beginning.BeginsWith, Packet.{Packet, events_of, of_trace, own}, Weave.{AreCut, IsBrought, IsPartWoven, IsWoven}}
-use Rattle.lert_spec.specs.{declared.numbers.Numbers.Numbers, Mix.{cone_of, part_of}}
+use Rattle.lert_spec.specs.{declared.numbers.Numbers.Numbers, Items.{unit, units}, Mix.{cone_of, part_of}}
 use Rattle.lert_worker.specs.Brings.{IsOwn}
 use Rattle.lert_ingest.specs.Shares.{HasAll, HasPart, IsShare}
 use Rattle.lert_ingest.proofs.BayLaws.{slice_get-first}
@@ -48,11 +48,16 @@ module _ (P : Packet → Type 0) (workers : ℕ) where
 
 -- ---- beginnings
 
-pub begins_more : (whole part less : List ℕ) → BeginsWith whole part → BeginsWith part less → BeginsWith whole less
+pub begins_more : {A : Type 0} (whole part less : List A) → BeginsWith whole part → BeginsWith part less → BeginsWith whole less
 begins_more whole part less one two = (two.0 ++ one.0, sym (append_assoc less two.0 one.0) ∙ (ap (λ xs. xs ++ one.0) two.1 ∙ one.1))
 
-pub begins_part : (s : Numbers) (cone : ℕ) (whole part : List ℕ) → BeginsWith whole part → BeginsWith (part_of s cone whole) (part_of s cone part)
-begins_part s cone whole part begins = (part_of s cone begins.0, sym (filter-append (λ k. eqb (cone_of s k) cone) part begins.0) ∙ ap (part_of s cone) begins.1)
+-- and so do their parts of a cone, as items
+pub begins_part : (s : Numbers) (cone : ℕ) (whole part : List ℕ) → BeginsWith whole part → BeginsWith (units (part_of s cone whole)) (units (part_of s cone part))
+begins_part s cone whole part begins = (
+  units (part_of s cone begins.0),
+  sym (map-append unit (part_of s cone part) (part_of s cone begins.0))
+      ∙ ap units (sym (filter-append (λ k. eqb (cone_of s k) cone) part begins.0) ∙ ap (part_of s cone) begins.1),
+)
 
 pub cut_first : (size : ℕ) (xs ys : List Packet) → AreCut size (xs ++ ys) → AreCut size xs
 cut_first size xs ys cut = λ place packet within is.
@@ -93,13 +98,14 @@ module _ (s : Numbers) (cone workers : ℕ) (traces : List (List ℕ)) (shares :
       named : (trace : ℕ) → trace % workers < workers
       named trace = omega (arith, some)
 
-      joined : (trace : ℕ) (keys : List ℕ) → slice_get traces trace ≡ Some keys → trace % workers < workers → BeginsWith (part_of s cone keys) (events_of (of_trace history trace))
+      joined : (trace : ℕ) (keys : List ℕ) → slice_get traces trace ≡ Some keys → trace % workers < workers →
+          BeginsWith (units (part_of s cone keys)) (events_of (of_trace history trace))
       joined trace keys is below =
           let there = (shared (trace % workers) below).all trace (slice_get_within traces trace keys is) refl in
           let read = begun (trace % workers) there.0 trace keys below there.1 is in
           let part = (brought (trace % workers) below).joined there.0 trace read.0 there.1 read.1 in
-          subst (λ (xs : List Packet). BeginsWith (part_of s cone keys) (events_of xs)) (sym (trace_own (λ number below. (brought number below).each) trace))
-          (begins_more (part_of s cone keys) (part_of s cone read.0) (events_of (of_trace (own history (trace % workers)) trace)) (begins_part s cone keys read.0 read.2) part)
+          subst (λ (xs : List Packet). BeginsWith (units (part_of s cone keys)) (events_of xs)) (sym (trace_own (λ number below. (brought number below).each) trace))
+          (begins_more (units (part_of s cone keys)) (units (part_of s cone read.0)) (events_of (of_trace (own history (trace % workers)) trace)) (begins_part s cone keys read.0 read.2) part)
 
   pub gathered : ((number place trace : ℕ) (whole : List ℕ) → number < workers → slice_get (shares number) place ≡ Some trace → slice_get traces trace ≡ Some whole →
       slice_get (reads number) place ≡ Some whole) → (1 ≤ workers) →
@@ -114,7 +120,7 @@ module _ (s : Numbers) (cone workers : ℕ) (traces : List (List ℕ)) (shares :
       named : (trace : ℕ) → trace % workers < workers
       named trace = omega (arith, some)
 
-      joined : (trace : ℕ) (keys : List ℕ) → slice_get traces trace ≡ Some keys → trace % workers < workers → events_of (of_trace history trace) ≡ part_of s cone keys
+      joined : (trace : ℕ) (keys : List ℕ) → slice_get traces trace ≡ Some keys → trace % workers < workers → events_of (of_trace history trace) ≡ units (part_of s cone keys)
       joined trace keys is below =
           let there = (shared (trace % workers) below).all trace (slice_get_within traces trace keys is) refl in
           ap events_of (trace_own (λ number below. (brought number below).each) trace)

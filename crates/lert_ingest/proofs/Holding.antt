@@ -2,12 +2,11 @@
 use Rattle.std.proofs.Common.{◌≡◌, ◌≢◌, ◌⊎◌, ℕ, ◌+◌, ◌%◌, ◌<◌, ◌≤◌, Bool, true, false, List, [], ◌∷◌, ◌++◌, length, Option, Some, slice_get, refl, ap, sym, ◌∙◌, subst, inl, inr, arith, length-append}
 use Rattle.std.proofs.lemmas.List.Concat.{flat_map-append}
 use Rattle.std.specs.Prelude.{All, Contains}
-use Rattle.lert_base.specs.Packet.{keys_of}
 use Rattle.lert_base.specs.{Beginning.BeginsWith, Packet.{Packet, events_of, of_trace}, Weave.{IsPartWoven, IsWhole}, declared.cone_fault.ConeFault.ConeFault}
 use Rattle.lert_bay.specs.Files.{Files, IfTold}
 use Rattle.lert_cone.specs.{Sound.{IsSound, IsSoundAs, IsSoundOver}, Stands.{Standing, is_broken}, declared.state.ConeState.TheVariants.Running}
 use Rattle.lert_conelock.proofs.Contained.{item_here}
-use Rattle.lert_spec.specs.{declared.numbers.Numbers.Numbers, Edges.capacity}
+use Rattle.lert_spec.specs.{declared.item.Item.Item, declared.numbers.Numbers.Numbers, Edges.capacity}
 use Rattle.lert_worker.specs.{Brings.HasNoRest, declared.end.WorkerEnd.WorkerEnd, declared.end.WorkerEnd.TheVariants.{Ran, Cone}}
 use Rattle.lert_ingest.specs.{Back.{IsBack, IsFullAt}, Bays.{HoldsKeys, HoldsOpen, HoldsPart}, Shares.{IsShare, LeftIn}, Stops.IsWeaving, Traces.part_length}
 use Rattle.lert_ingest.proofs.{Counting.{part_count, woven_count}, Crew.{crew_part, crew_turned, crew_woven, was_turned}, Gathering.of_trace-own}
@@ -71,14 +70,14 @@ module _ {B : Type 0} (files : B → Option Files) (leaves : B → Files → Typ
 
     -- a packet that was refused over the capacity, and the keys before it
     pub enough : (by : ℕ) → by < workers → (e : Packet) (f : ConeFault) → Contains (turned by) (e, f) → (full : IsFullAt s back.history e f) →
-        length (events_of full.past) + length (keys_of e) ≤ part_length s number traces
+        length (events_of full.past) + length e.items ≤ part_length s number traces
     enough by below e f has full =
         let count = part_count s number workers traces (back.history ++ e ∷ []) (woven_over by below e f has) in
-        let parts = ap (λ (xs : List ℕ). length xs) (flat_map-append (λ (p : Packet). keys_of p) back.history (e ∷ [])) in
+        let parts = ap (λ (xs : List Item). length xs) (flat_map-append (λ (p : Packet). p.items) back.history (e ∷ [])) in
         let sums = length-append (events_of back.history) (events_of (e ∷ [])) in
-        let one = length-append (keys_of e) [] in
+        let one = length-append e.items [] in
         let begins = ap (λ (xs : List Packet). length (events_of xs)) full.begins.splits in
-        let pasts = ap (λ (xs : List ℕ). length xs) (flat_map-append (λ (p : Packet). keys_of p) full.past full.begins.rest) in
+        let pasts = ap (λ (xs : List Item). length xs) (flat_map-append (λ (p : Packet). p.items) full.past full.begins.rest) in
         let past_sums = length-append (events_of full.past) (events_of full.begins.rest) in
         omega (arith, count, parts, sums, one, begins, pasts, past_sums)
 

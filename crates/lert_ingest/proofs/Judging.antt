@@ -2,8 +2,6 @@
 use Rattle.std.proofs.{Common.{◌≡◌, ◌≢◌, ◌⊎◌, ℕ, ◌%◌, ◌<◌, ◌≤◌, List, [], ◌∷◌, ◌++◌, length, Some, slice_get, refl, ap, sym, ◌∙◌, subst, inl, inr, arith}, lemmas.List.length-map}
 use Rattle.std.proofs.{lemmas.List.Elements.{All-contains, Contains-push}, lemmas.Option.{get_or_from_slice_get, none-some, same_Some, slice_get_within}}
 use Rattle.std.specs.Prelude.{All, Contains}
-use Rattle.lert_spec.proofs.ItemLaws.{length-keys_in}
-use Rattle.lert_base.specs.Packet.{keys_of}
 use Rattle.lert_base.specs.{Beginning.BeginsWith, Packet.{Packet, events_of}, declared.cone_fault.ConeFault.ConeFault}
 use Rattle.lert_bay.specs.Files.{Files, IfTold}
 use Rattle.lert_cone.specs.Stands.{Standing, is_finished}
@@ -237,7 +235,7 @@ module _ {S B : Type 0} (crew : Crewed S B) where
               Shows (status.CapacityFull cone n len)
           shows (inl stopped) = absurd (stopped (running_all above cone c))
           shows (inr full) =
-              let same : (n ≡ length (events_of full.past)) × (len ≡ length (keys_of e.0)) = full_same n len (length (events_of full.past)) (length (keys_of e.0)) full.fault_is in
+              let same : (n ≡ length (events_of full.past)) × (len ≡ length e.0.items) = full_same n len (length (events_of full.past)) (length e.0.items) full.fault_is in
               let own_e = last_own (shares by) (added cone by) e.0
               (turned_part s by cone (shares by) (reads by) (stopped by) (ends by) (added cone by) (turned cone by) (c.left by below) e.0 f e.1).each in
               let many = enough files leaves b_faults b_mark s workers some cone traces shares reads stopped ends shared (added cone) (turned cone) c.left c.first c.closed c.back begun by
@@ -249,8 +247,8 @@ module _ {S B : Type 0} (crew : Crewed S B) where
               let over = full.over in
               StopShows.capacity_full cone n len (record {
                 named = subst (λ k. cone < k) left_by.cones_are (left_by.named by cone f below is);
-                some = omega (arith, first_one, same.1, length-keys_in e.0.items);
-                few = omega (arith, few, same.1, length-keys_in e.0.items);
+                some = omega (arith, first_one, same.1);
+                few = omega (arith, few, same.1);
                 over = omega (arith, over, same.0, same.1);
                 journal = λ bay there seen told.
                     let bay_is = same_Some c.closed.bay bay (sym (bay_at backs cone c.closed c.closed_is) ∙ there) in

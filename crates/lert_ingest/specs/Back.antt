@@ -1,6 +1,5 @@
 -- What is known of a cone that came back from its lock.
 use Rattle.std.specs.Prelude.{◌≡◌, ◌≢◌, ◌⊎◌, ℕ, ◌+◌, ◌<◌, ◌≤◌, false, All, Contains, List, length, Option, Some, slice_get}
-use Rattle.lert_base.specs.Packet.{keys_of}
 use Rattle.lert_base.specs.{Packet.{Packet, events_of, own}, declared.cone_fault.ConeFault.ConeFault, declared.cone_fault.ConeFault.TheVariants.CapacityFull}
 use Rattle.lert_bay.specs.Files.{Files, Turns}
 use Rattle.lert_cone.specs.{Stands.{Standing, StandsFor, WasSound, is_broken, is_finished}, declared.state.ConeState.TheVariants.Running, Wrote.Anything}
@@ -12,8 +11,8 @@ use Rattle.lert_ingest.specs.Bays.{IsLater}
 pub record IsFullAt (s : Numbers) (history : List Packet) (packet : Packet) (fault : ConeFault) : Type 0 where
   pub past : List Packet
   pub begins : IsPrefix past history
-  pub fault_is : fault ≡ CapacityFull (length (events_of past)) (length (keys_of packet))
-  pub over : capacity s < length (events_of past) + length (keys_of packet)
+  pub fault_is : fault ≡ CapacityFull (length (events_of past)) (length packet.items)
+  pub over : capacity s < length (events_of past) + length packet.items
 
 -- what a look at a cone says of its bay since the cone was made, and of its closing record
 pub record IsSeen {B : Type 0} (files : B → Option Files) (faults mark : B → ℕ) (cone : Standing B) : Type 0 where

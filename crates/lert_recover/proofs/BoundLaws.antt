@@ -1,13 +1,10 @@
 -- How much of a journal a reopening reads at most that is sound for a list, also where a read of a record fails.
 use Rattle.std.proofs.Common.{ℕ, zero, suc, ◌≡◌, ◌+◌, ◌-◌, ◌*◌, ◌<◌, ◌≤◌, List, [], ◌∷◌, ◌++◌, All, length, refl, ap, sym, ◌∙◌, subst, arith, inl, inr, length-append, append-nil, append_assoc}
 use Rattle.std.proofs.{Math.Nat.pow-zero, lemmas.Bool.{cases_eq, cases_lt}, lemmas.List.take_at, lemmas.List.Elements.{All-cons, All-head, All-nil, All-tail}}
-use Rattle.lert_spec.proofs.ItemLaws.{length-keys_in}
 use Rattle.lert_cone.proofs.SoundLaws.{some_keys_of}
-use Rattle.lert_levels.specs.OnDisk.{written}
-use Rattle.lert_base.specs.Packet.{keys_of}
 use Rattle.lert_base.specs.Packet.{Packet, events_of}
 use Rattle.lert_bay.specs.Files.{Files}
-use Rattle.lert_cone.specs.{declared.journal_places.JournalPlace.JournalPlace, Framed.last_flush, History.{end_of, most_payload}, Sound.{IsSound, but_last}}
+use Rattle.lert_cone.specs.{declared.journal_places.JournalPlace.JournalPlace, Framed.last_flush, History.{end_of, most_payload, written}, Sound.{IsSound, but_last}}
 use Rattle.lert_cone.proofs.{FlushLaws.{flush_stays, flush_there}, TallyLaws.next_free, TotalLaws.edge_within}
 use Rattle.lert_recover.proofs.RestBytes.{bytes_few, bytes_of, ends_ahead, events_split}
 use Rattle.lert_journal.specs.Payload.{IsJournaled}
@@ -29,8 +26,8 @@ but_last_more : (history : List Packet) (packet : Packet) → but_last (history 
 but_last_more history packet = take_at history (packet ∷ []) (length (history ++ packet ∷ []) - 1) (omega (arith, length-append history (packet ∷ [])))
 
 -- the record of one packet more
-bytes_more : (packets : List Packet) (packet : Packet) → bytes_of (packets ++ packet ∷ []) ≡ bytes_of packets + 13 + 8 * length (keys_of packet)
-bytes_more packets packet = omega (arith, length-append packets (packet ∷ []), events_split packets (packet ∷ []), ap length (append-nil (keys_of packet)))
+bytes_more : (packets : List Packet) (packet : Packet) → bytes_of (packets ++ packet ∷ []) ≡ bytes_of packets + 13 + 8 * length packet.items
+bytes_more packets packet = omega (arith, length-append packets (packet ∷ []), events_split packets (packet ∷ []), ap length (append-nil packet.items))
 
 module _ (s : Numbers) (valid : IsValid s) where
   -- ---- how many keys there are
@@ -73,7 +70,7 @@ module _ (s : Numbers) (valid : IsValid s) where
           let bytes = bytes_few middle (λ k d below. some_keys_of s cone _ (parts.0 k d below)) in
           let before : but_last history ≡ front ++ middle = ap but_last (is ∙ sym (append_assoc front middle (last ∷ []))) ∙ but_last_more (front ++ middle) last in
           let within = few_behind n0 (length (events_of (front ++ middle))) (subst (λ h. last_flush s (length (events_of h)) ≤ n0) before least) in
-          omega (arith, few, bytes, within, from, events_split front middle, bytes_more middle last, length-keys_in last.items)
+          omega (arith, few, bytes, within, from, events_split front middle, bytes_more middle last)
 
       near : (front rest : List Packet) → history ≡ front ++ rest → edge s 0 n0 ≤ length (events_of front) → bytes_of rest ≤ 21 * (s.bins * s.base) + 13 + 32 * s.packet
       near front rest is from = elim (ends rest) [
@@ -95,11 +92,10 @@ module _ (s : Numbers) (valid : IsValid s) where
               let is : history ≡ front ++ held.rest = held.is ∙ sym (append_assoc held.done (held.packet ∷ []) held.rest) in
               let few = (All-head Journaled held.packet held.rest (apart Journaled held.done (held.packet ∷ held.rest) (subst (All Journaled) held.is each)).1).few in
               let count = events_split held.done (held.packet ∷ []) in
-              let one = ap length (append-nil (keys_of held.packet)) in
+              let one = ap length (append-nil held.packet.items) in
               let behind = near history each n0 sound.n0_least front held.rest is (omega (arith, held.to, held.first_is, count, one)) in
               omega (
                 arith,
-                length-keys_in held.packet.items,
                 behind,
                 few,
                 held.gate_is,

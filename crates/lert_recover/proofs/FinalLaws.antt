@@ -3,7 +3,6 @@
 use Rattle.std.proofs.{Common.{ℕ, ◌≡◌, ◌-◌, ◌<◌, ◌^◌, Bool, Option, Some, Result, Ok, Err, List, length, refl, ap, sym, ◌∙◌, subst, arith, inl, inr, ◌⊎◌}, lemmas.Option.same_Some}
 use Rattle.std.specs.Prelude.{All, MatchResult, IfErr, IfOk, IsErrAnd}
 use Rattle.lert_cone.proofs.SoundLaws.{some_keys_of}
-use Rattle.lert_base.specs.Packet.{keys_of}
 use Rattle.lert_base.specs.{declared.kept.Kept.Kept, Packet.{Packet, events_of}}
 use Rattle.lert_bay.specs.{declared.bay.TheConstants.{JOURNAL, LOG}, Files.Files}
 use Rattle.lert_cone.specs.{JournalPlaces.{IsPlaceIn, last_place}, Sound.{IsSound, IsJournal}, Unread.unread}
@@ -12,7 +11,7 @@ use Rattle.lert_gatelog.specs.Gated.{IsClosed}
 use Rattle.lert_levels.specs.declared.rows.bin_at.BinAt.{BinAt}
 use Rattle.lert_reports.specs.{Log.{is_closed, last_first, last_n0, last_offset, HasLog}, LogText.LogRecord}
 use Rattle.lert_reports.proofs.LogOnce.{one_log}
-use Rattle.lert_spec.specs.{declared.numbers.Numbers.Numbers, Limits.IsValid}
+use Rattle.lert_spec.specs.{declared.item.Item.Item, declared.numbers.Numbers.Numbers, Limits.IsValid}
 use Rattle.lert_files.specs.{declared.fault.ReopenFault.ReopenFault, declared.fault.ReopenFault.TheVariants.{Failed, Malformed, OtherSettings}, Headed.HasOther, Opened.AreOpened}
 use Rattle.lert_recover.specs.Replayed.{AreInFormat, FirstLeaves, Before_records, In_records, HasReplayed, JournalEnds, JournalLeavesAt}
 use Rattle.lert_recover.specs.Reopened.{IsReadOn, IsReopened, IsReopenRefused, Of_call, Of_place, Of_header, Of_sight, IsUnsoundAt}
@@ -34,13 +33,13 @@ module _ (s : Numbers) (cone : ℕ) (valid : IsValid s) (named : cone < 2 ^ s.co
   leaves_of records others at same leaves = subst (λ (rs : List LogRecord). Leaves rs at) same leaves
 
   -- the keys before that record, as they are had of the files
-  abbrev Unread : List LogRecord → List ℕ
+  abbrev Unread : List LogRecord → List Item
   Unread records = unread s cone (last_first records - 1) (Some seen)
 
   -- ---- one of the three, and one place
 
   -- keys that were had of a whole journal are its own, where the place is one of its packets
-  pub read_whole : (events : List ℕ) (gate : ℕ) (history : List Packet) (records : List LogRecord) → IsJournal s cone history (seen JOURNAL) →
+  pub read_whole : (events : List Item) (gate : ℕ) (history : List Packet) (records : List LogRecord) → IsJournal s cone history (seen JOURNAL) →
       IsPlaceIn history (last_place records) →
       HasReplayed s cone (last_n0 records) (is_closed records) (seen JOURNAL) (Unread records) (last_offset records) gate events → IsClosed (seen JOURNAL) gate →
       events ≡ events_of history
@@ -51,7 +50,7 @@ module _ (s : Numbers) (cone : ℕ) (valid : IsValid s) (named : cone < 2 ^ s.co
       all_keys s cone (last_n0 records) (is_closed records) (seen JOURNAL) history journal place.done place.rest (Unread records) events (last_offset records) gate place.is before
       place.gate_is has shut
 
-  module _ (closed : Bool) (events : List ℕ) (gate : ℕ) (reopened : IsReopened s cone seen closed events gate) where
+  module _ (closed : Bool) (events : List Item) (gate : ℕ) (reopened : IsReopened s cone seen closed events gate) where
     ends : JournalEnds s cone (last_n0 reopened.records) (is_closed reopened.records) (seen JOURNAL) (last_first reopened.records - 1) (last_offset reopened.records)
     ends =
         subst (λ n. JournalEnds s cone (last_n0 reopened.records) (is_closed reopened.records) (seen JOURNAL) n (last_offset reopened.records))
@@ -94,7 +93,7 @@ module _ (s : Numbers) (cone : ℕ) (valid : IsValid s) (named : cone < 2 ^ s.co
       ends_or_leaves s cone (last_n0 whole.records) (is_closed whole.records) (seen JOURNAL) (last_first whole.records - 1) (last_offset whole.records) at
       whole.journal (leaves_of records whole.records at (same_records records whole.records log_end whole.log_end rows whole.rows opened whole.opened) leaves)
 
-  pub reopened_or_left : (closed : Bool) (events : List ℕ) (gate : ℕ) → IsReopened s cone seen closed events gate → (file at : ℕ) → FirstLeaves s cone seen file at → ⊥
+  pub reopened_or_left : (closed : Bool) (events : List Item) (gate : ℕ) → IsReopened s cone seen closed events gate → (file at : ℕ) → FirstLeaves s cone seen file at → ⊥
   reopened_or_left closed events gate reopened file at leaves =
       whole_or_left file at (record {
         records = reopened.records;
@@ -173,7 +172,7 @@ module _ (s : Numbers) (cone : ℕ) (valid : IsValid s) (named : cone < 2 ^ s.co
 
   -- ---- what an answer says that is right
 
-  module _ {K E : Type 0} (closed_in : K → Bool) (events_in : K → List ℕ) (gate_in : K → ℕ) (fault_in : E → ReopenFault) where
+  module _ {K E : Type 0} (closed_in : K → Bool) (events_in : K → List Item) (gate_in : K → ℕ) (fault_in : E → ReopenFault) where
     abbrev pub Told : Result K E → Type 0
     Told result = MatchResult result (λ now. IsReopened s cone seen (closed_in now) (events_in now) (gate_in now)) (λ refused. IsReopenRefused s cone seen (fault_in refused))
 
@@ -214,11 +213,11 @@ module _ (s : Numbers) (cone : ℕ) (valid : IsValid s) (named : cone < 2 ^ s.co
     -- of files that are sound for a list
     module _ (told_in : Option Files) (told_is : told_in ≡ Some seen) (counts : K → ℕ) (stands_in : K → List Packet → Type 0) (finishes : K → Bool → Type 0)
         (history : List Packet) (sound : IsSound s cone history seen) where
-      some_keys : All (λ packet. 0 < length (keys_of packet)) history
+      some_keys : All (λ packet. 0 < length packet.items) history
       some_keys k d within = some_keys_of s cone _ (sound.journal.journaled k d within)
 
       pub sound_told : (result : Result K E) → Told result → IfErr result (λ refused. (h : List Packet) → IsSound s cone h seen → IsOutside (fault_in refused)) →
-          IfOk result (λ now. (h : List Packet) → All (λ packet. 0 < length (keys_of packet)) h → length (events_of h) ≡ counts now →
+          IfOk result (λ now. (h : List Packet) → All (λ packet. 0 < length packet.items) h → length (events_of h) ≡ counts now →
           ((now_seen : Files) → told_in ≡ Some now_seen → (other : List Packet) → IsSound s cone other now_seen → IsSound s cone h now_seen) → stands_in now h) →
           IfOk result (λ now. counts now ≡ length (events_in now)) → IfOk result (λ now. finishes now (closed_in now)) →
           MatchResult result (λ now. stands_in now history × finishes now (is_closed sound.logged)) (λ refused. IsOutside (fault_in refused))

@@ -1,24 +1,23 @@
 -- What a cone that is made over files has of them, and why one isn't.
 use Rattle.std.proofs.Common.{ℕ, suc, ◌≡◌, ◌+◌, ◌-◌, ◌≤◌, Bool, Option, Some, Result, Ok, Err, List, [], ◌∷◌, ◌++◌, length, map, take, drop, refl, ap, ap₂, sym, ◌∙◌, subst, arith}
-use Rattle.std.proofs.lemmas.List.{append_cancel_left, length-map, length-replicate, length-take-le, take_all, take_at}
+use Rattle.std.proofs.lemmas.{List.{append_cancel_left, length-map, length-replicate, length-take-le, take_all, take_at}, List.Elements.All-take}
 use Rattle.std.specs.Prelude.{MatchResult, IfErr, IfOk}
 use Rattle.lert_base.specs.{declared.kept.Kept.Kept, Packet.{Packet, events_of}}
 use Rattle.lert_bay.specs.{declared.bay.TheConstants.{JOURNAL, LOG, FRAMES}, Files.Files, Settled.{part, IsSettled}}
-use Rattle.lert_cone.specs.{History.most_payload, Logged.frames_of, Replay.IsLastOf, Sound.IsSound, Stands.Standing, Unread.unread, Wrote.IsShut}
-use Rattle.lert_cone.proofs.{AdoptLaws.bins_there, UnreadLaws.length_unread}
+use Rattle.lert_cone.specs.{History.{most_payload, written}, Logged.frames_of, Replay.IsLastOf, Sound.IsSound, Stands.Standing, Unread.unread, Wrote.IsShut}
+use Rattle.lert_cone.proofs.{AdoptLaws.bins_there, SoundLaws.history_light, UnreadLaws.length_unread}
 use Rattle.lert_gatelog.specs.Gated.{IsClosed}
 use Rattle.lert_levels.specs.{declared.rows.bin_at.BinAt.BinAt, rows.Loading.AllStand, rows.Named.IsDirectory, rows.Rows.{directory_text, tallied_in, IsAt}}
 use Rattle.lert_levels.proofs.{rows.CheckLaws.all_whole, HoldLaws.rows_stand}
 use Rattle.lert_reports.specs.{Log.{is_closed, last_directory, last_first, last_n0, last_offset, AreRecords, HasLog}, LogText.{LogRecord, directory_bytes}}
 use Rattle.lert_reports.proofs.{LogLaws.last_directory-push, LogOnce.one_log}
-use Rattle.lert_spec.specs.{declared.numbers.Numbers.Numbers, declared.report.Report.Report, Limits.IsValid}
+use Rattle.lert_spec.specs.{declared.item.Item.Item, declared.numbers.Numbers.Numbers, declared.report.Report.Report, Items.{most_weight, AreOfVersion}, Limits.IsValid}
 use Rattle.lert_files.specs.{declared.fault.ReopenFault.ReopenFault, declared.fault.ReopenFault.TheVariants.{Failed, Malformed, OtherSettings}, Headed.{HasOther, IsHeaded}}
 use Rattle.lert_files.specs.{Opened.{AreLastRows, AreOpened, IsAsRead, LeaveAt}, Read.IsReadOf}
 use Rattle.lert_recover.specs.Replayed.{Before_records, In_records, HasReplayed, ReadsRest}
 use Rattle.lert_recover.specs.Reopened.{IsReopened, IsReopenRefused, Of_call, Of_place, Of_header, Of_sight, IsStopped, At_call, At_place, At_sight, most_read}
 use Rattle.lert_recover.proofs.BoundLaws.{read_bound}
 use Rattle.lert_files.proofs.{PointLaws.directed, RecordsLaws.walk}
-use Rattle.lert_levels.specs.OnDisk.{written}
 
 -- ---- every image is what a read gives
 
@@ -102,7 +101,9 @@ module _ (s : Numbers) (cone : ℕ) where
       let long : length events ≡ n0 = length-take-le n0 (events_of history) sound.n0_most in
       let holds = bins_there s events rows (last_directory s records) (seen FRAMES) (subst (λ n. IsAt s n rows) (sym long) named.at)
       (frames_named records rows sound.log.rules named) sound.frames in
-      let stand = rows_stand s written events n0 rows (seen FRAMES) named.at named.are (omega (arith, long)) holds s.levels (omega arith) in
+      let light : AreOfVersion written events = All-take (λ (item : Item). (1 ≤ item.weight) × (item.weight ≤ most_weight written)) n0 (events_of history)
+      (history_light s cone history sound.journal.journaled) in
+      let stand = rows_stand s written events n0 rows (seen FRAMES) named.at named.are (omega (arith, long)) light holds s.levels (omega arith) in
       record {
         rows = rows;
         opened = record {
@@ -158,7 +159,7 @@ pub stands_on : {K E L : Type 0} (A : L → Type 0) (C : L → K → Type 0) (R 
 stands_on A C R S T (Ok now) more stands = λ h some count is. stands h some count (more h is)
 stands_on A C R S T (Err refused) more stands = tt
 
-module _ {K E : Type 0} (closed_in : K → Bool) (events_in : K → List ℕ) (gate_in : K → ℕ) (fault_in : E → ReopenFault) where
+module _ {K E : Type 0} (closed_in : K → Bool) (events_in : K → List Item) (gate_in : K → ℕ) (fault_in : E → ReopenFault) where
   pub reopened_of : (s : Numbers) (cone : ℕ) (seen : Files) (told : Option Files) → told ≡ Some seen → (records : List LogRecord) (log_end : ℕ) (rows : List (List BinAt))
       (n0 offset first : ℕ) (closed : Bool) (reports : List Report) (directory : List ℕ) →
       AreOpened s cone seen records log_end rows → IsReadOf s cone n0 offset first closed reports directory records → (result : Result K E) →

@@ -2,15 +2,13 @@
 -- is left; and there is one such place.
 use Rattle.std.proofs.Common.{ℕ, ◌≡◌, ◌+◌, ◌≤◌, Bool, List, [], ◌∷◌, ◌++◌, length, map, refl, ap, sym, ◌∙◌, subst, arith, inl, inr, ◌⊎◌, length-append, append-nil, append_assoc}
 use Rattle.std.proofs.lemmas.List.Concat.{flat_map-append}
-use Rattle.lert_levels.specs.OnDisk.{written}
-use Rattle.lert_base.specs.Packet.{keys_of}
 use Rattle.lert_base.specs.Packet.{Packet, events_of}
-use Rattle.lert_cone.specs.{Framed.last_flush, History.{most_payload, end_of}, Replay.{MayFollow, ReplayLeavesAt}, Sound.IsJournal}
+use Rattle.lert_cone.specs.{Framed.last_flush, History.{most_payload, end_of, written}, Replay.{MayFollow, ReplayLeavesAt}, Sound.IsJournal}
 use Rattle.lert_cone.proofs.{GateLaws.{closed_or_leaves, ends_there, is_next, one_packet, one_replay_place, packet_or_leaves}, SoundLaws.{counted_more, end_more, events_more}}
 use Rattle.lert_gatelog.specs.Gated.{IsClosed, IsOpen, Records, next_gate}
 use Rattle.lert_gatelog.proofs.Deciding.{open_or_closed}
 use Rattle.lert_journal.specs.{Journal.HoldsPacket, Payload.payload_of}
-use Rattle.lert_spec.specs.declared.numbers.Numbers.{Numbers}
+use Rattle.lert_spec.specs.declared.{item.Item.Item, numbers.Numbers.Numbers}
 use Rattle.lert_recover.specs.Replayed.{AreReplayed, FlushesNothing, HasReplayed, JournalEnds, JournalLeavesAt}
 
 module _ (s : Numbers) (cone n0 : ℕ) (closed : Bool) (bytes : List ℕ) where
@@ -28,15 +26,15 @@ module _ (s : Numbers) (cone n0 : ℕ) (closed : Bool) (bytes : List ℕ) where
 
   -- ---- by the first packet
 
-  counts : (n : ℕ) (packet : Packet) (rest : List Packet) → n + length (keys_of packet) + length (events_of rest) ≡ n + length (events_of (packet ∷ rest))
-  counts n packet rest = omega (arith, length-append (keys_of packet) (events_of rest))
+  counts : (n : ℕ) (packet : Packet) (rest : List Packet) → n + length packet.items + length (events_of rest) ≡ n + length (events_of (packet ∷ rest))
+  counts n packet rest = omega (arith, length-append packet.items (events_of rest))
 
   -- at the gate itself
   pub here : (n gate at : ℕ) → Here n gate at → Leaves n gate at
   here n gate at leaves = record { packets = []; end = gate; stand = refl; leaves = subst (λ m. Here m gate at) (let same : n ≡ n + 0 = omega arith in same) leaves }
 
   -- behind a packet
-  pub later : (n gate at : ℕ) (packet : Packet) → Holds gate packet → MayFollow s n0 closed n packet → Leaves (n + length (keys_of packet)) (next_gate gate (payload_of written packet)) at →
+  pub later : (n gate at : ℕ) (packet : Packet) → Holds gate packet → MayFollow s n0 closed n packet → Leaves (n + length packet.items) (next_gate gate (payload_of written packet)) at →
       Leaves n gate at
   later n gate at packet holds may rest = record {
     packets = packet ∷ rest.packets;
@@ -46,7 +44,7 @@ module _ (s : Numbers) (cone n0 : ℕ) (closed : Bool) (bytes : List ℕ) where
   }
 
   abbrev Behind : ℕ → ℕ → ℕ → Type 0
-  Behind n gate at = (packet : Packet) × Holds gate packet × MayFollow s n0 closed n packet × Leaves (n + length (keys_of packet)) (next_gate gate (payload_of written packet)) at
+  Behind n gate at = (packet : Packet) × Holds gate packet × MayFollow s n0 closed n packet × Leaves (n + length packet.items) (next_gate gate (payload_of written packet)) at
 
   first_of : (n gate at : ℕ) (packets : List Packet) (end : ℕ) → Stand n gate packets end → Here (n + length (events_of packets)) end at → Here n gate at ⊎ Behind n gate at
   first_of n gate at [] end stand leaves = inl (subst (λ g. Here n g at) stand (subst (λ m. Here m end at) (let same : n + 0 ≡ n = omega arith in same) leaves))
@@ -62,7 +60,7 @@ module _ (s : Numbers) (cone n0 : ℕ) (closed : Bool) (bytes : List ℕ) where
   leaves_behind [] n gate end at stand leaves = subst (λ g. Leaves n g at) stand (subst (λ m. Leaves m end at) (let same : n + 0 ≡ n = omega arith in same) leaves)
   leaves_behind (packet ∷ rest) n gate end at stand leaves =
       later n gate at packet stand.0 stand.1
-      (leaves_behind rest (n + length (keys_of packet)) (next_gate gate (payload_of written packet)) end at stand.2 (subst (λ m. Leaves m end at) (sym (counts n packet rest)) leaves))
+      (leaves_behind rest (n + length packet.items) (next_gate gate (payload_of written packet)) end at stand.2 (subst (λ m. Leaves m end at) (sym (counts n packet rest)) leaves))
 
   pub leaves_past : (packets : List Packet) (n gate end at : ℕ) → Stand n gate packets end → Leaves n gate at → Leaves (n + length (events_of packets)) end at
   leaves_past [] n gate end at stand leaves = subst (λ g. Leaves (n + 0) g at) (sym stand) (subst (λ m. Leaves m gate at) (let same : n ≡ n + 0 = omega arith in same) leaves)
@@ -70,9 +68,9 @@ module _ (s : Numbers) (cone n0 : ℕ) (closed : Bool) (bytes : List ℕ) where
     | inl now ↦ absurd (packet_or_leaves s cone n0 closed n bytes gate at packet stand.0 stand.1 now)
     | inr behind ↦ (
         let same = one_packet s cone bytes gate behind.0 packet behind.1 stand.0 in
-        let there = subst (λ (p : Packet). Leaves (n + length (keys_of p)) (next_gate gate (payload_of written p)) at) same behind.3 in
+        let there = subst (λ (p : Packet). Leaves (n + length p.items) (next_gate gate (payload_of written p)) at) same behind.3 in
         subst (λ m. Leaves m end at) (counts n packet rest)
-        (leaves_past rest (n + length (keys_of packet)) (next_gate gate (payload_of written packet)) end at stand.2 there))
+        (leaves_past rest (n + length packet.items) (next_gate gate (payload_of written packet)) end at stand.2 there))
   ]
 
   -- ---- one place, or a closed gate
@@ -102,7 +100,7 @@ module _ (s : Numbers) (cone n0 : ℕ) (closed : Bool) (bytes : List ℕ) where
   ends_behind [] n gate end stand ends = subst (λ g. JournalEnds s cone n0 closed bytes n g) stand
       (subst (λ m. JournalEnds s cone n0 closed bytes m end) (let same : n + 0 ≡ n = omega arith in same) ends)
   ends_behind (packet ∷ rest) n gate end stand ends =
-      let further = ends_behind rest (n + length (keys_of packet)) (next_gate gate (payload_of written packet)) end stand.2
+      let further = ends_behind rest (n + length packet.items) (next_gate gate (payload_of written packet)) end stand.2
       (subst (λ m. JournalEnds s cone n0 closed bytes m end) (sym (counts n packet rest)) ends) in
       record {
         packets = packet ∷ further.packets;
@@ -124,7 +122,7 @@ module _ (s : Numbers) (cone n0 : ℕ) (closed : Bool) (bytes : List ℕ) where
   more (first ∷ rest) n gate end packet stand holds may = (
     stand.0,
     stand.1,
-    more rest (n + length (keys_of first)) (next_gate gate (payload_of written first)) end packet stand.2 holds
+    more rest (n + length first.items) (next_gate gate (payload_of written first)) end packet stand.2 holds
         (subst (λ m. MayFollow s n0 closed m packet) (sym (counts n first rest)) may),
   )
 
@@ -134,45 +132,45 @@ module _ (s : Numbers) (cone n0 : ℕ) (closed : Bool) (bytes : List ℕ) where
   records_behind [] n gate end packet stand opened =
       (subst (λ g. IsOpen (most_payload s) bytes g (payload_of written packet)) stand opened, ap (λ g. next_gate g (payload_of written packet)) stand)
   records_behind (first ∷ rest) n gate end packet stand opened =
-      (stand.0.stands, records_behind rest (n + length (keys_of first)) (next_gate gate (payload_of written first)) end packet stand.2 opened)
+      (stand.0.stands, records_behind rest (n + length first.items) (next_gate gate (payload_of written first)) end packet stand.2 opened)
 
   -- ---- behind the keys that came before
 
-  module _ (before : List ℕ) (first : ℕ) where
-    abbrev Has : ℕ → List ℕ → Type 0
+  module _ (before : List Item) (first : ℕ) where
+    abbrev Has : ℕ → List Item → Type 0
     Has gate events = HasReplayed s cone n0 closed bytes before first gate events
 
     pub replayed_none : Has first before
     replayed_none = record { packets = []; stand = refl; events_are = sym (append-nil before) }
 
     -- how many keys they are
-    pub count_of : (gate : ℕ) (events : List ℕ) (has : Has gate events) → length events ≡ length before + length (events_of has.packets)
+    pub count_of : (gate : ℕ) (events : List Item) (has : Has gate events) → length events ≡ length before + length (events_of has.packets)
     count_of gate events has = ap length has.events_are ∙ length-append before (events_of has.packets)
 
-    pub replayed_more : (gate : ℕ) (events : List ℕ) (packet : Packet) → Has gate events → Holds gate packet → MayFollow s n0 closed (length events) packet →
-        Has (next_gate gate (payload_of written packet)) (events ++ keys_of packet)
+    pub replayed_more : (gate : ℕ) (events : List Item) (packet : Packet) → Has gate events → Holds gate packet → MayFollow s n0 closed (length events) packet →
+        Has (next_gate gate (payload_of written packet)) (events ++ packet.items)
     replayed_more gate events packet has holds may = record {
       packets = has.packets ++ packet ∷ [];
       stand = more has.packets (length before) first gate packet has.stand holds (subst (λ m. MayFollow s n0 closed m packet) (count_of gate events has) may);
-      events_are = ap (λ keys. keys ++ keys_of packet) has.events_are
-          ∙ (append_assoc before (events_of has.packets) (keys_of packet) ∙ ap (λ keys. before ++ keys) (sym (events_more has.packets packet)));
+      events_are = ap (λ keys. keys ++ packet.items) has.events_are
+          ∙ (append_assoc before (events_of has.packets) packet.items ∙ ap (λ keys. before ++ keys) (sym (events_more has.packets packet)));
     }
 
     -- no flush comes with the next packet of a journal that brings none
-    pub none_flushed : (gate : ℕ) (events : List ℕ) (packet : Packet) → Has gate events → FlushesNothing s n0 bytes (length before) first →
-        IsOpen (most_payload s) bytes gate (payload_of written packet) → last_flush s (length events + length (keys_of packet)) ≤ n0
+    pub none_flushed : (gate : ℕ) (events : List Item) (packet : Packet) → Has gate events → FlushesNothing s n0 bytes (length before) first →
+        IsOpen (most_payload s) bytes gate (payload_of written packet) → last_flush s (length events + length packet.items) ≤ n0
     none_flushed gate events packet has nothing opened =
-        let count : length before + length (events_of (has.packets ++ packet ∷ [])) ≡ length events + length (keys_of packet) =
+        let count : length before + length (events_of (has.packets ++ packet ∷ [])) ≡ length events + length packet.items =
         omega (arith, count_of gate events has, counted_more has.packets packet) in
         subst (λ n. last_flush s n ≤ n0) count
         (nothing (has.packets ++ packet ∷ []) (next_gate gate (payload_of written packet)) (records_behind has.packets (length before) first gate packet has.stand opened))
 
     -- what is so behind what was replayed is so from the first gate on
-    pub leaves_from_start : (gate : ℕ) (events : List ℕ) (at : ℕ) → Has gate events → Leaves (length events) gate at → Leaves (length before) first at
+    pub leaves_from_start : (gate : ℕ) (events : List Item) (at : ℕ) → Has gate events → Leaves (length events) gate at → Leaves (length before) first at
     leaves_from_start gate events at has leaves =
         leaves_behind has.packets (length before) first gate at has.stand (subst (λ m. Leaves m gate at) (count_of gate events has) leaves)
 
-    pub ends_from_start : (gate : ℕ) (events : List ℕ) → Has gate events → JournalEnds s cone n0 closed bytes (length events) gate →
+    pub ends_from_start : (gate : ℕ) (events : List Item) → Has gate events → JournalEnds s cone n0 closed bytes (length events) gate →
         JournalEnds s cone n0 closed bytes (length before) first
     ends_from_start gate events has ends =
         ends_behind has.packets (length before) first gate has.stand (subst (λ m. JournalEnds s cone n0 closed bytes m gate) (count_of gate events has) ends)
@@ -192,14 +190,14 @@ module _ (s : Numbers) (cone n0 : ℕ) (closed : Bool) (bytes : List ℕ) where
     follows (packet ∷ others) front rest n gate end is start stand shut =
         let next = is_next s cone bytes history front (events_of front) gate journal (record { rest = rest; is = is; keys = refl; gate_is = start }) packet stand.0 in
         sym (append_assoc front (packet ∷ []) others)
-        ∙ follows others (front ++ packet ∷ []) next.rest (n + length (keys_of packet)) (next_gate gate (payload_of written packet)) end
+        ∙ follows others (front ++ packet ∷ []) next.rest (n + length packet.items) (next_gate gate (payload_of written packet)) end
         (next.is ∙ sym (append_assoc front (packet ∷ []) next.rest)) (ap (λ g. next_gate g (payload_of written packet)) start ∙ end_more front packet) stand.2 shut
 
     -- and the keys are all of it, where those before are the ones of the packets before
-    pub all_keys : (done rest : List Packet) (before events : List ℕ) (first gate : ℕ) → history ≡ done ++ rest → before ≡ events_of done → first ≡ end_of done →
+    pub all_keys : (done rest : List Packet) (before events : List Item) (first gate : ℕ) → history ≡ done ++ rest → before ≡ events_of done → first ≡ end_of done →
         HasReplayed s cone n0 closed bytes before first gate events → IsClosed bytes gate → events ≡ events_of history
     all_keys done rest before events first gate is before_is first_is has shut =
         has.events_are
         ∙ (ap (λ keys. keys ++ events_of has.packets) before_is
-        ∙ (sym (flat_map-append (λ (p : Packet). keys_of p) done has.packets)
+        ∙ (sym (flat_map-append (λ (p : Packet). p.items) done has.packets)
         ∙ ap events_of (follows has.packets done rest (length before) first gate is first_is has.stand shut)))

@@ -1,18 +1,16 @@
 -- A cone that replays one packet more, or stops.
 use Rattle.std.proofs.Common.{ℕ, ◌≡◌, ◌+◌, ◌-◌, ◌*◌, ◌^◌, ◌<◌, ◌≤◌, Some, Option, List, ◌++◌, length, max, refl, ap, sym, ◌∙◌, subst, arith, length-append}
 use Rattle.lert_cone.proofs.SoundLaws.{some_keys_of}
-use Rattle.lert_levels.specs.OnDisk.{written}
-use Rattle.lert_base.specs.Packet.{keys_of}
 use Rattle.lert_base.specs.Packet.{Packet}
 use Rattle.lert_bay.specs.{declared.bay.TheConstants.{JOURNAL, FRAMES}, Files.{Files, IfTold}, Kept.{Bays, CallsBay}}
 use Rattle.lert_reports.specs.declared.log_point.LogPoint.{LogPoint}
-use Rattle.lert_cone.specs.{Framed.{HoldsSome, last_flush}, History.most_payload, Listing.Listing, Replay.{MayFollow, ReplayLeavesAt}, Replaying.{Replaying, IsSameReplay}}
+use Rattle.lert_cone.specs.{Framed.{HoldsSome, last_flush}, History.{most_payload, written}, Listing.Listing, Replay.{MayFollow, ReplayLeavesAt}, Replaying.{Replaying, IsSameReplay}}
 use Rattle.lert_cone.specs.{Replays.{BringsNoFlush, HasTaken, IsUnwritten}, Sound.IsSound}
 use Rattle.lert_files.specs.Opened.{WritesNothing}
 use Rattle.lert_gatelog.specs.Gated.{IsClosed, IsOpen, next_gate}
 use Rattle.lert_journal.specs.{Journal.HoldsPacket, Payload.payload_of}
 use Rattle.lert_levels.specs.declared.rows.bin_at.BinAt.{BinAt}
-use Rattle.lert_spec.specs.{declared.numbers.Numbers.Numbers, Edges.capacity}
+use Rattle.lert_spec.specs.{declared.item.Item.Item, declared.numbers.Numbers.Numbers, Edges.capacity}
 use Rattle.lert_recover.specs.Replayed.{FlushesNothing, HasReplayed, IsJournalSame}
 use Rattle.lert_recover.proofs.ReplayedLaws.{none_flushed, replayed_more}
 
@@ -33,7 +31,7 @@ journal_on one two = record {
 }
 
 -- before the first packet
-pub framed_none : (files : Option Files) (s : Numbers) (n0 : ℕ) (rows : List (List BinAt)) (events : List ℕ) → length events ≤ n0 → (seen there : Files) → files ≡ Some seen →
+pub framed_none : (files : Option Files) (s : Numbers) (n0 : ℕ) (rows : List (List BinAt)) (events : List Item) → length events ≤ n0 → (seen there : Files) → files ≡ Some seen →
     files ≡ Some there → HoldsSome s n0 rows (seen FRAMES) → HoldsSome s (max n0 (length events)) rows (there FRAMES)
 framed_none files s n0 rows events few seen there told told_there some =
     let n_is : n0 ≡ max n0 (length events) = omega (arith, few) in
@@ -51,7 +49,7 @@ same_on start old new one two = record { settings = two.settings ∙ one.setting
 
 module _ {B : Type 0} (files : B → Option Files) (start old new : Replaying B) where
   module _ (seen : Files) (told : files start.bay ≡ Some seen) (same : IsSameReplay start old) (journal : IsJournalSame (files start.bay) (files old.bay)) (first gate : ℕ) where
-    abbrev Read : ℕ → List ℕ → Type 0
+    abbrev Read : ℕ → List Item → Type 0
     Read end events = HasReplayed start.listing.settings start.listing.cone start.last.n0 start.last.closed (seen JOURNAL) start.listing.events first end events
 
     -- what a call took
@@ -61,7 +59,7 @@ module _ {B : Type 0} (files : B → Option Files) (start old new : Replaying B)
         × HoldsPacket written old.listing.settings old.listing.cone (most_payload old.listing.settings) (now JOURNAL) gate packet
         × MayFollow old.listing.settings old.last.n0 old.last.closed (length old.listing.events) packet
         × (next ≡ next_gate gate (payload_of written packet))
-        × (new.listing ≡ record old.listing { events = old.listing.events ++ keys_of packet })
+        × (new.listing ≡ record old.listing { events = old.listing.events ++ packet.items })
 
     pub read_on : (next : ℕ) → Read gate old.listing.events → ((now : Files) → files old.bay ≡ Some now → Takes now next) → Read next new.listing.events
     read_on next has taken =
@@ -78,7 +76,7 @@ module _ {B : Type 0} (files : B → Option Files) (start old new : Replaying B)
         subst (λ (last : LogPoint). MayFollow s last.n0 last.closed (length old.listing.events) packet) same.last
         (subst (λ (t : Numbers). MayFollow t old.last.n0 old.last.closed (length old.listing.events) packet) same.settings took.2) in
         subst (Read next) (sym (ap (λ (l : Listing). l.events) took.4))
-        (subst (λ (g : ℕ). Read g (old.listing.events ++ keys_of packet)) (sym took.3)
+        (subst (λ (g : ℕ). Read g (old.listing.events ++ packet.items)) (sym took.3)
         (replayed_more s start.listing.cone start.last.n0 start.last.closed (seen JOURNAL) start.listing.events first gate old.listing.events packet has own may))
 
     -- where a call found the format left
@@ -113,7 +111,7 @@ module _ {B : Type 0} (files : B → Option Files) (start old new : Replaying B)
         subst (λ (bytes : List ℕ). IsOpen (most_payload s) bytes gate (payload_of written packet)) there.2
         (subst (λ (t : Numbers). IsOpen (most_payload t) (there.0 JOURNAL) gate (payload_of written packet)) same.settings holds.stands) in
         let none = none_flushed s start.listing.cone start.last.n0 start.last.closed (seen JOURNAL) start.listing.events first gate old.listing.events packet has nothing opened in
-        subst (λ (t : Numbers). last_flush t (n + length (keys_of packet)) ≤ max old.last.n0 n) (sym same.settings)
+        subst (λ (t : Numbers). last_flush t (n + length packet.items) ≤ max old.last.n0 n) (sym same.settings)
         (omega (arith, none, ap (λ (last : LogPoint). last.n0) same.last))
 
 -- each packet has a key, so fewer are left
@@ -134,7 +132,7 @@ pub has_grown : {B : Type 0} (files : B → Option Files) (start old new : Repla
     gate ≤ 2 ^ 46 + 65536 * length old.listing.events → HasTaken files old new gate next → next ≤ gate + 65536 → HasGrown start old new next
 has_grown {B = B} files start old new gate next same counted near took forward =
     let n = length old.listing.events in
-    let keys = keys_of took.packet in
+    let keys = took.packet.items in
     let count : length new.listing.events ≡ n + length keys = ap (λ (k : Replaying B). length k.listing.events) took.is ∙ length-append old.listing.events keys in
     let some : 0 < length keys = some_keys_of old.listing.settings old.listing.cone took.packet took.journaled in
     let within : n + length keys ≤ capacity start.listing.settings = subst (λ (s : Numbers). n + length keys ≤ capacity s) same.settings took.follows.within in

@@ -4,9 +4,8 @@ use Rattle.std.proofs.{lemmas.List.{get_or-drop, get_or-map}, lemmas.List.FromFn
 use Rattle.std.specs.Prelude.{All, slice_index}
 use Rattle.std.specs.List.{range_with_len}
 use Rattle.byteorder.specs.Numbers.{little_from-lt}
-use Rattle.lert_levels.specs.OnDisk.{written}
 use Rattle.lert_base.specs.Packet.{events_of, keys_of}
-use Rattle.lert_cone.specs.{History.most_payload, Replay.{ReplayLeavesAt, In_record, Past_the_end, Too_many}}
+use Rattle.lert_cone.specs.{History.{most_payload, written}, Replay.{ReplayLeavesAt, In_record, Past_the_end, Too_many}}
 use Rattle.lert_gatelog.specs.Gated.{IsOpen, BreaksAt, next_gate}
 use Rattle.lert_journal.specs.{Journal.HoldsPacket, Payload.{item_in, left, packet_in, payload_of}}
 use Rattle.lert_journal.proofs.PayloadWhole.{payload_back, whole_items, whole_packet}
@@ -31,7 +30,7 @@ module _ (payload : List ℕ) (small : (k : ℕ) → slice_index payload k < 256
   pub record IsPacketOf (s : Numbers) (cone : ℕ) (bytes : List ℕ) (gate : ℕ) : Type 0 where
     pub holds : HoldsPacket written s cone (most_payload s) bytes gate (packet_in written payload)
     pub text : payload_of written (packet_in written payload) ≡ payload
-    pub count : length (keys_of (packet_in written payload)) ≡ (length payload - 8) / 8
+    pub count : length (packet_in written payload).items ≡ (length payload - 8) / 8
 
   pub packet_there : (s : Numbers) (cone : ℕ) (bytes : List ℕ) (gate : ℕ) → left written s cone payload ≡ None → IsOpen (most_payload s) bytes gate payload → IsPacketOf s cone bytes gate
   packet_there s cone bytes gate none opened =
@@ -41,7 +40,7 @@ module _ (payload : List ℕ) (small : (k : ℕ) → slice_index payload k < 256
       record {
         holds = record { stands = subst (IsOpen (most_payload s) bytes gate) (sym text) opened; journaled = whole_packet written s cone payload small none; fits = keys_fit };
         text = text;
-        count = length-keys_in items ∙ length-map-range_with_len (item_in written payload) 0 ((length payload - 8) / 8);
+        count = length-map-range_with_len (item_in written payload) 0 ((length payload - 8) / 8);
       }
 
   pub some_keys : (s : Numbers) (cone : ℕ) → left written s cone payload ≡ None → (8 ≤ length payload) × (1 ≤ (length payload - 8) / 8)
@@ -55,7 +54,7 @@ module _ (payload : List ℕ) (small : (k : ℕ) → slice_index payload k < 256
     pub found_packet : n + keys ≤ capacity s → (closed ≡ true → n + keys ≤ n0) → IsFound s cone n0 closed n bytes gate (next_gate gate payload) (Followed keys)
     found_packet within before =
         let there = packet_there s cone bytes gate none opened in
-        let count : keys ≡ length (keys_of (packet_in written payload)) = keys_is ∙ sym there.count in (
+        let count : keys ≡ length (packet_in written payload).items = keys_is ∙ sym there.count in (
           packet_in written payload,
           there.holds,
           record { within = omega (arith, within, count); before_closing = λ ended. omega (arith, before ended, count) },
@@ -86,10 +85,10 @@ module _ (s : Numbers) (cone n0 : ℕ) (closed : Bool) (n : ℕ) (bytes : List �
   pub onward_packet : (at : ℕ) → JournalLeavesAt s cone n0 closed bytes (n + keys) next at → JournalLeavesAt s cone n0 closed bytes n gate at
   onward_packet at leaves =
       later s cone n0 closed bytes n gate at found.0 found.1 found.2
-      (subst (λ g. JournalLeavesAt s cone n0 closed bytes (n + length (keys_of found.0)) g at) found.4
+      (subst (λ g. JournalLeavesAt s cone n0 closed bytes (n + length found.0.items) g at) found.4
       (subst (λ k. JournalLeavesAt s cone n0 closed bytes (n + k) next at) found.3 leaves))
 
   pub ends_packet : JournalEnds s cone n0 closed bytes (n + keys) next → JournalEnds s cone n0 closed bytes n gate
   ends_packet ends =
-      let count : n + keys ≡ n + length (events_of (found.0 ∷ [])) = ap (λ k. n + k) (found.3 ∙ ap length (sym (append-nil (keys_of found.0)))) in
+      let count : n + keys ≡ n + length (events_of (found.0 ∷ [])) = ap (λ k. n + k) (found.3 ∙ ap length (sym (append-nil found.0.items))) in
       ends_behind s cone n0 closed bytes (found.0 ∷ []) n gate next (found.1, found.2, found.4) (subst (λ m. JournalEnds s cone n0 closed bytes m next) count ends)

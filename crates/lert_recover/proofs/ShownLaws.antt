@@ -1,59 +1,59 @@
 -- The reports of a cone that is reopened, of which those that were shown before are the first.
-use Rattle.lert_base.specs.Packet.{keys_of}
-use Rattle.lert_spec.specs.Counts.{plain}
 use Rattle.std.proofs.Common.{◌≡◌, ℕ, ◌^◌, ◌<◌, ◌≤◌, Bool, true, false, Option, Some, Result, Ok, Err, List, [], ◌∷◌, ◌++◌, length, All, length-append, ap, sym, ◌∙◌, refl, subst, arith}
 use Rattle.std.proofs.{lemmas.List.Concat.flat_map-append, lemmas.List.Elements.{All-head, All-tail}, lemmas.Option.same_Some}
 use Rattle.std.specs.Prelude.{IfOk, MatchResult, if◌then◌else◌}
-use Rattle.lert_base.specs.Packet.{Packet, events_of}
+use Rattle.lert_base.specs.Packet.{Packet, events_of, keys_of}
 use Rattle.lert_bay.specs.Files.{Files}
 use Rattle.lert_cone.specs.{declared.state.ConeState.TheVariants.{Finished, Running}, Sound.{IsSound, KeysFit}, Stands.{Standing, StandsFor, WasSound, is_broken}}
 use Rattle.lert_cone.proofs.MadeReports.{BeginsWith, closing_begins, look_begins}
 use Rattle.lert_reports.specs.Log.{is_closed}
-use Rattle.lert_spec.specs.{declared.numbers.Numbers.Numbers, declared.report.Report.Report, Limits.IsValid, Look.{closing, look, look_to}}
-use Rattle.lert_spec.proofs.LookLaws.{AreKeys, look_to-append}
+use Rattle.lert_spec.specs.{Counts.weighed, declared.{item.Item.Item, numbers.Numbers.Numbers, report.Report.Report}, Items.keys_in, Limits.IsValid, Look.{closing_of, look_of, look_up_to}}
+use Rattle.lert_spec.proofs.LookLaws.{HaveKeys, look_to-append}
 use Rattle.lert_recover.specs.{Replayed.IsJournalSame, Shown.reports_for}
 use Rattle.lert_recover.proofs.MomentLaws.{sound_as}
 
 -- ---- keys of 64 bits
 
-keys_joined : (keys others : List ℕ) → All (λ key. key < 2 ^ 64) keys → AreKeys others → AreKeys (keys ++ others)
+keys_joined : (items others : List Item) → All (λ key. key < 2 ^ 64) (keys_in items) → HaveKeys weighed others → HaveKeys weighed (items ++ others)
 keys_joined [] others fit rest = rest
-keys_joined (key ∷ keys) others fit rest =
-    (All-head (λ key. key < 2 ^ 64) key keys fit, keys_joined keys others (All-tail (λ key. key < 2 ^ 64) key keys fit) rest)
+keys_joined (item ∷ items) others fit rest = (
+  All-head (λ key. key < 2 ^ 64) item.key (keys_in items) fit,
+  keys_joined items others (All-tail (λ key. key < 2 ^ 64) item.key (keys_in items) fit) rest,
+)
 
-are_keys : (history : List Packet) → KeysFit history → AreKeys (events_of history)
-are_keys [] fit = tt
-are_keys (packet ∷ rest) fit =
-    keys_joined (keys_of packet) (events_of rest) (All-head (λ (p : Packet). All (λ key. key < 2 ^ 64) (keys_of p)) packet rest fit)
-    (are_keys rest (All-tail (λ (p : Packet). All (λ key. key < 2 ^ 64) (keys_of p)) packet rest fit))
+have_keys : (history : List Packet) → KeysFit history → HaveKeys weighed (events_of history)
+have_keys [] fit = tt
+have_keys (packet ∷ rest) fit =
+    keys_joined packet.items (events_of rest) (All-head (λ (p : Packet). All (λ key. key < 2 ^ 64) (keys_of p)) packet rest fit)
+    (have_keys rest (All-tail (λ (p : Packet). All (λ key. key < 2 ^ 64) (keys_of p)) packet rest fit))
 
-keys_split : (keys others : List ℕ) → AreKeys (keys ++ others) → AreKeys keys × AreKeys others
+keys_split : (items others : List Item) → HaveKeys weighed (items ++ others) → HaveKeys weighed items × HaveKeys weighed others
 keys_split [] others fit = (tt, fit)
-keys_split (key ∷ keys) others fit = (let behind = keys_split keys others fit.1 in ((fit.0, behind.0), behind.1))
+keys_split (item ∷ items) others fit = (let behind = keys_split items others fit.1 in ((fit.0, behind.0), behind.1))
 
 -- ---- the reports of the first events are the first reports
 
-begins_either : (s : Numbers) (events : List ℕ) (front : List Report) (closed : Bool) → BeginsWith front (look s events) →
-    BeginsWith front (if closed then closing s events else look s events)
+begins_either : (s : Numbers) (events : List Item) (front : List Report) (closed : Bool) → BeginsWith front (look_of weighed s events) →
+    BeginsWith front (if closed then closing_of weighed s events else look_of weighed s events)
 begins_either s events front true begun = closing_begins s events front begun
 begins_either s events front false begun = begun
 
-first_shown : (s : Numbers) (first more : List ℕ) (closed : Bool) → 1 ≤ s.threshold → AreKeys (first ++ more) →
-    BeginsWith (look s first) (if closed then closing s (first ++ more) else look s (first ++ more))
+first_shown : (s : Numbers) (first more : List Item) (closed : Bool) → 1 ≤ s.threshold → HaveKeys weighed (first ++ more) →
+    BeginsWith (look_of weighed s first) (if closed then closing_of weighed s (first ++ more) else look_of weighed s (first ++ more))
 first_shown s first more closed positive fit =
     let parts = keys_split first more fit in
     let all = first ++ more in
-    let same : look_to s all (length first) ≡ look s first = look_to-append plain s first more (length first) positive parts.0 parts.1 (omega arith) in
-    begins_either s all (look s first) closed
-    (subst (λ (front : List Report). BeginsWith front (look s all)) same (look_begins s all (length first) (length all) (omega (arith, length-append first more))))
+    let same : look_up_to weighed s all (length first) ≡ look_of weighed s first = look_to-append weighed s first more (length first) positive parts.0 parts.1 (omega arith) in
+    begins_either s all (look_of weighed s first) closed
+    (subst (λ (front : List Report). BeginsWith front (look_of weighed s all)) same (look_begins s all (length first) (length all) (omega (arith, length-append first more))))
 
 pub shown_in : (s : Numbers) (cone : ℕ) (seen : Files) (history more : List Packet) (closed : Bool) (reports : List Report) → IsValid s → IsSound s cone (history ++ more) seen →
-    reports ≡ reports_for s (history ++ more) closed → (rest : List Report) × (reports ≡ look s (events_of history) ++ rest)
+    reports ≡ reports_for s (history ++ more) closed → (rest : List Report) × (reports ≡ look_of weighed s (events_of history) ++ rest)
 shown_in s cone seen history more closed reports valid sound is =
-    let joined : events_of (history ++ more) ≡ events_of history ++ events_of more = flat_map-append (λ (p : Packet). keys_of p) history more in
-    let fit : AreKeys (events_of history ++ events_of more) = subst AreKeys joined (are_keys (history ++ more) sound.journal.fit) in
+    let joined : events_of (history ++ more) ≡ events_of history ++ events_of more = flat_map-append (λ (p : Packet). p.items) history more in
+    let fit : HaveKeys weighed (events_of history ++ events_of more) = subst (HaveKeys weighed) joined (have_keys (history ++ more) sound.journal.fit) in
     let begun = first_shown s (events_of history) (events_of more) closed valid.limits.threshold_from fit in
-    (begun.more, is ∙ (ap (λ (events : List ℕ). if closed then closing s events else look s events) joined ∙ begun.is))
+    (begun.more, is ∙ (ap (λ (events : List Item). if closed then closing_of weighed s events else look_of weighed s events) joined ∙ begun.is))
 
 -- ---- the cone
 
@@ -92,9 +92,9 @@ module _ {B : Type 0} (files : B → Option Files) (leaves : B → Files → Typ
       let whole = stands.whole (ap is_broken own.3 ∙ never_broken now.listing.closed) (was_sound now own made) there.0 there.1 in
       let closed_is = same_closed now.listing.closed (is_closed sound.logged) (sym own.3 ∙ state) in
       whole.in_step.reports_are
-      ∙ (ap (λ (closed : Bool). if closed then closing now.listing.settings now.listing.events else look now.listing.settings now.listing.events) closed_is
-      ∙ (ap (λ (t : Numbers). if is_closed sound.logged then closing t now.listing.events else look t now.listing.events) own.0
-      ∙ ap (λ (events : List ℕ). if is_closed sound.logged then closing s events else look s events) whole.keys))
+      ∙ (ap (λ (closed : Bool). if closed then closing_of weighed now.listing.settings now.listing.events else look_of weighed now.listing.settings now.listing.events) closed_is
+      ∙ (ap (λ (t : Numbers). if is_closed sound.logged then closing_of weighed t now.listing.events else look_of weighed t now.listing.events) own.0
+      ∙ ap (λ (events : List Item). if is_closed sound.logged then closing_of weighed s events else look_of weighed s events) whole.keys))
 
   module _ {E : Type 0} (bay_in : E → B) (Outside : E → Type 0) where
     pub reports_told : (result : Result (Standing B) E) →
@@ -108,6 +108,6 @@ module _ {B : Type 0} (files : B → Option Files) (leaves : B → Files → Typ
 
 pub shown_told : {B E : Type 0} (s : Numbers) (cone : ℕ) (seen : Files) (history more : List Packet) (closed : Bool) → IsValid s → IsSound s cone (history ++ more) seen →
     (result : Result (Standing B) E) → IfOk result (λ now. now.reports ≡ reports_for s (history ++ more) closed) →
-    IfOk result (λ now. (rest : List Report) × (now.reports ≡ look s (events_of history) ++ rest))
+    IfOk result (λ now. (rest : List Report) × (now.reports ≡ look_of weighed s (events_of history) ++ rest))
 shown_told s cone seen history more closed valid sound (Ok now) are = shown_in s cone seen history more closed now.reports valid sound are
 shown_told s cone seen history more closed valid sound (Err refused) are = tt

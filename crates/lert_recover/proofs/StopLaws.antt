@@ -4,13 +4,13 @@ use Rattle.lert_bay.specs.{declared.bay.TheConstants.{LOG, FRAMES}, Files.Files}
 use Rattle.lert_cone.specs.{declared.refusal.ReplayFault.ReplayFault, declared.refusal.ReplayFault.TheVariants.{Failed as ReplayFailed, Malformed as ReplayMalformed, Unsound as ReplayUnsound}}
 use Rattle.lert_cone.specs.{Replay.ReplayLeavesAt, Replaying.{Replaying, IsSameReplay}, Sound.IsSound, Stands.WereSoundAs, Tally.Shows}
 use Rattle.lert_levels.specs.declared.rows.bin_at.BinAt.{BinAt}
-use Rattle.lert_spec.specs.{declared.numbers.Numbers.Numbers, declared.report.Report.Report}
+use Rattle.lert_spec.specs.declared.{item.Item.Item, numbers.Numbers.Numbers, report.Report.Report}
 use Rattle.lert_files.specs.{declared.fault.ReopenFault.ReopenFault, declared.fault.ReopenFault.TheVariants.{Failed, Malformed}}
 use Rattle.lert_recover.specs.{Replayed.{HasReplayed, JournalEnds, JournalLeavesAt}, Reopened.{IsStopped, IsWhy, At_call, At_place, At_sight}}
 use Rattle.lert_recover.proofs.ReplayedLaws.{ends_from_start, here, leaves_from_start}
 
 -- a replay that stopped at a gate behind what it had replayed
-module _ (s : Numbers) (cone n0 : ℕ) (closed : Bool) (bytes before : List ℕ) (first gate n : ℕ) (events : List ℕ)
+module _ (s : Numbers) (cone n0 : ℕ) (closed : Bool) (bytes : List ℕ) (before : List Item) (first gate n : ℕ) (events : List Item)
     (has : HasReplayed s cone n0 closed bytes before first gate events) (n_is : n ≡ length events) where
   start_leaves : (at : ℕ) → JournalLeavesAt s cone n0 closed bytes n gate at → JournalLeavesAt s cone n0 closed bytes (length before) first at
   start_leaves at leaves =

@@ -10,11 +10,11 @@ use Rattle.lert_levels.specs.declared.rows.bin_at.BinAt.{BinAt}
 use Rattle.lert_files.specs.{declared.fault.ReopenFault.ReopenFault, declared.fault.ReopenFault.TheVariants.{Failed, Malformed, OtherSettings}, Headed.{HasOther, IsHeaded}, Opened.AreOpened}
 use Rattle.lert_recover.specs.Replayed.{AreInFormat, FirstLeaves, HasReplayed, JournalEnds, JournalLeavesAt}
 use Rattle.lert_reports.specs.{Log.{is_closed, last_first, last_n0, last_offset, HasLog}, LogText.LogRecord}
-use Rattle.lert_spec.specs.declared.numbers.Numbers.{Numbers}
+use Rattle.lert_spec.specs.declared.{item.Item.Item, numbers.Numbers.Numbers}
 
 -- All of the files is in its format, but for what stands before the record of the journal that the log's last one names. These are
--- the keys that aren't read, and behind them those of the packets from that record on, up to the closed gate.
-pub record IsReopened (s : Numbers) (cone : ℕ) (seen : Files) (closed : Bool) (events : List ℕ) (gate : ℕ) : Type 0 where
+-- the items that aren't read, and behind them those of the packets from that record on, up to the closed gate.
+pub record IsReopened (s : Numbers) (cone : ℕ) (seen : Files) (closed : Bool) (events : List Item) (gate : ℕ) : Type 0 where
   pub records : List LogRecord
   pub log_end : ℕ
   pub rows : List (List BinAt)
@@ -24,8 +24,8 @@ pub record IsReopened (s : Numbers) (cone : ℕ) (seen : Files) (closed : Bool) 
   pub shut : IsClosed (seen JOURNAL) gate
   pub enough : last_n0 records ≤ length events
 
--- of that the journal alone: it has the cone's header, and these are the keys that a reopening has of it
-pub record IsReadOn (s : Numbers) (cone : ℕ) (seen : Files) (events : List ℕ) (gate : ℕ) : Type 0 where
+-- of that the journal alone: it has the cone's header, and these are the items that a reopening has of it
+pub record IsReadOn (s : Numbers) (cone : ℕ) (seen : Files) (events : List Item) (gate : ℕ) : Type 0 where
   pub headed : IsHeaded s cone (seen JOURNAL)
   pub records : List LogRecord
   pub log_end : ℕ

@@ -1,16 +1,14 @@
 -- The packets of a journal as they are replayed, and where the files of a cone first leave their format.
 use Rattle.std.specs.Prelude.{◌≡◌, ℕ, ◌+◌, ◌-◌, ◌≤◌, Bool, List, [], ◌∷◌, ◌++◌, length, map, Option}
-use Rattle.lert_levels.specs.OnDisk.{written}
-use Rattle.lert_base.specs.Packet.{keys_of}
 use Rattle.lert_base.specs.Packet.{Packet, events_of}
 use Rattle.lert_bay.specs.{declared.bay.TheConstants.JOURNAL, Files.{Files, Turns}}
-use Rattle.lert_cone.specs.{Framed.last_flush, History.{most_payload, end_of}, Replay.{MayFollow, ReplayLeavesAt}, Replaying.Replaying, Replays.Replays}
+use Rattle.lert_cone.specs.{Framed.last_flush, History.{most_payload, end_of, written}, Replay.{MayFollow, ReplayLeavesAt}, Replaying.Replaying, Replays.Replays}
 use Rattle.lert_gatelog.specs.Gated.{IsClosed, Records, next_gate}
 use Rattle.lert_journal.specs.{Journal.HoldsPacket, Payload.payload_of}
 use Rattle.lert_levels.specs.declared.rows.bin_at.BinAt.{BinAt}
 use Rattle.lert_files.specs.Opened.{AreOpened, LeaveAt}
 use Rattle.lert_reports.specs.{Log.{is_closed, last_first, last_n0, last_offset}, LogText.LogRecord}
-use Rattle.lert_spec.specs.declared.numbers.Numbers.{Numbers}
+use Rattle.lert_spec.specs.declared.{item.Item.Item, numbers.Numbers.Numbers}
 
 -- these packets stand one behind the other from a gate on up to another, and each may follow the events before it, of which
 -- n are before the first
@@ -19,7 +17,7 @@ AreReplayed s cone n0 closed bytes n gate [] end = end ≡ gate
 AreReplayed s cone n0 closed bytes n gate (packet ∷ rest) end =
     HoldsPacket written s cone (most_payload s) bytes gate packet
     × MayFollow s n0 closed n packet
-    × AreReplayed s cone n0 closed bytes (n + length (keys_of packet)) (next_gate gate (payload_of written packet)) rest end
+    × AreReplayed s cone n0 closed bytes (n + length packet.items) (next_gate gate (payload_of written packet)) rest end
 
 -- some packets so stand from a gate on, and behind them the format is left at this place
 pub record JournalLeavesAt (s : Numbers) (cone n0 : ℕ) (closed : Bool) (bytes : List ℕ) (n gate at : ℕ) : Type 0 where
@@ -36,8 +34,8 @@ pub record JournalEnds (s : Numbers) (cone n0 : ℕ) (closed : Bool) (bytes : Li
   pub shut : IsClosed bytes end
   pub enough : n0 ≤ n + length (events_of packets)
 
--- behind these keys some packets so stand from the gate `first` on up to another one, and with theirs the keys are `events`
-pub record HasReplayed (s : Numbers) (cone n0 : ℕ) (closed : Bool) (bytes before : List ℕ) (first gate : ℕ) (events : List ℕ) : Type 0 where
+-- behind these items some packets so stand from the gate `first` on up to another one, and with theirs the items are `events`
+pub record HasReplayed (s : Numbers) (cone n0 : ℕ) (closed : Bool) (bytes : List ℕ) (before : List Item) (first gate : ℕ) (events : List Item) : Type 0 where
   pub packets : List Packet
   pub stand : AreReplayed s cone n0 closed bytes (length before) first packets gate
   pub events_are : events ≡ before ++ events_of packets

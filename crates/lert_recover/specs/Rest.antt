@@ -1,9 +1,7 @@
 -- What stands at a gate of a journal that is read without a cone.
 use Rattle.std.specs.Prelude.{◌≡◌, ℕ, ◌+◌, ◌<◌, ◌≤◌, Bool, List, length}
-use Rattle.lert_levels.specs.OnDisk.{written}
-use Rattle.lert_base.specs.Packet.{keys_of}
 use Rattle.lert_base.specs.Packet.{Packet}
-use Rattle.lert_cone.specs.{History.most_payload, Replay.{MayFollow, ReplayLeavesAt}}
+use Rattle.lert_cone.specs.{History.{most_payload, written}, Replay.{MayFollow, ReplayLeavesAt}}
 use Rattle.lert_gatelog.specs.Gated.{IsClosed, next_gate}
 use Rattle.lert_journal.specs.{Journal.HoldsPacket, Payload.payload_of}
 use Rattle.lert_recover.specs.{declared.journal_rest.Found.Found, declared.journal_rest.Found.TheVariants.{Packet as Followed, End, Left}}
@@ -16,7 +14,7 @@ IsFound s cone n0 closed n bytes gate next (Followed keys) =
     (packet : Packet)
     × HoldsPacket written s cone (most_payload s) bytes gate packet
     × MayFollow s n0 closed n packet
-    × (keys ≡ length (keys_of packet))
+    × (keys ≡ length packet.items)
     × (next ≡ next_gate gate (payload_of written packet))
 IsFound s cone n0 closed n bytes gate next End = IsClosed bytes gate × (n0 ≤ n)
 IsFound s cone n0 closed n bytes gate next (Left at) = ReplayLeavesAt s cone n0 closed n bytes gate at

@@ -1,7 +1,6 @@
 //! A cone over the files of a stopped run.
 
 ghost use Rattle.std.specs.Prelude.{◌≡◌, ◌⊎◌, ℕ, ◌+◌, ◌-◌, ◌<◌, ◌≤◌, ◌^◌, ◌++◌, List, All, None, length, if◌then◌else◌, MatchResult, IfOk, IfErr, IsErrAnd};
-ghost use Rattle.lert_base.specs.Packet.{keys_of};
 ghost use Rattle.lert_base.specs.declared.kept.Kept.{Kept as KeptOf};
 ghost use Rattle.lert_base.specs.Packet.{Packet, events_of};
 ghost use Rattle.lert_bay.specs.declared.bay.TheConstants.{JOURNAL, LOG, FRAMES};
@@ -25,9 +24,10 @@ ghost use Rattle.lert_reports.specs.LogText.{LogRecord};
 ghost use Rattle.lert_recover.specs.Shown.{reports_for};
 ghost use Rattle.lert_recover.specs.Unharmed.{IsUnharmed, KeepsLogFrom};
 ghost use Rattle.lert_spec.specs.declared.report.Report.{Report};
+ghost use Rattle.lert_spec.specs.Counts.{weighed};
 ghost use Rattle.lert_spec.specs.Edges.{capacity};
 ghost use Rattle.lert_spec.specs.Limits.{IsValid};
-ghost use Rattle.lert_spec.specs.Look.{look};
+ghost use Rattle.lert_spec.specs.Look.{look_of};
 
 use crate::journal_rest::why_stopped;
 use crate::replay::replay_all;
@@ -73,15 +73,15 @@ pub fn reopen<B: Bay, T: CountTable>(
     ensures reports { IfTold (B.files bay) (λ seen. (h : List Packet) (sound : IsSound room.settings cone h seen) →
         IfOk result (λ now. now.reports ≡ reports_for room.settings h (is_closed sound.logged))) }
     ensures shown { IfTold (B.files bay) (λ seen. (h more : List Packet) → IsSound room.settings cone (h ++ more) seen →
-        IfOk result (λ now. (rest : List Report) × (now.reports ≡ look room.settings (events_of h) ++ rest))) }
+        IfOk result (λ now. (rest : List Report) × (now.reports ≡ look_of weighed room.settings (events_of h) ++ rest))) }
 
     // Told or not, it stands for each list of as many events. Where the files were told and sound for a list, that is such a list.
-    ensures stands { IfOk result (λ now. (h : List Packet) → All (λ packet. 0 < length (keys_of packet)) h → length (events_of h) ≡ now.events →
+    ensures stands { IfOk result (λ now. (h : List Packet) → All (λ packet. 0 < length packet.items) h → length (events_of h) ≡ now.events →
         IfTold (B.files bay) (λ seen. (other : List Packet) → IsSound room.settings cone other seen → IsSound room.settings cone h seen) →
         StandsFor B.files B.leaves B.faults now h) }
 
-    // Where the files are told, its keys are those of the journal's packets from the record on that the log's last one names, behind
-    // the keys that aren't read. Where that is a record of the whole journal, they are all keys of the journal.
+    // Where the files are told, its items are those of the journal's packets from the record on that the log's last one names, behind
+    // those that aren't read. Where that is a record of the whole journal, they are all items of the journal.
     ensures journal { IfTold (B.files bay) (λ seen. IfOk result (λ now. IsReadOn room.settings cone seen now.listing.events now.gate)) }
     ensures journal_whole { IfTold (B.files bay) (λ seen. (h : List Packet) → IsJournal room.settings cone h (seen JOURNAL) →
         (records : List LogRecord) (log_end : ℕ) → HasLog room.settings cone (seen LOG) records log_end → IsPlaceIn h (last_place records) →
@@ -153,7 +153,7 @@ fn reopen_in_order<B: Bay, T: CountTable>(
     ensures bounded { IfTold (B.files bay) (λ seen. (h : List Packet) → IsSound room.settings cone h seen → MatchResult result
         (λ now. B.handed_out now.bay JOURNAL ≤ B.handed_out bay JOURNAL + most_read room.settings)
         (λ refused. B.handed_out refused.bay JOURNAL ≤ B.handed_out bay JOURNAL + most_read room.settings)) }
-    ensures stands { IfOk result (λ now. (h : List Packet) → All (λ packet. 0 < length (keys_of packet)) h → length (events_of h) ≡ now.events →
+    ensures stands { IfOk result (λ now. (h : List Packet) → All (λ packet. 0 < length packet.items) h → length (events_of h) ≡ now.events →
         IfTold (B.files bay) (λ seen. (other : List Packet) → IsSound room.settings cone other seen → IsSound room.settings cone h seen) →
         StandsFor B.files B.leaves B.faults now h) }
     ensures stays_sound { IfTold (B.files bay) (λ seen. (h : List Packet) → IsSound room.settings cone h seen →
@@ -208,7 +208,7 @@ fn replay_journal<B: Bay, T: CountTable>(
         (λ refused. IsStopped cone.listing.settings cone.listing.cone cone.last.n0 cone.last.closed (seen JOURNAL) (length cone.listing.events) last.now.offset refused.fault)) }
     ensures fails { IfTold (B.files cone.bay) (λ _. IfErr result (λ refused. (h : List Packet) → ReplaysSome B.files B.leaves cone h →
         refused.fault ≡ ReopenFault.Failed)) }
-    ensures stands { IfOk result (λ now. (h : List Packet) → All (λ packet. 0 < length (keys_of packet)) h → length (events_of h) ≡ now.events →
+    ensures stands { IfOk result (λ now. (h : List Packet) → All (λ packet. 0 < length packet.items) h → length (events_of h) ≡ now.events →
         (WereSoundAs B.files cone.listing.settings cone.listing.cone cone.made → IfTold (B.files cone.bay) (λ _. ReplaysSome B.files B.leaves cone h)) → StandsFor B.files B.leaves B.faults now h) }
     ensures passed { IfOk result (λ now. cone.last.n0 ≤ length now.listing.events) }
     ensures counted { IfOk result (λ now. now.events ≡ length now.listing.events) }

@@ -16,6 +16,7 @@ ghost use Rattle.lert_files.specs.Opened.{WritesNothing};
 ghost use Rattle.lert_gatelog.specs.Gated.{IsClosed};
 ghost use Rattle.lert_recover.specs.Moments.{AreSound};
 ghost use Rattle.lert_recover.specs.Replayed.{FlushesNothing, HasReplayed, IsJournalSame, ReadsRest, ReplaysSome};
+ghost use Rattle.lert_spec.specs.declared.item.Item.{Item};
 ghost use Rattle.lert_spec.specs.Edges.{capacity};
 ghost use Rattle.lert_spec.specs.Limits.{IsValid};
 
@@ -47,7 +48,7 @@ pub fn replay_all<B: Bay, T: CountTable>(
     ensures told { IfTold (B.files cone.old.bay) (λ seen. MatchResult result
         (λ end. HasReplayed cone.old.listing.settings cone.old.listing.cone cone.old.last.n0 cone.old.last.closed (seen JOURNAL) cone.old.listing.events first
         end cone.new.listing.events × IsClosed (seen JOURNAL) end)
-        (λ stop. (events : List ℕ)
+        (λ stop. (events : List Item)
         × HasReplayed cone.old.listing.settings cone.old.listing.cone cone.old.last.n0 cone.old.last.closed (seen JOURNAL) cone.old.listing.events first stop.gate events
         × (stop.events ≡ length events)
         × ((at : ℕ) → stop.fault ≡ ReplayFault.Malformed at →

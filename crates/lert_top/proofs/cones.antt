@@ -9,4 +9,5 @@ pub mod HeavyLaws
 pub mod PrintedLaws
 pub mod StatusLaws
 pub mod TraceSums
+pub mod UnitLaws
 pub mod WovenLaws

@@ -12,7 +12,7 @@ use Rattle.lert_base.specs.Packet.{Packet, events_of, of_trace}
 use Rattle.lert_base.specs.Weave.{AreCut}
 use Rattle.lert_fleet.proofs.Places.{slice_get-set_other, slice_get-set_same}
 use Rattle.lert_spec.specs.declared.numbers.Numbers.{Numbers}
-use Rattle.lert_spec.specs.Mix.{part_of}
+use Rattle.lert_spec.specs.{Items.units, Mix.part_of}
 use Rattle.lert_worker.specs.Brings.{Brings, BringsPart, IsOwn}
 use Rattle.lert_worker.specs.Sending.{IsOf}
 
@@ -146,7 +146,6 @@ module _ (s : Numbers) (number cone : ℕ) (traces : List ℕ) (reads : List (Li
         few = is.few;
         by_is = is.by_is;
         of_one = subst (Contains traces) (sym is.trace_is) (place, slice_get_within traces place trace at, get_or_from_slice_get traces place trace trace at);
-        weights = is.weights;
       }) more each)
 
   own_order : IsNonDecreasing (map (λ (p : Packet). p.trace) (added ++ more))
@@ -163,8 +162,8 @@ module _ (s : Numbers) (number cone : ℕ) (traces : List ℕ) (reads : List (Li
     | inr apart ↦ subst (AreCut s.packet) (sym (of_other other apart)) (old.cut other)
   ]
 
-  -- the keys of all of them, or a beginning of those of the last trace
-  pub brings_more : events_of more ≡ part_of s cone keys → Brings s number cone traces (set reads place keys) (added ++ more)
+  -- the items of all of them, or a beginning of those of the last trace
+  pub brings_more : events_of more ≡ units (part_of s cone keys) → Brings s number cone traces (set reads place keys) (added ++ more)
   brings_more joined = record {
     each = own_each;
     in_order = own_order;
@@ -172,7 +171,7 @@ module _ (s : Numbers) (number cone : ℕ) (traces : List ℕ) (reads : List (Li
       | inl same ↦
           let trace_is : trace ≡ found = same_Some trace found (sym at ∙ (ap (slice_get traces) (sym same) ∙ is_trace)) in
           let keys_are : keys ≡ read = same_Some keys read (sym (slice_get-set_same reads place keys within) ∙ (ap (slice_get (set reads place keys)) (sym same) ∙ is_read)) in
-          ap (λ t. events_of (of_trace (added ++ more) t)) (sym trace_is) ∙ (ap events_of of_here ∙ (joined ∙ ap (part_of s cone) keys_are))
+          ap (λ t. events_of (of_trace (added ++ more) t)) (sym trace_is) ∙ (ap events_of of_here ∙ (joined ∙ ap (λ ks. units (part_of s cone ks)) keys_are))
       | inr apart ↦
           let others = apart_at traces up other place found trace is_trace at apart in
           ap events_of (of_other found others) ∙ old.joined other found read is_trace (sym (slice_get-set_other reads place other keys apart) ∙ is_read)
@@ -180,7 +179,7 @@ module _ (s : Numbers) (number cone : ℕ) (traces : List ℕ) (reads : List (Li
     cut = own_cut;
   }
 
-  pub brings_part : BeginsWith (part_of s cone keys) (events_of more) → BringsPart s number cone traces (set reads place keys) (added ++ more)
+  pub brings_part : BeginsWith (units (part_of s cone keys)) (events_of more) → BringsPart s number cone traces (set reads place keys) (added ++ more)
   brings_part begins = record {
     each = own_each;
     in_order = own_order;
@@ -189,7 +188,7 @@ module _ (s : Numbers) (number cone : ℕ) (traces : List ℕ) (reads : List (Li
           let trace_is : trace ≡ found = same_Some trace found (sym at ∙ (ap (slice_get traces) (sym same) ∙ is_trace)) in
           let keys_are : keys ≡ read = same_Some keys read (sym (slice_get-set_same reads place keys within) ∙ (ap (slice_get (set reads place keys)) (sym same) ∙ is_read)) in
           let events : events_of (of_trace (added ++ more) found) ≡ events_of more = ap (λ t. events_of (of_trace (added ++ more) t)) (sym trace_is) ∙ ap events_of of_here in
-          (begins.0, ap (λ xs. xs ++ begins.0) events ∙ (begins.1 ∙ ap (part_of s cone) keys_are))
+          (begins.0, ap (λ xs. xs ++ begins.0) events ∙ (begins.1 ∙ ap (λ ks. units (part_of s cone ks)) keys_are))
       | inr apart ↦
           let others = apart_at traces up other place found trace is_trace at apart in (
             [],

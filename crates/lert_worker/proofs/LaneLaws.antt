@@ -8,13 +8,13 @@ use Rattle.std.proofs.lemmas.List.Concat.{flat_map-append}
 use Rattle.std.proofs.lemmas.List.Elements.{All-push, All-nil, filter-append}
 use Rattle.std.proofs.lemmas.List.Sums.{sum_by_push}
 use Rattle.std.proofs.lemmas.Option.{get_or_from_slice_get}
-use Rattle.lert_base.specs.Packet.{Packet, events_of, keys_of}
+use Rattle.lert_base.specs.Packet.{Packet, events_of}
 use Rattle.lert_base.specs.Weave.{AreCut, IsWhole}
 use Rattle.lert_conelock.specs.Sight.{Sight}
 use Rattle.lert_spec.specs.declared.numbers.Numbers.{Numbers}
-use Rattle.lert_spec.specs.{declared.item.Item.Item, Items.{AreOfVersion, keys_in, unit}, Mix.{cone_of, part_of}}
+use Rattle.lert_spec.specs.{declared.item.Item.Item, Items.{unit, units}, Mix.{cone_of, part_of}}
 use Rattle.lert_worker.specs.Brings.{full_packets, late_tries}
-use Rattle.lert_worker.specs.Outbox.{IsSendable, IsUnitOf}
+use Rattle.lert_worker.specs.Outbox.{IsSendable}
 use Rattle.lert_worker.specs.Sending.{IsOf, Lane, WasBusy, WasTaken}
 use Rattle.lert_worker.proofs.Counts.{counts_none, counts_on, late_fits, step_back, times_least}
 
@@ -22,13 +22,9 @@ use Rattle.lert_worker.proofs.Counts.{counts_none, counts_on, late_fits, step_ba
 abbrev pub ringed : ℕ → ℕ → List Item → Packet
 ringed number trace ring = record { by = number; trace = trace; items = ring }
 
--- the items of a ring weigh 1
-pub weigh_one : (s : Numbers) (cone : ℕ) (ring : List Item) → All (IsUnitOf s cone) ring → AreOfVersion 1 ring
-weigh_one s cone ring of_cone = λ place d within. let one = (of_cone place d within).1 in (omega (arith, one), omega (arith, one))
-
-pub events_push : (packets : List Packet) (packet : Packet) → events_of (packets ++ packet ∷ []) ≡ events_of packets ++ keys_of packet
+pub events_push : (packets : List Packet) (packet : Packet) → events_of (packets ++ packet ∷ []) ≡ events_of packets ++ packet.items
 events_push packets packet =
-    flat_map-append keys_of packets (packet ∷ []) ∙ ap (λ keys. events_of packets ++ keys) (append-nil (keys_of packet))
+    flat_map-append (λ (p : Packet). p.items) packets (packet ∷ []) ∙ ap (λ items. events_of packets ++ items) (append-nil packet.items)
 
 pub slice_get-first : {X : Type 0} (xs ys : List X) (i : ℕ) → i < length xs → slice_get (xs ++ ys) i ≡ slice_get xs i
 slice_get-first [] ys i within = absurd (omega arith)
@@ -46,6 +42,10 @@ part-push_other s cone key keys other =
     filter-append (λ k. eqb (cone_of s k) cone) keys (key ∷ [])
     ∙ (ap (λ (b : Bool). part_of s cone keys ++ cond b (key ∷ []) []) (ne_eqb (cone_of s key) cone other)
     ∙ append-nil (part_of s cone keys))
+
+-- the same with the weights
+units-push_same : (s : Numbers) (cone key : ℕ) (keys : List ℕ) → cone_of s key ≡ cone → units (part_of s cone (keys ++ key ∷ [])) ≡ units (part_of s cone keys) ++ unit key ∷ []
+units-push_same s cone key keys same = ap units (part-push_same s cone key keys same) ∙ map-append unit (part_of s cone keys) (key ∷ [])
 
 -- a packet behind whole ones
 pub cut_push : (size : ℕ) (sent : List Packet) (packet : Packet) → All (IsWhole size) sent → AreCut size (sent ++ packet ∷ [])
@@ -92,8 +92,7 @@ module _ {H F : Type 0} (s : Numbers) (number cone trace : ℕ) where
     refused_are = lane.refused_are;
     each = lane.each;
     whole = lane.whole;
-    joined = ap (λ xs. events_of lane.sent ++ xs) (map-append (λ (i : Item). i.key) ring (unit key ∷ []))
-        ∙ (sym (append_assoc (events_of lane.sent) (keys_in ring) (key ∷ [])) ∙ (ap (λ xs. xs ++ key ∷ []) lane.joined ∙ sym (part-push_same s cone key keys same)));
+    joined = sym (append_assoc (events_of lane.sent) ring (unit key ∷ [])) ∙ (ap (λ xs. xs ++ unit key ∷ []) lane.joined ∙ sym (units-push_same s cone key keys same));
     waits = lane.waits;
     met = lane.met;
     counts = lane.counts;
@@ -107,7 +106,7 @@ module _ {H F : Type 0} (s : Numbers) (number cone trace : ℕ) where
     refused_are = lane.refused_are;
     each = lane.each;
     whole = lane.whole;
-    joined = lane.joined ∙ sym (part-push_other s cone key keys other);
+    joined = lane.joined ∙ ap units (sym (part-push_other s cone key keys other));
     waits = lane.waits;
     met = lane.met;
     counts = lane.counts;
@@ -150,9 +149,9 @@ module _ {H F : Type 0} (s : Numbers) (number cone trace : ℕ) where
 
     module _ (may : IsSendable s cone ring) where
       pub own_packet : IsOf s number trace (ringed number trace ring)
-      own_packet = record { some = may.some; few = may.few; by_is = refl; trace_is = refl; weights = weigh_one s cone ring may.of_cone }
+      own_packet = record { some = may.some; few = may.few; by_is = refl; trace_is = refl }
 
-      pub joined_more : events_of (lane.sent ++ ringed number trace ring ∷ []) ≡ part_of s cone keys
+      pub joined_more : events_of (lane.sent ++ ringed number trace ring ∷ []) ≡ units (part_of s cone keys)
       joined_more = events_push lane.sent (ringed number trace ring) ∙ lane.joined
 
       pub met_more : (after : ℕ) → now.met ≤ after → before.met + sum_by (late_tries s) (lane.sent ++ ringed number trace ring ∷ []) ≤ after

@@ -1,13 +1,19 @@
 -- Rings that may still go to the cones, after a step.
-use Rattle.std.proofs.Common.{◌≡◌, ℕ, ◌*◌, ◌^◌, ◌<◌, ◌≤◌, List, [], length, Some, slice_get, refl, ap, sym, ◌∙◌, subst, length-set}
+use Rattle.std.proofs.Common.{◌≡◌, ℕ, ◌*◌, ◌^◌, ◌<◌, ◌≤◌, List, [], length, Some, slice_get, refl, ap, sym, ◌∙◌, subst, arith, length-set}
+use Rattle.std.specs.Prelude.{All}
 use Rattle.std.proofs.lemmas.List.Elements.{All-map}
 use Rattle.lert_base.specs.{declared.cone_fault.ConeFault.ConeFault, declared.entry.Entry.Entry, declared.held.Held.Ghosts as HeldOf, Keys.Keys, Packet.Packet}
 use Rattle.lert_buffers.specs.Rings.{Rings, ring_of, with_keys, with_ring}
 use Rattle.lert_conelock.specs.Sight.{LockSight}
 use Rattle.lert_fleet.specs.Cones.{ChangesOnly, FleetPassSight, FleetSight, IsPassOf}
-use Rattle.lert_spec.specs.{declared.item.Item.Item, declared.numbers.Numbers.Numbers, Mix.cone_of}
-use Rattle.lert_worker.specs.{Brings.MayBring, Outbox.{IsIdle, IsResting, IsSame, IsSameOutbox, IsSendable, MaySend}, Ran.{MayRun, Working}, Sending.packet_with, declared.outbox.Outbox.Outbox}
-use Rattle.lert_worker.proofs.{LaneLaws.weigh_one, TakeLaws.ring_here}
+use Rattle.lert_spec.specs.{declared.item.Item.Item, declared.numbers.Numbers.Numbers, Items.AreOfVersion, Mix.cone_of}
+use Rattle.lert_worker.specs.{Brings.MayBring, Ran.{MayRun, Working}, Sending.packet_with, declared.outbox.Outbox.Outbox}
+use Rattle.lert_worker.specs.Outbox.{IsIdle, IsResting, IsSame, IsSameOutbox, IsSendable, IsUnitOf, MaySend}
+use Rattle.lert_worker.proofs.TakeLaws.{ring_here}
+
+-- the items of a ring weigh 1
+weigh_one : (s : Numbers) (cone : ℕ) (ring : List Item) → All (IsUnitOf s cone) ring → AreOfVersion 1 ring
+weigh_one s cone ring of_cone = λ place d within. let one = (of_cone place d within).1 in (omega (arith, one), omega (arith, one))
 
 -- as many rings, for packets of the same size
 pub record AreAlike (old new : Rings) : Type 0 where

@@ -11,7 +11,7 @@ use Rattle.lert_base.specs.Packet.{Packet, of_trace}
 use Rattle.lert_base.specs.Weave.{AreCut, IsWhole}
 use Rattle.lert_conelock.specs.Sight.{Sight}
 use Rattle.lert_spec.specs.declared.numbers.Numbers.{Numbers}
-use Rattle.lert_spec.specs.Mix.{part_of}
+use Rattle.lert_spec.specs.{Items.units, Mix.part_of}
 use Rattle.lert_base.specs.declared.cone_fault.ConeFault.{ConeFault}
 use Rattle.lert_worker.specs.Brings.{BringsPart, full_packets, late_tries}
 use Rattle.lert_worker.specs.Ran.{RanIn}
@@ -49,7 +49,7 @@ brought_none s number cone traces reads unread old = record {
   all = record {
     each = λ k d below. absurd (omega (arith, below));
     in_order = λ i j d first below. absurd (omega (arith, below));
-    joined = λ place trace keys at read. ap (part_of s cone) (sym (unread place keys read));
+    joined = λ place trace keys at read. ap (λ ks. units (part_of s cone ks)) (sym (unread place keys read));
     cut = λ trace place packet below. absurd (omega (arith, below));
   };
   below = λ place trace from at. All-nil (λ (packet : Packet). packet.trace < trace);

@@ -3,7 +3,7 @@ use Rattle.std.proofs.{Common.{◌≡◌, ◌≢◌, ℕ, ◌+◌, ◌<◌, ◌�
 use Rattle.std.specs.Prelude.{All, sum_by}
 use Rattle.lert_base.specs.{Beginning.BeginsWith, Packet.{Packet, events_of}, Weave.AreCut, declared.cone_fault.ConeFault.ConeFault}
 use Rattle.lert_conelock.specs.Sight.{Sight}
-use Rattle.lert_spec.specs.{declared.item.Item.Item, declared.numbers.Numbers.Numbers, Items.keys_in, Mix.part_of}
+use Rattle.lert_spec.specs.{declared.item.Item.Item, declared.numbers.Numbers.Numbers, Items.units, Mix.part_of}
 use Rattle.lert_worker.specs.{Brings.late_tries, Outbox.IsSendable, Ran.IsTurned, Sending.{IsOf, Lane, SentIn, WasTaken, WasTurned}, declared.end.WorkerEnd.WorkerEnd}
 use Rattle.lert_worker.specs.declared.end.WorkerEnd.TheVariants.{Ran, Cone}
 use Rattle.lert_worker.proofs.{Counts.counts_on, LaneLaws.{cut_push, cut_whole, full_push, joined_more, met_more, own_packet, ringed, with_none}}
@@ -43,7 +43,7 @@ module _ {H : Type 0} (s : Numbers) (number cone trace : ℕ) where
       turned_is = none;
       each = with_none (All (IsOf s number trace)) lane.sent lane.each;
       cut = with_none (AreCut s.packet) lane.sent (cut_whole s.packet lane.sent lane.whole);
-      part = with_none (λ packets. BeginsWith (part_of s cone keys) (events_of packets)) lane.sent (keys_in ring, lane.joined);
+      part = with_none (λ packets. BeginsWith (units (part_of s cone keys)) (events_of packets)) lane.sent (ring, lane.joined);
       all = λ ran. absurd (other ran);
       no_rest = λ _. lane.whole;
       waits = omega (arith, lane.waits);
@@ -54,8 +54,8 @@ module _ {H : Type 0} (s : Numbers) (number cone trace : ℕ) where
     -- its end came with no key in the ring
     pub lane_empty : ring ≡ [] → SentIn s number cone trace keys Ran before now
     lane_empty none =
-        let joined : events_of lane.sent ≡ part_of s cone keys =
-        sym (append-nil (events_of lane.sent)) ∙ (ap (λ xs. events_of lane.sent ++ keys_in xs) (sym none) ∙ lane.joined) in
+        let joined : events_of lane.sent ≡ units (part_of s cone keys) =
+        sym (append-nil (events_of lane.sent)) ∙ (ap (λ xs. events_of lane.sent ++ xs) (sym none) ∙ lane.joined) in
         record {
           sent = lane.sent;
           turned = [];
@@ -64,7 +64,7 @@ module _ {H : Type 0} (s : Numbers) (number cone trace : ℕ) where
           turned_is = refl;
           each = with_none (All (IsOf s number trace)) lane.sent lane.each;
           cut = with_none (AreCut s.packet) lane.sent (cut_whole s.packet lane.sent lane.whole);
-          part = with_none (λ packets. BeginsWith (part_of s cone keys) (events_of packets)) lane.sent ([], append-nil (events_of lane.sent) ∙ joined);
+          part = with_none (λ packets. BeginsWith (units (part_of s cone keys)) (events_of packets)) lane.sent ([], append-nil (events_of lane.sent) ∙ joined);
           all = λ _. joined;
           no_rest = λ open_is. absurd open_is;
           waits = omega (arith, lane.waits);
@@ -79,7 +79,7 @@ module _ {H : Type 0} (s : Numbers) (number cone trace : ℕ) where
       each_more : All (IsOf s number trace) packets
       each_more = All-push (IsOf s number trace) lane.sent (ringed number trace ring) lane.each (own_packet s number cone trace some keys ring tried before now lane last may)
 
-      events_are : events_of packets ≡ part_of s cone keys
+      events_are : events_of packets ≡ units (part_of s cone keys)
       events_are = joined_more s number cone trace some keys ring tried before now lane last may
 
       -- its end came, and the cone took the keys of the ring
@@ -92,7 +92,7 @@ module _ {H : Type 0} (s : Numbers) (number cone trace : ℕ) where
         turned_is = refl;
         each = with_none (All (IsOf s number trace)) packets each_more;
         cut = with_none (AreCut s.packet) packets (cut_push s.packet lane.sent (ringed number trace ring) lane.whole);
-        part = with_none (λ ps. BeginsWith (part_of s cone keys) (events_of ps)) packets ([], append-nil (events_of packets) ∙ events_are);
+        part = with_none (λ ps. BeginsWith (units (part_of s cone keys)) (events_of ps)) packets ([], append-nil (events_of packets) ∙ events_are);
         all = λ _. events_are;
         no_rest = λ open_is. absurd open_is;
         waits = omega (arith, taken.waits_are, lane.waits, full_push s lane.sent (ringed number trace ring));

@@ -4,7 +4,7 @@ use Rattle.lert_base.specs.{Beginning.BeginsWith, Packet.{Packet, events_of}, We
 use Rattle.lert_buffers.specs.{Rings.{Rings, ring_of, with_ring}, declared.buffers.Fill.Fill, declared.buffers.Fill.TheVariants.{Low, MustGo, Ready}}
 use Rattle.lert_conelock.specs.Sight.{Sight, Counts, Loses}
 use Rattle.lert_fleet.specs.Cones.{FleetPassSight}
-use Rattle.lert_spec.specs.{declared.item.Item.Item, declared.numbers.Numbers.Numbers, Items.{AreOfVersion, keys_in}, Mix.part_of}
+use Rattle.lert_spec.specs.{declared.item.Item.Item, declared.numbers.Numbers.Numbers, Items.units, Mix.part_of}
 use Rattle.lert_worker.specs.{Brings.{full_packets, late_tries}, Ran.{IsTurned, StillOpen}, declared.end.WorkerEnd.WorkerEnd, declared.end.WorkerEnd.TheVariants.Ran, declared.outbox.Outbox.Outbox}
 
 -- the packet of some items of an outbox
@@ -59,23 +59,23 @@ IsBrought Low packet cone rings left old new = (left ≡ rings) × (new ≡ old)
 IsBrought Ready packet cone rings left old new = Goes packet 0 cone rings left old new ⊎ Stays cone rings left old new
 IsBrought MustGo packet cone rings left old new = Goes packet 1 cone rings left old new
 
--- a packet of one trace, which may go to a cone: each of its items weighs 1
+-- a packet of one trace, with as many items as may go to a cone
 pub record IsOf (s : Numbers) (number trace : ℕ) (packet : Packet) : Type 0 where
   pub some : 1 ≤ length packet.items
   pub few : length packet.items ≤ 4 * s.packet
   pub by_is : packet.by ≡ number
   pub trace_is : packet.trace ≡ trace
-  pub weights : AreOfVersion 1 packet.items
 
--- A cone while a trace is read: the packets of the trace so far, which are whole, and behind them the keys of its ring, are the
--- cone's part of the keys that were read. There was a take at each whole packet of the first so many keys in the ring
+-- A cone while a trace is read: the items of the trace's packets so far, which are whole, and behind them those of its ring,
+-- are the cone's part of the keys that were read, each with the weight 1. There was a take at each whole packet of the first
+-- so many items in the ring
 pub record Lane {H F : Type 0} (s : Numbers) (number cone trace : ℕ) (keys : List ℕ) (tried : ℕ) (before now : Sight H F) (ring : List Item) : Type 0 where
   pub sent : List Packet
   pub calls_are : now.calls ≡ before.calls ++ sent
   pub refused_are : now.refused ≡ before.refused
   pub each : All (IsOf s number trace) sent
   pub whole : All (IsWhole s.packet) sent
-  pub joined : events_of sent ++ keys_in ring ≡ part_of s cone keys
+  pub joined : events_of sent ++ ring ≡ units (part_of s cone keys)
   pub waits : now.waits ≤ before.waits + full_packets s sent
   pub met : (k : ℕ) → k * s.packet ≤ tried → before.met + sum_by (late_tries s) sent + k ≤ now.met
   pub counts : Counts before now
@@ -95,8 +95,8 @@ pub record SentIn {H : Type 0} (s : Numbers) (number cone trace : ℕ) (keys : L
   pub turned_is : IsTurned end cone turned
   pub each : All (IsOf s number trace) (sent ++ map (λ pair. pair.0) turned)
   pub cut : AreCut s.packet (sent ++ map (λ pair. pair.0) turned)
-  pub part : BeginsWith (part_of s cone keys) (events_of (sent ++ map (λ pair. pair.0) turned))
-  pub all : end ≡ Ran → events_of sent ≡ part_of s cone keys
+  pub part : BeginsWith (units (part_of s cone keys)) (events_of (sent ++ map (λ pair. pair.0) turned))
+  pub all : end ≡ Ran → events_of sent ≡ units (part_of s cone keys)
   pub no_rest : StillOpen end cone → All (IsWhole s.packet) sent
   pub waits : after.waits ≤ before.waits + full_packets s sent + 1
   pub met : before.met + sum_by (late_tries s) sent ≤ after.met

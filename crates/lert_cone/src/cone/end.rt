@@ -5,12 +5,13 @@ ghost use Rattle.lert_base.specs.Packet.{Packet, events_of};
 ghost use Rattle.lert_bay.specs.Files.{Files, IfTold};
 ghost use Rattle.lert_bay.specs.declared.bay.TheConstants.{FRAMES};
 ghost use Rattle.lert_levels.specs.rows.Checked.{rows_left};
-ghost use Rattle.lert_spec.specs.Look.{look, closing};
-ghost use Rattle.lert_spec.specs.Timely.{IsTimely, IsTimelySoFar};
+ghost use Rattle.lert_spec.specs.Counts.{weighed};
+ghost use Rattle.lert_spec.specs.Look.{look_of, closing_of};
+ghost use Rattle.lert_spec.specs.Timely.{IsTimelyIn, IsTimelySoFarIn};
 ghost use Rattle.lert_cone.specs.Sound.{IsSound, IsSoundClosed, IsKept};
 ghost use Rattle.lert_cone.specs.Stands.{StandsFor, WasSound, is_broken, is_refusal};
 ghost use Rattle.lert_cone.specs.Steps.{StepsCone};
-ghost use Rattle.lert_levels.specs.OnDisk.{written};
+ghost use Rattle.lert_cone.specs.History.{written};
 
 use crate::cone::{Cone, broken_by};
 use crate::keys::finish;
@@ -27,7 +28,7 @@ impl<B: Bay, T: CountTable> Cone<B, T> {
         ensures stands_for { OnOk result ((h : List Packet) → StandsFor B.files B.leaves B.faults self.old h →
             StandsFor B.files B.leaves B.faults self.new h) }
         ensures answers { IfOk result (λ reports. (h : List Packet) → StandsFor B.files B.leaves B.faults self.old h →
-            WasSound B.files self.old → IfTold (B.files self.old.bay) (λ _. reports ≡ length (closing self.old.listing.settings (events_of h)))) }
+            WasSound B.files self.old → IfTold (B.files self.old.bay) (λ _. reports ≡ length (closing_of weighed self.old.listing.settings (events_of h)))) }
         ensures reports { IfOk result (λ reports. reports ≡ length self.new.reports) }
         ensures finished { OnOk result (self.new ≡ record self.old {
           bay = self.new.bay;
@@ -39,7 +40,7 @@ impl<B: Bay, T: CountTable> Cone<B, T> {
 
         // After Ok each key that has reached the threshold stands among the reports, and soon enough. No key stands there twice.
         ensures in_time { OnOk result ((h : List Packet) → StandsFor B.files B.leaves B.faults self.old h → WasSound B.files self.old →
-            IfTold (B.files self.old.bay) (λ _. IsTimely self.old.listing.settings.threshold self.old.listing.settings.bins
+            IfTold (B.files self.old.bay) (λ _. IsTimelyIn weighed self.old.listing.settings.threshold self.old.listing.settings.bins
             (events_of h) self.new.reports)) }
 
         // A refusal before the first step leaves all, and any other error the list.
@@ -82,15 +83,15 @@ impl<B: Bay, T: CountTable> Cone<B, T> {
         ensures value { result.now.reports ≡ self.now.reports }
         ensures settings { is_broken self.now.state ≡ false → result.now.settings ≡ self.now.listing.settings }
         ensures running { self.now.state ≡ ConeState.Running → (h : List Packet) → StandsFor B.files B.leaves B.faults self.now h →
-            WasSound B.files self.now → IfTold (B.files self.now.bay) (λ _. result.now.reports ≡ look self.now.listing.settings (events_of h)) }
+            WasSound B.files self.now → IfTold (B.files self.now.bay) (λ _. result.now.reports ≡ look_of weighed self.now.listing.settings (events_of h)) }
         ensures finished { self.now.state ≡ ConeState.Finished → (h : List Packet) → StandsFor B.files B.leaves B.faults self.now h →
-            WasSound B.files self.now → IfTold (B.files self.now.bay) (λ _. result.now.reports ≡ closing self.now.listing.settings (events_of h)) }
+            WasSound B.files self.now → IfTold (B.files self.now.bay) (λ _. result.now.reports ≡ closing_of weighed self.now.listing.settings (events_of h)) }
 
         // A key that reaches the threshold stands there, and soon enough. No key stands there twice.
         ensures in_time { self.now.state ≡ ConeState.Finished → (h : List Packet) → StandsFor B.files B.leaves B.faults self.now h →
-            WasSound B.files self.now → IfTold (B.files self.now.bay) (λ _. IsTimely self.now.listing.settings.threshold self.now.listing.settings.bins (events_of h) result.now.reports) }
+            WasSound B.files self.now → IfTold (B.files self.now.bay) (λ _. IsTimelyIn weighed self.now.listing.settings.threshold self.now.listing.settings.bins (events_of h) result.now.reports) }
         ensures in_time_so_far { self.now.state ≡ ConeState.Running → (h : List Packet) → StandsFor B.files B.leaves B.faults self.now h →
-            WasSound B.files self.now → IfTold (B.files self.now.bay) (λ _. IsTimelySoFar self.now.listing.settings.threshold self.now.listing.settings.bins (events_of h) result.now.reports) }
+            WasSound B.files self.now → IfTold (B.files self.now.bay) (λ _. IsTimelySoFarIn weighed self.now.listing.settings.threshold self.now.listing.settings.bins (events_of h) result.now.reports) }
     {
         self.tally.store()
     }

@@ -1,7 +1,7 @@
 //! A cone as the state that a lock holds.
 
 ghost use Rattle.std.specs.Prelude.{◌≡◌};
-ghost use Rattle.lert_levels.specs.OnDisk.{written};
+ghost use Rattle.lert_cone.specs.History.{written};
 ghost use Rattle.lert_journal.specs.Payload.{IsJournaled};
 ghost use Rattle.lert_cone.specs.Locked.{AnswersUnder, RefusesUnder, is_stopped};
 ghost use Rattle.lert_cone.specs.Stands.{StandsFor, terms_of};

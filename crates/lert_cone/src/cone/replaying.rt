@@ -1,7 +1,7 @@
 //! A cone whose journal is read again.
 
 ghost use Rattle.std.specs.Prelude.{◌≡◌, ◌≢◌, ◌⊎◌, ℕ, ◌+◌, ◌-◌, ◌<◌, ◌≤◌, ◌^◌, if◌then◌else◌, max, List, [], ◌∷◌, ◌++◌, length, All, None, Err, IfErr, IfNone, IfOk, IfSome, IsErrOf, OnErr, OnOk};
-ghost use Rattle.lert_base.specs.Packet.{keys_of, Packet, events_of};
+ghost use Rattle.lert_base.specs.Packet.{Packet, events_of};
 ghost use Rattle.lert_bay.specs.Files.{Files, IfTold};
 ghost use Rattle.lert_bay.specs.Kept.{CallsBay};
 ghost use Rattle.lert_bay.specs.Settled.{IsSettled};
@@ -24,12 +24,13 @@ ghost use Rattle.lert_cone.specs.Stands.{StandsFor, WasSound};
 ghost use Rattle.lert_cone.specs.Tally.{Shows};
 ghost use Rattle.lert_cone.specs.Unread.{unread};
 ghost use Rattle.lert_cone.specs.Wrote.{IsShutIfTold, LeavesAlone};
-ghost use Rattle.lert_levels.specs.OnDisk.{written};
+ghost use Rattle.lert_cone.specs.History.{written};
 
 use crate::cone::Cone;
 use crate::headers::greatest_payload;
+use crate::items::Items;
 use crate::journal_places::JournalPlace;
-use crate::keys::{keys_of, replay_keys};
+use crate::keys::replay_items;
 use crate::packets::read_packet;
 use crate::refusal::ReplayFault;
 use crate::report_log::ReportLog;
@@ -95,7 +96,7 @@ impl<B: Bay, T: CountTable> Model for ReplayingCone<B, T> {
 
 impl<B: Bay, T: CountTable> ReplayingCone<B, T> {
     /// A cone over the files of a stopped run, from whose log the room has the levels and the reports. It is to be given the
-    /// records of its journal one by one, from the one on that `last` names, by `replay`, and then `ready`. The keys before that
+    /// records of its journal one by one, from the one on that `last` names, by `replay`, and then `ready`. The items before that
     /// record it has without reading them: level 0 begins in it. Makes no call of the bay and takes no memory.
     pub fn adopt(room: ConeRoom<T>, cone: u32, bay: B, last: LogPoint) -> ReplayingCone<B, T>
         requires named { cone < 2 ^ room.settings.cone_bits }
@@ -127,7 +128,7 @@ impl<B: Bay, T: CountTable> ReplayingCone<B, T> {
             IsHeadOf room.settings records (head_of result) (seen LOG)) }
 
         // Where these files are sound for a list, and the point and the room say what their log does, the cone is on its way
-        // through that list's journal: it has the keys of the first packets.
+        // through that list's journal: it has the items of the first packets.
         ensures replays { IfTold (B.files bay) (λ seen. (records : List LogRecord) → HasLog room.settings cone (seen LOG) records last.log_end →
             IsLastOf room.settings last.n0 last.offset last.first last.closed room.levels.rows room.store.reports records →
             (h : List Packet) → IsSound room.settings cone h seen → (done : List Packet) × Replays B.files B.leaves result h done) }
@@ -166,10 +167,10 @@ impl<B: Bay, T: CountTable> ReplayingCone<B, T> {
     }
 
     /// Takes the packet whose record stands at this gate of the journal, and answers the next gate. None comes exactly at a
-    /// closed gate with as many keys before it as the log's last record has. The keys up to that record's place are only counted
+    /// closed gate with as many items before it as the log's last record has. The items up to that record's place are only counted
     /// again, and the others are taken as those of a packet that is admitted, with the calls of the bay that they cost there;
     /// nothing is written to the journal. After a refusal it takes no more, and is good for its bay alone: files that were sound
-    /// for a list are so still, and they are as they were where no flush position lies among the record's keys, or where the record
+    /// for a list are so still, and they are as they were where no flush position lies among the record's items, or where the record
     /// leaves the format. The log keeps its records in any case, also of files that are sound for no list.
     pub fn replay(&mut self, gate: u64) -> Result<Option<u64>, ReplayFault>
         requires taking { self.old.stopped ≡ None }
@@ -234,13 +235,13 @@ impl<B: Bay, T: CountTable> ReplayingCone<B, T> {
             &mut self.buffer,
         ) {
             Ok(true) => {
-                if let Err(fault) = replay_keys(
+                if let Err(fault) = replay_items(
                     &mut self.tally,
                     &mut self.log,
                     &mut self.bay,
                     self.last.n0,
                     JournalPlace { gate, first },
-                    keys_of(&self.entry),
+                    &Items::of(&self.entry),
                     &mut self.buffer,
                 ) {
                     let fault = ReplayFault::from(fault);
@@ -259,7 +260,7 @@ impl<B: Bay, T: CountTable> ReplayingCone<B, T> {
         }
     }
 
-    /// How many keys the packets have that it took, and those that it doesn't read.
+    /// How many items the packets have that it took, and those that it doesn't read.
     pub fn events(&self) -> u64
         ensures count { result ≡ self.now.events }
         ensures within { result ≤ capacity self.now.listing.settings }
@@ -284,8 +285,8 @@ impl<B: Bay, T: CountTable> ReplayingCone<B, T> {
         requires shut { IsShutIfTold (B.files self.bay) (B.leaves self.bay) JOURNAL end }
         ensures value { result ≡ readied self }
 
-        // It stands for a list whose keys it has as many of, where it is behind its packets, if the files were sound for one.
-        ensures stands_for { (h : List Packet) → All (λ packet. 0 < length (keys_of packet)) h → length (events_of h) ≡ self.events →
+        // It stands for a list whose items it has as many of, where it is behind its packets, if the files were sound for one.
+        ensures stands_for { (h : List Packet) → All (λ packet. 0 < length packet.items) h → length (events_of h) ≡ self.events →
             (WasSound B.files result → IfTold (B.files self.bay) (λ _. Replays B.files B.leaves self h h)) →
             StandsFor B.files B.leaves B.faults result h }
     {

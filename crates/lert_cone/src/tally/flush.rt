@@ -5,6 +5,7 @@ ghost use Rattle.std.specs.Prelude.{◌≡◌, ◌≢◌, ◌+◌, ◌-◌, ◌*
 ghost use Rattle.lert_spec.specs.Edges.{edge, capacity, span};
 ghost use Rattle.lert_spec.specs.Limits.{IsValid};
 ghost use Rattle.lert_levels.specs.rows.Rows.{IsAt};
+ghost use Rattle.lert_levels.specs.rows.Young.{AreLight};
 ghost use Rattle.lert_cone.specs.Counts.{Flushes, GivesTotals};
 ghost use Rattle.lert_cone.specs.Due.{TookFrom};
 ghost use Rattle.lert_cone.specs.Tally.{due_in};
@@ -15,7 +16,7 @@ use lert_base::{CountTable, Settings};
 use lert_bay::Bay;
 use lert_levels::{FlushFault, Levels, Zero};
 
-// The least flush position from that of the last of `len` keys on.
+// The least flush position from that of the last of `len` items on.
 pub(super) fn flush_from(settings: &Settings, len: u64) -> u64
     requires fits { len ≤ capacity settings.now }
     ensures { result ≡ edge settings.now 0 (len - 1) + settings.now.bins * span settings.now 0 }
@@ -24,7 +25,7 @@ pub(super) fn flush_from(settings: &Settings, len: u64) -> u64
     settings.edge(0, len.saturating_sub(1)) + bins * settings.span(0)
 }
 
-// The least flush position behind `len` keys, where `flush` is the least one from that of the last of them on.
+// The least flush position behind `len` items, where `flush` is the least one from that of the last of them on.
 pub(super) fn flush_behind(settings: &Settings, len: u64, flush: u64) -> u64
     requires fits { len < capacity settings.now }
     requires flush { flush ≡ edge settings.now 0 (len - 1) + settings.now.bins * span settings.now 0 }
@@ -53,6 +54,7 @@ fn flush_into<B: Bay, T: CountTable, N: Begun>(
     requires from { zero.now.from ≡ edge levels.old.settings 0 (m - 1) }
     requires to { zero.now.to ≡ m }
     requires rows { IsAt levels.old.settings (m - 1) levels.old.rows }
+    requires light { AreLight levels.old.version zero.now.bins }
     ensures { Flushes B.Bay N.start m bay.old bay.new zero.now levels.old levels.new result.0 result.1 }
 {
     let mut taker = DueSince::<T, N>::new(due);
@@ -82,6 +84,7 @@ pub(super) fn give_totals<B: Bay, T: CountTable, N: Begun>(
     requires from { zero.old.from ≡ edge levels.old.settings 0 (m - 1) }
     requires to { zero.old.to ≡ m }
     requires rows { IsAt levels.old.settings (m - 1) levels.old.rows }
+    requires light { AreLight levels.old.version zero.old.bins }
     ensures there { due.new ≡ Some (due_in due.new) }
     ensures gives { GivesTotals B.Bay N.start m tail bay.old bay.new zero.old zero.new levels.old levels.new (due_in due.new) result }
 {

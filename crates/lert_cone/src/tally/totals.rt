@@ -1,4 +1,4 @@
-//! The totals that a key and the end give the reports.
+//! The totals that an item and the end give the reports.
 
 ghost use Rattle.std.specs.Prelude.{◌≡◌, [], ◌∷◌, length, sum_by, Some, IsTrue};
 ghost use Rattle.lert_spec.specs.Table.{count_of};

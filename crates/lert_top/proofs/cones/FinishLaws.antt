@@ -5,8 +5,8 @@ use Rattle.lert_base.specs.Packet.{Packet, events_of}
 use Rattle.lert_bay.specs.Files.{Files, IfTold}
 use Rattle.lert_cone.specs.{Listing.{Listing, reports_of}, Sound.{IsSound, IsSoundAs, IsSoundOver}, Stands.{IsSameCone, Standing, StandsFor, WasSound, is_broken, is_finished}}
 use Rattle.lert_cone.specs.declared.state.ConeState.TheVariants.{Finished}
-use Rattle.lert_spec.specs.{declared.numbers.Numbers.Numbers, Edges.capacity, Limits.IsValid, Look.closing, Timely.IsTimely}
-use Rattle.lert_spec.proofs.TimeBound.{IsTimely-closing}
+use Rattle.lert_spec.specs.{declared.numbers.Numbers.Numbers, Edges.capacity, Limits.IsValid, Counts.weighed, Look.closing_of, Timely.IsTimelyIn}
+use Rattle.lert_spec.proofs.TimeBound.{timely_closing}
 use Rattle.lert_ingest.specs.{Bays.HoldsAll, Stops.IsWeaving, Traces.part_length}
 use Rattle.lert_ingest.proofs.BayLaws.{later_same, slice_get-set_other, slice_get-set_same}
 use Rattle.lert_top.specs.{cones.Finish.{AreFinishedTo, IsEnded, IsFinished}, cones.Print.printed_as, cones.Printed.{HoldsReported, IsPrinted}}
@@ -124,11 +124,11 @@ module _ {B : Type 0} (files : B → Option Files) (leaves : B → Files → Typ
             woven = weaving.woven;
             sound = subst (λ (b : Bool). IsSoundAs s number b weaving.history seen) closed_is (sound_as (ap is_broken state_is) seen told);
             reports_are = reports whole.in_step.reports_are whole.keys;
-            in_time = subst (IsTimely s.threshold s.bins (events_of weaving.history)) (sym (reports whole.in_step.reports_are whole.keys))
-                (IsTimely-closing s (events_of weaving.history) still_valid events_fit);
+            in_time = subst (IsTimelyIn weighed s.threshold s.bins (events_of weaving.history)) (sym (reports whole.in_step.reports_are whole.keys))
+                (timely_closing weighed s (events_of weaving.history) still_valid events_fit);
           }
         where
-          reports : new.reports ≡ reports_of new.listing → new.listing.events ≡ events_of weaving.history → new.reports ≡ closing s (events_of weaving.history)
+          reports : new.reports ≡ reports_of new.listing → new.listing.events ≡ events_of weaving.history → new.reports ≡ closing_of weighed s (events_of weaving.history)
           reports are keys =
               are
               ∙ ((λ i. reports_of (record { settings = settings_is i; cone = new.listing.cone; events = keys i; closed = closed_is i })))

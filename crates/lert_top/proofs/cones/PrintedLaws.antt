@@ -3,16 +3,15 @@ use Rattle.std.proofs.Common.{◌≡◌, ◌≢◌, ℕ, ◌+◌, ◌^◌, ◌<�
 use Rattle.std.proofs.{Common.arith, lemmas.Bool.{cases_eq, cases_lt, eq-eqb, ne_eqb}, lemmas.List.FromFn.fill_by_all, lemmas.List.Sums.{sum_by-append, sum_by-cons}}
 use Rattle.std.proofs.lemmas.Option.{slice_get-get_or, slice_get_within}
 use Rattle.std.specs.Prelude.{◌↔◌, Contains}
-use Rattle.lert_base.specs.Packet.{events_of}
 use Rattle.lert_bay.specs.Files.{Files}
-use Rattle.lert_spec.specs.{declared.numbers.Numbers.Numbers, declared.report.Report.Report, Counts.{heavy, plain}, Limits.IsValid, Lines.Printed, Look.closing, Mix.{cone_of, part_of}}
+use Rattle.lert_spec.specs.{declared.numbers.Numbers.Numbers, declared.report.Report.Report, Counts.{heavy, weighed}, Limits.IsValid, Lines.Printed, Look.{closing, closing_of}, Mix.{cone_of, part_of}}
 use Rattle.lert_spec.specs.Timely.{times_listed}
-use Rattle.lert_spec.proofs.{CountLaws.count-whole, ReportLaws.times}
+use Rattle.lert_spec.proofs.ReportLaws.{times}
 use Rattle.lert_ingest.specs.Bays.{AreTold}
 use Rattle.lert_ingest.proofs.BayLaws.{slice_get-some}
 use Rattle.lert_top.specs.cones.Printed.{ArePrinted, HoldsReported, IsPrinted, printed_of}
-use Rattle.lert_top.proofs.{cones.HeavyLaws.{cone_any, enough_heavy, heavy_enough}, cones.TraceSums.{by_place, joined, nothing_in, one_in}}
-use Rattle.lert_top.proofs.cones.WovenLaws.{all_keys, times_other, times_own, woven_one}
+use Rattle.lert_top.proofs.{cones.HeavyLaws.{cone_any, enough_heavy, heavy_enough}, cones.TraceSums.{by_place, joined, nothing_in, one_in}, cones.UnitLaws.closing-units}
+use Rattle.lert_top.proofs.cones.WovenLaws.{all_keys, weighs_other, weighs_own, woven_one}
 
 -- the reports of all cones, one behind the other
 abbrev pub all_reports : List Printed → List Report
@@ -26,17 +25,17 @@ module _ (s : Numbers) (valid : IsValid s) (workers : ℕ) (traces : List (List 
     -- a key that has another cone isn't reported
     listed_other : cone_of s key ≢ cone → times_listed key reports ≡ 0
     listed_other other =
-        holds.in_time.light key (omega (arith, count-whole plain key (events_of holds.history), times_other s cone workers traces holds.history holds.woven key other, valid.limits.threshold_from))
+        holds.in_time.light key (omega (arith, weighs_other s cone workers traces holds.history holds.woven key other, valid.limits.threshold_from))
 
     -- one that has this cone is reported once where it occurs often enough
     listed_own : cone_of s key ≡ cone → s.threshold ≤ times key (all_keys traces) → times_listed key reports ≡ 1
     listed_own own many =
-        (holds.in_time.heavy key (omega (arith, count-whole plain key (events_of holds.history), times_own s cone workers traces holds.history holds.woven key own, many))).once
+        (holds.in_time.heavy key (omega (arith, weighs_own s cone workers traces holds.history holds.woven key own, many))).once
 
     listed_few : times key (all_keys traces) < s.threshold → times_listed key reports ≡ 0
     listed_few few =
         elim (cases_eq (cone_of s key) cone) [
-          | inl own ↦ holds.in_time.light key (omega (arith, count-whole plain key (events_of holds.history), times_own s cone workers traces holds.history holds.woven key own, few))
+          | inl own ↦ holds.in_time.light key (omega (arith, weighs_own s cone workers traces holds.history holds.woven key own, few))
           | inr other ↦ listed_other other
         ]
 
@@ -96,7 +95,8 @@ module _ {B : Type 0} (files : B → Option Files) (s : Numbers) (valid : IsVali
       let all = subst (λ ts. HoldsReported s workers ts cone one.reports (held told cone one is).0) only (held told cone one is).1 in
       let events : one.events ≡ length (part_of s cone keys) =
       here.events_are ∙ (ap (λ ts. sum_by (λ ks. length (part_of s cone ks)) ts) only ∙ (omega (arith, sum_by-cons (λ ks. length (part_of s cone ks)) keys []))) in
-      let reports : one.reports ≡ closing s (part_of s cone keys) = all.reports_are ∙ ap (closing s) (woven_one s cone workers keys all.history all.woven) in
+      let reports : one.reports ≡ closing s (part_of s cone keys) =
+      all.reports_are ∙ (ap (closing_of weighed s) (woven_one s cone workers keys all.history all.woven) ∙ closing-units s (part_of s cone keys)) in
       (λ i. record { events = events i; reports = reports i; closed = here.closed_is i })
 
   pub printed_all : ArePrinted files s workers bays traces cones

@@ -8,12 +8,12 @@ use Rattle.lert_cone.specs.Stands.{Standing}
 use Rattle.lert_top.specs.{drills.Dealt.{AreDealt, all_dealt}, drills.Drilled.{DrillShows, Fits, drill_full, drill_memory, drill_status}, drills.Print.{drilled_as, keys_of}, cones.Finish.AreFinished}
 use Rattle.lert_top.specs.{cones.Print.printed_as, cones.Printed.HoldsReported}
 use Rattle.lert_top.proofs.{drills.DealtLaws.{dealt_keys, part_length_is, sum_of_parts}, drills.DrillTexts.{IsSameText, same_each, same_lines}, drills.HeavyTimes.timely_times}
-use Rattle.lert_top.proofs.{drills.SameKeys.same_keys, cones.EndLaws.{all_fit, all_valid, ends_later, finished_ended, one_printed, printed_at}, cones.WovenLaws.{of_events, times-append}}
+use Rattle.lert_top.proofs.{drills.SameKeys.same_keys, cones.EndLaws.{all_fit, all_valid, ends_later, finished_ended, one_printed, printed_at}, cones.WovenLaws.{times-append, weighs, weighs_as_parts}}
 use Rattle.lert_gen.specs.Generated.{generated}
 use Rattle.lert_ingest.specs.{Bays.{AreTold, bays_of}, Stops.{AreWeaving, StopShows, trace_fault, bad_trace, too_long, bay_fault, malformed, capacity_full, out_of_memory}}
 use Rattle.lert_ingest.specs.{Traces.{AllFit, part_length}, declared.status.Status.Status}
 use Rattle.lert_ingest.proofs.BayLaws.{bay_at, slice_get-some, told_later}
-use Rattle.lert_spec.specs.{declared.numbers.Numbers.Numbers, declared.report.Report.Report, Counts.heavy, Limits.IsValid, Mix.part_of}
+use Rattle.lert_spec.specs.{declared.numbers.Numbers.Numbers, declared.report.Report.Report, Counts.{heavy, weighed}, Limits.IsValid, Mix.part_of}
 use Rattle.lert_spec.proofs.ReportLaws.{times}
 use Rattle.lert_text.specs.Drill.{Drilled, exclusive_or, drill_lines, drilled, drilled_of}
 
@@ -23,9 +23,10 @@ dealt_fits s seed events fits cone named = omega (arith, fits cone named, part_l
 
 module _ (s : Numbers) (valid : IsValid s) (workers seed events cone : ℕ) (reports : List Report) (seen : Files)
     (holds : HoldsReported s workers (all_dealt seed events) cone reports seen) where
-  same_times : (key : ℕ) → times key (events_of holds.history) ≡ times key (part_of s cone (generated seed events))
-  same_times key =
-      of_events s cone workers (all_dealt seed events) holds.history holds.woven (times key) refl (times-append key)
+  -- a key weighs in the journal as much as it stands often in the part of all keys
+  weighs_same : (key : ℕ) → weighs key (events_of holds.history) ≡ times key (part_of s cone (generated seed events))
+  weighs_same key =
+      weighs_as_parts s cone workers (all_dealt seed events) holds.history holds.woven key
       ∙ sum_of_parts seed events s cone (times key) refl (times-append key)
 
   -- the reports of a cone that was closed name the heavy keys of its part of all keys, in another order
@@ -34,7 +35,7 @@ module _ (s : Numbers) (valid : IsValid s) (workers seed events cone : ℕ) (rep
   reported =
       let part = part_of s cone (generated seed events) in
       same_keys (keys_of reports) (heavy s.threshold part)
-      (λ key. timely_times s.threshold s.bins (events_of holds.history) part reports valid.limits.threshold_from holds.in_time key (same_times key))
+      (λ key. timely_times weighed s.threshold s.bins (events_of holds.history) part reports valid.limits.threshold_from holds.in_time key (weighs_same key))
 
 drilled_at : {B : Type 0} (cones : List (Standing B)) (at : ℕ) (cone : Standing B) → slice_get cones at ≡ Some cone → slice_get (map drilled_as cones) at ≡ Some (drilled_as cone)
 drilled_at (cone ∷ cones) zero other is = ap (λ (o : Standing _). Some (drilled_as o)) (same_Some cone other is)

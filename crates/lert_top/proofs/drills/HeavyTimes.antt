@@ -1,7 +1,7 @@
 -- Reports that are in time list the keys that occur often enough, each once.
 use Rattle.std.proofs.{Common.{◌≡◌, ℕ, ◌+◌, ◌<◌, ◌≤◌, suc, Bool, cond, eqb, List, [], ◌∷◌, length, refl, ap, sym, ◌∙◌, inl, inr, arith}, lemmas.Bool.{cases_lt, cases_eq, lt-leb, le-leb}}
 use Rattle.std.proofs.lemmas.List.Sums.{sum_by-cons}
-use Rattle.lert_spec.specs.{declared.report.Report.Report, Counts.{count, distinct, heavy, insert_key, plain}, Timely.{IsTimely, times_listed}}
+use Rattle.lert_spec.specs.{declared.report.Report.Report, Counts.{Measure, count, distinct, heavy, insert_key, plain, weight_in}, Timely.{IsTimelyIn, times_listed}}
 use Rattle.lert_spec.proofs.{CountLaws.count-whole, ReportLaws.{times, times-cons_other, times-cons_same}}
 use Rattle.lert_top.specs.drills.Print.{keys_of}
 use Rattle.lert_top.proofs.cones.HeavyLaws.{insert_before, insert_behind, insert_same, of_heavy, times-distinct}
@@ -66,21 +66,22 @@ times_listed-keys key (report ∷ reports) =
     ∙ (ap (λ n. cond {A = ℕ} (eqb report.key key) 1 0 + n) (times_listed-keys key reports)
     ∙ sym (sum_by-cons (λ n. cond {A = ℕ} (eqb n key) 1 0) report.key (keys_of reports)))
 
--- reports that are in time for events list the heavy keys of any list in which each key stands as often
-pub timely_times : (threshold bins : ℕ) (events others : List ℕ) (reports : List Report) → 1 ≤ threshold → IsTimely threshold bins events reports →
-    (key : ℕ) → times key events ≡ times key others → times key (keys_of reports) ≡ times key (heavy threshold others)
-timely_times threshold bins events others reports least timely key same =
+-- reports that are in time for events list the heavy keys of any list in which each key stands as often as it weighs there
+pub timely_times : {A : Type 0} (by : Measure A) (threshold bins : ℕ) (events : List A) (others : List ℕ) (reports : List Report) → 1 ≤ threshold →
+    IsTimelyIn by threshold bins events reports → (key : ℕ) → weight_in by key events 0 (length events) ≡ times key others →
+    times key (keys_of reports) ≡ times key (heavy threshold others)
+timely_times by threshold bins events others reports least timely key same =
     elim (cases_lt (times key others) threshold) [
       | inl few ↦ omega (
         arith,
         times_listed-keys key reports,
-        timely.light key (omega (arith, few, same, count-whole plain key events)),
+        timely.light key (omega (arith, few, same)),
         light_never threshold least others key few,
       )
       | inr many ↦ omega (
         arith,
         times_listed-keys key reports,
-        (timely.heavy key (omega (arith, many, same, count-whole plain key events))).once,
+        (timely.heavy key (omega (arith, many, same))).once,
         heavy_once threshold least others key many,
       )
     ]

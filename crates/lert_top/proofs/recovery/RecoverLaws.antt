@@ -11,7 +11,7 @@ use Rattle.lert_files.specs.declared.fault.ReopenFault.TheVariants as fault
 use Rattle.lert_files.specs.{Headed.HasOther, Opened.LeaveAt}
 use Rattle.lert_recover.specs.{Reopened.{IsReadOn, IsUnsoundAt}, Replayed.{AreReplayed, FirstLeaves}}
 use Rattle.lert_reports.specs.{Log.{is_closed, last_first, last_n0, last_offset, HasLog}, LogText.LogRecord}
-use Rattle.lert_spec.specs.declared.numbers.Numbers.{Numbers}
+use Rattle.lert_spec.specs.{declared.item.Item.Item, declared.numbers.Numbers.Numbers}
 use Rattle.lert_ingest.specs.Bays.{AreLater, AreUntouched, IfHeld, bays_of}
 use Rattle.lert_top.specs.{cones.Print.{state_of, ArePrintable, printed_as}, recovery.Recovered.{AreCounted, AreOpenOver, AreRecovered, IsOpenOver, IsRecovered, IsUnopened, LowerAreFormed, OfBay}}
 use Rattle.lert_top.specs.recovery.Recovered.{printed_for, reopen_status, unopened_failed, unopened_spoiled, unopened_other}
@@ -34,13 +34,13 @@ end_is true = refl
 end_is false = refl
 
 -- how many keys were had of a journal
-counted_on : (s : Numbers) (cone : ℕ) (seen : Files) (events : List ℕ) (gate count : ℕ) → count ≡ length events → IsReadOn s cone seen events gate → AreCounted s cone seen count
+counted_on : (s : Numbers) (cone : ℕ) (seen : Files) (events : List Item) (gate count : ℕ) → count ≡ length events → IsReadOn s cone seen events gate → AreCounted s cone seen count
 counted_on s cone seen events gate count count_is read =
     let records = read.records in
     let has = read.replayed in
     let before = last_first records - 1 in
     let n_is = length_unread s cone before (Some seen) in
-    let keys_are = ap (λ (xs : List ℕ). length xs) has.events_are ∙ length-append (unread s cone before (Some seen)) (events_of has.packets) in
+    let keys_are = ap (λ (xs : List Item). length xs) has.events_are ∙ length-append (unread s cone before (Some seen)) (events_of has.packets) in
     record {
       records = records;
       log_end = read.log_end;
@@ -182,7 +182,7 @@ module _ {B : Type 0} (files : B → Option Files) (leaves : B → Files → Typ
         let finished = ap is_finished state ∙ (end_is cone.listing.closed ∙ ends) in
         let listed : reports_of cone.listing ≡ (printed_for s history closed).reports =
         ap (λ (t : Numbers). reports_of (record cone.listing { settings = t })) settings
-        ∙ (ap (λ (xs : List ℕ). reports_of (record cone.listing { settings = s; events = xs })) keys
+        ∙ (ap (λ (xs : List Item). reports_of (record cone.listing { settings = s; events = xs })) keys
         ∙ ap (λ (b : Bool). reports_of (record cone.listing { settings = s; events = events_of history; closed = b })) ends) in
         λ i. record { events = sym counted i; reports = (reports ∙ listed) i; closed = finished i }
 
@@ -207,7 +207,7 @@ module _ {B : Type 0} (files : B → Option Files) (leaves : B → Files → Typ
           counted_on s at seen cone.listing.events cone.gate cone.events opened.counted (opened.journal seen told);
       whole = λ bay there seen told history named.
           let opened = open_are at cone found bay there in
-          opened.counted ∙ ap (λ (xs : List ℕ). length xs) (opened.whole seen told history named);
+          opened.counted ∙ ap (λ (xs : List Item). length xs) (opened.whole seen told history named);
     }
 
     pub open_recovered : length bays ≡ 2 ^ s.cone_bits → AreRecovered files s bays (bays_of cones) (map printed_as cones)

@@ -4,16 +4,17 @@ use Rattle.lert_base.specs.{Packet.{Packet, events_of}, Weave.IsWoven}
 use Rattle.lert_bay.specs.Files.{Files}
 use Rattle.lert_cone.specs.Sound.{IsSoundClosed}
 use Rattle.lert_ingest.specs.{Bays.{AreTold, IfHeld}, Traces.part_length}
-use Rattle.lert_spec.specs.{declared.numbers.Numbers.Numbers, declared.report.Report.Report, Counts.heavy, Lines.Printed, Look.closing, Mix.part_of, Timely.{IsTimely, times_listed}}
+use Rattle.lert_spec.specs.{declared.numbers.Numbers.Numbers, declared.report.Report.Report, Counts.{heavy, weighed}}
+use Rattle.lert_spec.specs.{Lines.Printed, Look.{closing, closing_of}, Mix.part_of, Timely.{IsTimelyIn, times_listed}}
 
 -- reports are those that stand once the cone is closed that its files hold, whose journal is a weave of its part of the keys of
--- all traces, and they are in time for the events of this journal
+-- all traces, and they are in time for the items of this journal
 pub record HoldsReported (s : Numbers) (workers : ℕ) (traces : List (List ℕ)) (cone : ℕ) (reports : List Report) (seen : Files) : Type 0 where
   pub history : List Packet
   pub woven : IsWoven s cone workers traces history
   pub sound : IsSoundClosed s cone history seen
-  pub reports_are : reports ≡ closing s (events_of history)
-  pub in_time : IsTimely s.threshold s.bins (events_of history) reports
+  pub reports_are : reports ≡ closing_of weighed s (events_of history)
+  pub in_time : IsTimelyIn weighed s.threshold s.bins (events_of history) reports
 
 -- what was printed of a cone: how many keys of all traces are its own, and, where its bay tells its files, the reports of its journal
 pub record IsPrinted {B : Type 0} (files : B → Option Files) (s : Numbers) (workers : ℕ) (bays : List B) (traces : List (List ℕ)) (cone : ℕ) (one : Printed) : Type 0 where

@@ -10,7 +10,7 @@ use Rattle.lert_files.specs.declared.fault.ReopenFault.TheVariants as fault
 use Rattle.lert_files.specs.{Headed.HasOther, Opened.LeaveAt}
 use Rattle.lert_recover.specs.{Reopened.{IsReadOn, IsUnsoundAt}, Replayed.{FirstLeaves, IsJournalSame, JournalEnds}}
 use Rattle.lert_reports.specs.{Log.{is_closed, last_first, last_n0, last_offset, HasLog}, LogText.LogRecord}
-use Rattle.lert_spec.specs.{declared.numbers.Numbers.Numbers, Lines.{Printed, lines}, Look.{closing, look}}
+use Rattle.lert_spec.specs.{declared.numbers.Numbers.Numbers, Counts.weighed, Lines.{Printed, lines}, Look.{closing_of, look_of}}
 use Rattle.lert_ingest.specs.{Bays.{AreFaultless, AreFaultlessTo, AreUntouched, EachBay, HasFailed, IfHeld}, declared.status.Status.Status}
 use Rattle.lert_ingest.specs.declared.status.Status.TheVariants.{Done, BayFault, Malformed, OtherSettings, OutFault, OutOfMemory}
 use Rattle.lert_top.specs.cones.Print.{state_of}
@@ -23,7 +23,7 @@ use Rattle.lert_text.specs.Page.{IsCut}
 abbrev pub printed_for : Numbers → List Packet → Bool → Printed
 printed_for s history closed = record {
   events = length (events_of history);
-  reports = if closed then closing s (events_of history) else look s (events_of history);
+  reports = if closed then closing_of weighed s (events_of history) else look_of weighed s (events_of history);
   closed = closed;
 }
 

@@ -30,13 +30,13 @@ append_entry-requires-clause-closed g c = λ seen told image may.
     subst (λ (f : ℕ). IsClosed (image f) c.args.journal.now.gate) (sym c.requires.file) ((c.requires.shut seen told).closed image may)
 
 pub returns-in_err-append_entry : goal.returns-in_err-append_entry
-returns-in_err-append_entry g c = packet_refused (lawful g) c.requires c.keys_of-keys.ensures.value c.keys_of-keys.ensures.fit c.append_entry.new.log c.append_entry.new.bay c.in_err-append_entry.was
+returns-in_err-append_entry g c = packet_refused (lawful g) c.requires c.of-items.ensures.value c.of-items.ensures.fit c.append_entry.new.log c.append_entry.new.bay c.in_err-append_entry.was
     c.append_entry.ensures c.from_residual.ensures.1
 
-pub take_keys-requires : goal.take_keys-requires
-take_keys-requires g c = can_take_then (lawful g) c.requires c.keys_of-keys.ensures.value c.keys_of-keys.ensures.fit c.append_entry.new.log c.append_entry.new.bay c.in_ok-append_entry.was
+pub take_items-requires : goal.take_items-requires
+take_items-requires g c = can_take_then (lawful g) c.requires c.of-items.ensures.value c.of-items.ensures.fit c.append_entry.new.log c.append_entry.new.bay c.in_ok-append_entry.was
     c.append_entry.ensures c.append_entry.auto.buffer
 
 pub returns : goal.returns
-returns g c = packet_taken (lawful g) c.requires c.keys_of-keys.ensures.value c.keys_of-keys.ensures.fit c.append_entry.new.log c.append_entry.new.bay c.in_ok-append_entry.was c.append_entry.ensures
-    c.gate.ensures.value (ap (λ n. n + 1) c.len.ensures) c.take_keys.ensures
+returns g c = packet_taken (lawful g) c.requires c.of-items.ensures.value c.of-items.ensures.fit c.append_entry.new.log c.append_entry.new.bay c.in_ok-append_entry.was c.append_entry.ensures
+    c.gate.ensures.value (ap (λ n. n + 1) c.len.ensures) c.take_items.ensures

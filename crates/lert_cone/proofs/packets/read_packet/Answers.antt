@@ -1,4 +1,6 @@
-use Rattle.lert_levels.specs.OnDisk.{written}
+use Rattle.lert_spec.specs.Items.{keys_in}
+use Rattle.lert_spec.specs.declared.item.Item.{Item}
+use Rattle.lert_cone.specs.History.{written}
 use Rattle.lert_base.specs.Packet.{keys_of}
 use Rattle.lert_bay.specs.Kept.{Bays, seen_by}
 use Rattle.std.proofs.{Common.{◌≡◌, ◌∙◌, ℕ, ◌+◌, ◌*◌, ◌<◌, ◌≤◌, ◌^◌, All, Bool, List, true, false, ap, arith, inl, inr, length, Err, IsErrOf, subst, sym}, lemmas.Bool.{false≢true, true≢false}}
@@ -48,10 +50,10 @@ left_of {s = s} {t = t} {cone = cone} {other = other} {most = most} {file = file
     (subst (λ (n : ℕ). LeavesAt written t n most (seen file) gate at) is
     (subst (λ (v : Numbers). LeavesAt written v cone most (seen file) gate at) same left)))
 
-follows_of : {s t : Numbers} {n0 n m : ℕ} {closed : Bool} {keys : List ℕ} {packet : Packet} → s ≡ t → n ≡ m → keys ≡ keys_of packet →
+follows_of : {s t : Numbers} {n0 n m : ℕ} {closed : Bool} {keys : List Item} {packet : Packet} → s ≡ t → n ≡ m → keys ≡ packet.items →
     (n + length keys ≤ capacity s) × (closed ≡ true → n + length keys ≤ n0) → MayFollow t n0 closed m packet
 follows_of {s = s} {t = t} {n0 = n0} {n = n} {m = m} {keys = keys} {packet = packet} same n_is keys_are may =
-    let sum : n + length keys ≡ m + length (keys_of packet) = λ i. n_is i + length (keys_are i) in
+    let sum : n + length keys ≡ m + length packet.items = λ i. n_is i + length (keys_are i) in
     record {
       within = subst (λ (k : ℕ). k ≤ capacity t) sum (subst (λ (v : Numbers). n + length keys ≤ capacity v) same may.0);
       before_closing = λ is_closed. subst (λ (k : ℕ). k ≤ n0) sum (may.1 is_closed);
@@ -77,7 +79,7 @@ pub packet_left-requires : goal.packet_left-requires
 packet_left-requires g c = record {
   within = subst (λ (s : Numbers). c.len-n.result ≤ capacity s) (sym c.settings-settings.ensures)
       (subst (λ (n : ℕ). n ≤ capacity c.args.tally.now.listing.settings) (sym c.len-n.ensures) c.requires.fits);
-  few = omega (arith, ap (length {A = ℕ}) c.keys_of.ensures.value);
+  few = omega (arith, c.len-len.ensures.value, c.len-len.ensures.short);
   reach = subst (λ (n : ℕ). n < 2 ^ 63) (sym c.gate-gate.ensures.value) (omega (arith, c.requires.reach));
   place = subst (λ (s : Numbers). c.args.last.now.n0 ≤ capacity s) (sym c.settings-settings.ensures) c.requires.place;
 }
@@ -168,7 +170,7 @@ returns-in-Some-packet_left g c =
     let said = c.in_ok-is_packet.ensures in
     let packet = packet_of c.read_entry.new.entry in
     let left = rw c.in-Some-packet_left.is at c.packet_left.ensures in
-    let count = ap (length {A = ℕ}) c.keys_of.ensures.value in
+    let count = c.len-len.ensures.value ∙ ap (length {A = Item}) c.of.ensures.value in
     let cost = found_cost c.args.journal.now.most packet c.in_ok-is_packet.is_packet found in
     let gate_is = ap (λ (log : Log). log.gate) (said.moved found) in
     let short = (said.forward found).1 in
@@ -177,7 +179,7 @@ returns-in-Some-packet_left g c =
       found = λ seen told. tt;
       closed = λ seen told. tt;
       malformed = λ seen told at same.
-          let fits = subst (λ (keys : List ℕ). All (λ key. key < 2 ^ 64) keys) c.keys_of.ensures.value c.keys_of.ensures.fit in
+          let fits = subst (λ (items : List Item). All (λ key. key < 2 ^ 64) (keys_in items)) c.of.ensures.value c.of.ensures.fit in
           let journaled = journaled_of c.settings-settings.ensures c.cone.ensures (said.journaled found) in
           let holds = held_at c.args.tally.now.listing.settings c.args.tally.now.listing.cone c.args.journal.now.most c.args.journal.now.file
           c.args.journal.now.gate seen packet c.requires.file c.requires.most (said.found seen told found) journaled fits in
@@ -208,7 +210,7 @@ returns-in-None-packet_left g c =
     let found : c.in_ok-is_packet.is_packet ≡ true = c.if-not-is_packet.false in
     let said = c.in_ok-is_packet.ensures in
     let packet = packet_of c.read_entry.new.entry in
-    let fits = subst (λ (keys : List ℕ). All (λ key. key < 2 ^ 64) keys) c.keys_of.ensures.value c.keys_of.ensures.fit in
+    let fits = subst (λ (items : List Item). All (λ key. key < 2 ^ 64) (keys_in items)) c.of.ensures.value c.of.ensures.fit in
     let journaled = journaled_of c.settings-settings.ensures c.cone.ensures (said.journaled found) in
     let may = rw c.in-None-packet_left.is at c.packet_left.ensures in
     let cost = found_cost c.args.journal.now.most packet c.in_ok-is_packet.is_packet found in
@@ -218,7 +220,9 @@ returns-in-None-packet_left g c =
       closed = λ seen told none. absurd (true≢false none);
       malformed = λ seen told at same. absurd (no_fault same);
       journaled = λ _. journaled;
-      follows = λ _. follows_of c.settings-settings.ensures c.len-n.ensures c.keys_of.ensures.value may;
+      follows = λ _. follows_of c.settings-settings.ensures c.len-n.ensures c.of.ensures.value
+          (subst (λ (n : ℕ). (c.len-n.result + n ≤ capacity c.settings-settings.result.now) × (c.args.last.now.closed ≡ true → c.len-n.result + n ≤ c.args.last.now.n0))
+          c.len-len.ensures.value may);
       enough = λ none. absurd (true≢false none);
       moved = λ _. said.moved found;
       forward = λ _. (

@@ -1,12 +1,12 @@
 use Rattle.lert_bay.specs.Kept.{Bays, seen_by}
 use Rattle.std.proofs.{Common.{ℕ, ◌≤◌, Err, refl, ap, sym, ◌∙◌, subst, arith}, lemmas.Result.err_from_is_err_and}
-use Rattle.lert_levels.specs.{rows.Checked.EachStands, OnDisk.{OnDisk, written}, rows.Named.IsDirectory, rows.Rows.{IsAt, AreRows}}
+use Rattle.lert_levels.specs.{rows.Checked.EachStands, OnDisk.OnDisk, rows.Named.IsDirectory, rows.Rows.{IsAt, AreRows}}
 use Rattle.lert_spec.specs.{declared.numbers.Numbers.Numbers, Edges.capacity}
 use Rattle.lert_bay.specs.declared.bay.TheConstants.{JOURNAL, FRAMES}
 use Rattle.lert_files.proofs.{GateLaws.{err_is, not_err, same_fault}, OpenedLaws.{check_failed, check_refused, header_refused, log_refused, opened_of}}
 use Rattle.lert_files.proofs.QuietLaws.{quiet_as, quiet_on, quiet_reading, quiet_reads}
 use Rattle.lert_bay.proofs.KeptLaws.{IsLawful, reading_as, reads_as}
-use Rattle.lert_files.specs.Opened.{By_call}
+use Rattle.lert_files.specs.{Headed.written, Opened.By_call}
 use Rattle.lert_files.proofs.files.read_in_order.Given as given
 use Rattle.lert_files.proofs.files.read_in_order.Goals as goal
 
@@ -35,6 +35,7 @@ returns-in_err-sync_files g c =
       reach = tt;
       at = tt;
       rows = tt;
+      version = tt;
       reports = tt;
       told = λ seen told. By_call refl;
       stand = λ seen told. tt;
@@ -54,6 +55,7 @@ returns-in_err-read_journal_header g c =
       reach = tt;
       at = tt;
       rows = tt;
+      version = tt;
       reports = tt;
       told = λ seen told. header_refused c.args.settings.now c.args.cone seen _ (header.told seen (synced.quiet.seen ∙ told));
       stand = λ seen told. tt;
@@ -75,6 +77,7 @@ returns-in_err-end g c =
       reach = tt;
       at = tt;
       rows = tt;
+      version = tt;
       reports = tt;
       told = λ seen told.
           let there = synced.quiet.seen ∙ told in
@@ -102,13 +105,14 @@ returns-in_err-check g c =
       reach = tt;
       at = tt;
       rows = tt;
+      version = tt;
       reports = tt;
       told = λ seen told.
           let there = synced.quiet.seen ∙ told in
           let before = header.only_reads.seen ∙ there in
           check_refused c.args.settings.now c.args.cone seen end.n0 end.offset end.first end.closed c.read_whole_log.new.store.reports c.read_whole_log.new.directory log.read.0
           end.log_end
-          (c.in_ok-read_journal_header.ensures.told seen there) log.read.1 (log.read.2 seen before) c.restore.new.self (restored.settings ∙ c.requires.levels) restored.at
+          (c.in_ok-read_journal_header.ensures.told seen there) log.read.1 (log.read.2 seen before) c.restore.new.self (restored.settings ∙ c.requires.levels) restored.version restored.at
           restored.rows (restored.directory ∙ c.bytes.ensures)
           p.0 c.in_err-check.field-0.0 p.2 (λ at is. check.malformed seen (log.only_reads.seen ∙ before) at (ap Err is));
       stand = λ seen told. tt;
@@ -137,19 +141,22 @@ returns g c =
       reach = log.reach;
       at = subst (λ (disk : OnDisk). IsAt s end.n0 disk.rows) after (subst (λ (numbers : Numbers). IsAt numbers end.n0 rows) own restored.at);
       rows = subst (λ (disk : OnDisk). AreRows s disk.rows) after (subst (λ (numbers : Numbers). AreRows numbers rows) own restored.rows);
+      version = ap (λ (disk : OnDisk). disk.version) check.same ∙ restored.version;
       reports = log.reports;
       told = λ seen told.
           let there = synced.quiet.seen ∙ told in
           let before = header.only_reads.seen ∙ there in
           let opened = opened_of c.args.settings.now c.args.cone seen end.n0 end.offset end.first end.closed c.read_whole_log.new.store.reports c.read_whole_log.new.directory
           log.read.0 end.log_end
-          (c.in_ok-read_journal_header.ensures.told seen there) log.read.1 (log.read.2 seen before) c.restore.new.self own restored.at restored.rows
+          (c.in_ok-read_journal_header.ensures.told seen there) log.read.1 (log.read.2 seen before) c.restore.new.self own restored.version restored.at restored.rows
           (restored.directory ∙ c.bytes.ensures)
           c.check.new.self check.same (check.whole seen (log.only_reads.seen ∙ before)) in
           (log.read.0, opened.0, opened.1);
       stand = λ seen told.
           let stands = check.stand seen (log.only_reads.seen ∙ (header.only_reads.seen ∙ (synced.quiet.seen ∙ told))) in
-          subst (λ (disk : OnDisk). EachStands s written (seen FRAMES) disk.rows) after (subst (λ (numbers : Numbers). EachStands numbers written (seen FRAMES) rows) own stands);
+          subst (λ (disk : OnDisk). EachStands s written (seen FRAMES) disk.rows) after
+          (subst (λ (v : ℕ). EachStands s v (seen FRAMES) rows) restored.version
+          (subst (λ (numbers : Numbers). EachStands numbers c.restore.new.self.version (seen FRAMES) rows) own stands));
       durable = λ seen told image may.
           c.in_ok-sync_files.ensures.durable seen told image ((header.only_reads.images image).0 ((log.only_reads.images image).0 ((check.only_reads.images image).0 may)));
       same = (ap (λ (disk : OnDisk). disk.settings) check.same ∙ restored.settings, log.same);

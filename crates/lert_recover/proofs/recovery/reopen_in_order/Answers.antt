@@ -1,4 +1,3 @@
-use Rattle.lert_base.specs.Packet.{keys_of}
 use Rattle.lert_bay.specs.Kept.{Bays, seen_by}
 use Rattle.std.proofs.{Common.{◌≡◌, ℕ, ◌+◌, ◌-◌, ◌<◌, ◌≤◌, Some, Err, List, length, ap, sym, ◌∙◌, subst, arith}, lemmas.Option.same_Some, lemmas.Result.IfErr-weaker}
 use Rattle.std.specs.{List.length_refill, Prelude.{All, IfOk, MatchResult, if◌then◌else◌}}
@@ -61,6 +60,7 @@ adopt-begun-requires-clause-room g c =
       valid = room.valid;
       young_is = room.young_is;
       levels_of = read.same.0 ∙ ap (λ (disk : OnDisk). disk.settings) room.levels_are;
+      version = read.version;
       at = read.at;
       are = read.rows;
       stored_of = read.same.1 ∙ ap (λ (stored : Stored). stored.settings) room.stored_is;
@@ -215,7 +215,7 @@ returns-in-Ok g c =
           c.adopt-begun.ensures.replays seen after opened.0 opened.2.log
           (last_of s cone end.n0 end.offset end.first end.closed c.read_files.new.store.reports c.read_files.new.levels.rows opened.0 opened.1 opened.2.named)
           h (same seen before first.0 own) in
-          stands_on (λ h. All (λ (packet : Packet). 0 < length (keys_of packet)) h) (λ h (now : Standing g.row.B.Denot). length (events_of h) ≡ now.events)
+          stands_on (λ h. All (λ (packet : Packet). 0 < length packet.items) h) (λ h (now : Standing g.row.B.Denot). length (events_of h) ≡ now.events)
           (λ h. WereSoundAs files start.listing.settings start.listing.cone start.made → (seen : Files) → files start.bay ≡ Some seen → ReplaysSome files leaves start h)
           (λ h. (seen : Files) → files c.args.bay ≡ Some seen → (other : List Packet) → IsSound s cone other seen → IsSound s cone h seen)
           (λ (now : Standing g.row.B.Denot) h. StandsFor files leaves g.B.Faulty.faults now h) c.replay_journal.result on_way c.replay_journal.ensures.stands;

@@ -6,7 +6,7 @@ use Rattle.lert_cone.proofs.{SoundLaws.turns_back}
 use Rattle.lert_bay.proofs.KeptLaws.{IsLawful, calls_as, calls_on}
 use Rattle.lert_io.proofs.Rising.{risen_since, risen_then}
 use Rattle.lert_io.specs.Fault.{HasRisen}
-use Rattle.lert_spec.specs.{declared.numbers.Numbers.Numbers, Edges.capacity}
+use Rattle.lert_spec.specs.{declared.item.Item.Item, declared.numbers.Numbers.Numbers, Edges.capacity}
 use Rattle.lert_reports.specs.declared.log_point.LogPoint.{LogPoint}
 use Rattle.lert_cone.specs.{declared.state.ConeState.TheVariants.{Finished, Running}, Sound.StaysSound, Replaying.readied, Stands.{IsSameCone, Standing, WasSound}}
 use Rattle.lert_gatelog.specs.Gated.{IsClosed}
@@ -73,7 +73,7 @@ returns-in-Ok g c =
           let read = c.in-Ok.ensures.told seen told in
           let events_are = ap (λ (k : Standing g.row.B.Denot). k.listing.events) c.ready.ensures.value in
           let gate_is = ap (λ (k : Standing g.row.B.Denot). k.gate) c.ready.ensures.value ∙ c.in-Ok.ensures.gate in (
-            subst (λ (events : List ℕ). HasReplayed start.listing.settings start.listing.cone start.last.n0 start.last.closed (seen JOURNAL) start.listing.events
+            subst (λ (events : List Item). HasReplayed start.listing.settings start.listing.cone start.last.n0 start.last.closed (seen JOURNAL) start.listing.events
                 c.args.last.now.offset c.ready.result.gate events) (sym events_are)
                 (subst (λ (gate : ℕ). HasReplayed start.listing.settings start.listing.cone start.last.n0 start.last.closed
                 (seen JOURNAL) start.listing.events c.args.last.now.offset gate c.replay_all.new.cone.listing.events) (sym gate_is) read.0),

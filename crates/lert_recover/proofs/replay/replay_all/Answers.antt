@@ -1,8 +1,9 @@
-use Rattle.std.proofs.Common.{[], ◌∷◌, ◌++◌, length, refl, ap, sym, ◌∙◌, subst, arith, Ok, Err, List, ℕ}
+use Rattle.std.proofs.Common.{[], ◌∷◌, ◌++◌, length, refl, ap, sym, ◌∙◌, subst, arith, Ok, Err, List}
 use Rattle.lert_bay.specs.{declared.bay.TheConstants.JOURNAL, Kept.CallsBay}
 use Rattle.lert_bay.proofs.KeptLaws.{IsLawful, calls_as, calls_none, calls_on, reading_none}
 use Rattle.lert_spec.proofs.LimitLaws.{capacity_to}
 use Rattle.lert_reports.specs.declared.log_point.LogPoint.{LogPoint}
+use Rattle.lert_spec.specs.declared.item.Item.{Item}
 use Rattle.lert_cone.specs.{declared.refusal.ReplayFault.TheVariants.Unsound, History.most_payload, KeepsLog.head_of, Replaying.Replaying, Replays.{Replays, WhyRefused}}
 use Rattle.lert_cone.proofs.KeepsLogSteps.{log_none}
 use Rattle.lert_files.proofs.QuietLaws.{quiet_on, quiet_reading}
@@ -112,7 +113,7 @@ returns-in-Ok-None g c =
     let events_are = ap (λ (k : Replaying g.row.B.Denot). k.listing.events) ended.is in
     record {
       told = λ seen told. (
-        subst (λ (events : List ℕ). HasReplayed start.listing.settings start.listing.cone start.last.n0 start.last.closed (seen JOURNAL) start.listing.events c.args.first
+        subst (λ (events : List Item). HasReplayed start.listing.settings start.listing.cone start.last.n0 start.last.closed (seen JOURNAL) start.listing.events c.args.first
             gate events) (sym events_are)
             (now.read seen told),
         shut_on files start old new seen told now.same now.journal c.args.first gate ended.stands,
@@ -127,11 +128,11 @@ returns-in-Ok-None g c =
           let there = now.journal.told seen told in
           let end = rw c.in-Ok-None.field-0-is at (c.in-Ok-None.ensures.replays there.0 there.1 h done.0 done.1 (sym now.gate_is)) in
           subst (Replays g.B.Bay.files g.B.Bay.leaves new h) end.0 end.1;
-      passed = omega (arith, ended.enough, ap (λ (last : LogPoint). last.n0) now.same.last, ap (length {A = ℕ}) events_are);
+      passed = omega (arith, ended.enough, ap (λ (last : LogPoint). last.n0) now.same.last, ap (length {A = Item}) events_are);
       taking = ap (λ (k : Replaying g.row.B.Denot). k.stopped) ended.is ∙ now.taking;
       gate = ap (λ (k : Replaying g.row.B.Denot). k.gate) ended.is;
       shut = ended.shut;
-      counted = ap (λ (k : Replaying g.row.B.Denot). k.events) ended.is ∙ (now.counted ∙ sym (ap (length {A = ℕ}) events_are));
+      counted = ap (λ (k : Replaying g.row.B.Denot). k.events) ended.is ∙ (now.counted ∙ sym (ap (length {A = Item}) events_are));
       closed = ap (λ (k : Replaying g.row.B.Denot). k.listing.closed) ended.is ∙ now.closed;
       same_cone = same_on start old new now.same c.replay.ensures.same_cone;
       near = tt;

@@ -1,6 +1,5 @@
 use Rattle.lert_cone.proofs.SoundLaws.{some_keys_of}
-use Rattle.lert_spec.proofs.ItemLaws.{length-keys_in}
-use Rattle.lert_levels.specs.OnDisk.{written}
+use Rattle.lert_cone.specs.History.{written}
 use Rattle.lert_bay.specs.Kept.{seen_by}
 use Rattle.std.proofs.Common.{ℕ, ◌≡◌, ◌∙◌, ◌+◌, ◌≤◌, length, Some, Err, refl, sym, ap, subst, arith}
 use Rattle.lert_base.specs.{declared.entry.Entry.Entry, Entries.packet_of}
@@ -22,7 +21,7 @@ lawful g = record { as_read = g.met.B.Bay.as_read; since_now = g.met.B.Bay.since
 -- a refusal before the first step
 pub returns-in_err-test : goal.returns-in_err-test
 returns-in_err-test g c =
-    not_admitted (lawful g) (packet_of c.args.entry.now) c.args.self.now (c.len-len.ensures ∙ sym (length-keys_in c.args.entry.now.keys.items)) c.in_err-test.was
+    not_admitted (lawful g) (packet_of c.args.entry.now) c.args.self.now c.len-len.ensures c.in_err-test.was
     c.test.ensures.closed c.test.ensures.broken c.test.ensures.full c.test.ensures.refusal c.from_residual.ensures.1
 
 pub take_packet-requires : goal.take_packet-requires
@@ -35,10 +34,10 @@ take_packet-requires g c =
       file = c.self.invariant.file;
       most = c.self.invariant.most;
       roomy = omega (arith, room, c.self.invariant.roomy, c.self.invariant.most);
-      reach = omega (arith, c.self.invariant.near (ap is_broken ok.0), ok.1, (c.len-len.ensures ∙ sym (length-keys_in c.args.entry.now.keys.items)), c.self.invariant.valid.positions_fit);
+      reach = omega (arith, c.self.invariant.near (ap is_broken ok.0), ok.1, c.len-len.ensures, c.self.invariant.valid.positions_fit);
       shut = c.self.invariant.shut ok.0;
       journaled = journaled;
-      fits = omega (arith, ok.1, (c.len-len.ensures ∙ sym (length-keys_in c.args.entry.now.keys.items)), c.self.invariant.counted (ap is_broken ok.0));
+      fits = omega (arith, ok.1, c.len-len.ensures, c.self.invariant.counted (ap is_broken ok.0));
       still = c.self.invariant.closed (ap is_broken ok.0) ∙ ap is_finished ok.0;
       counted = c.self.invariant.tallied (ap is_broken ok.0);
       can_log = record {
@@ -65,10 +64,10 @@ returns-in-Err g c =
     let ok = subst (λ (v : Standing g.row.B.Denot). (v.state ≡ Running) × (v.events + c.len-len.result ≤ capacity v.listing.settings)) (sym c.self.view_is) c.in_ok-test.ensures.ok in
     let did = rw c.in-Err.is at c.take_packet.ensures in
     broken_off (lawful g) (packet_of c.args.entry.now) c.self.inside.made.value c.self.inside.events (over_of c.self.inside.over) c.self.inside.last ok.0
-    (omega (arith, ok.1, (c.len-len.ensures ∙ sym (length-keys_in c.args.entry.now.keys.items))))
+    (omega (arith, ok.1, c.len-len.ensures))
     c.broken_by-self-inside.ensures (ap (λ (e : Entry). Some (packet_of e)) c.of.ensures) c.self.invariant.never_falls c.self.view_is (ap Err c.from.ensures) did
 
--- all keys are taken
+-- all items are taken
 pub invariant_of-self-2 : goal.invariant_of-self-2
 invariant_of-self-2 g c =
     let ok = subst (λ (v : Standing g.row.B.Denot). (v.state ≡ Running) × (v.events + c.len-len.result ≤ capacity v.listing.settings)) (sym c.self.view_is) c.in_ok-test.ensures.ok in
@@ -79,8 +78,8 @@ invariant_of-self-2 g c =
     let room_is = sym (length_refill c.self.inside.buffer.len c.self.inside.buffer.items c.take_packet.new.buffer len_is) ∙ len_is in
     let long : length c.take_packet.new.buffer ≡ length c.self.inside.buffer.items = c.take_packet.auto.buffer ∙ ap (length {A = ℕ}) c.deref_mut.ensures.value in
     still_cone (lawful g) (packet_of c.args.entry.now) c.self.inside.made.value c.self.inside.events (over_of c.self.inside.over) c.self.inside.last ok.0
-    (omega (arith, ok.1, (c.len-len.ensures ∙ sym (length-keys_in c.args.entry.now.keys.items))))
-    did (ap (λ n. c.self.inside.events + n) (c.len-len.ensures ∙ sym (length-keys_in c.args.entry.now.keys.items))) (some_keys_of _ _ _ journaled) room_is (long ∙ sym room_is) c.self.invariant
+    (omega (arith, ok.1, c.len-len.ensures))
+    did (ap (λ n. c.self.inside.events + n) c.len-len.ensures) (some_keys_of _ _ _ journaled) room_is (long ∙ sym room_is) c.self.invariant
 
 pub returns : goal.returns
 returns g c =
@@ -89,6 +88,6 @@ returns g c =
     let journaled : IsJournaled written c.self.inside.tally.listing.settings c.self.inside.tally.listing.cone (packet_of c.args.entry.now) =
     subst (λ (v : Standing g.row.B.Denot). IsJournaled written v.listing.settings v.listing.cone (packet_of c.args.entry.now)) (sym c.self.view_is) c.requires.fits in
     admitted (lawful g) (packet_of c.args.entry.now) c.self.inside.made.value c.self.inside.events (over_of c.self.inside.over) c.self.inside.last ok.0
-    (omega (arith, ok.1, (c.len-len.ensures ∙ sym (length-keys_in c.args.entry.now.keys.items))))
-    (ap (λ n. c.self.inside.events + n) (c.len-len.ensures ∙ sym (length-keys_in c.args.entry.now.keys.items))) (some_keys_of _ _ _ journaled)
+    (omega (arith, ok.1, c.len-len.ensures))
+    (ap (λ n. c.self.inside.events + n) c.len-len.ensures) (some_keys_of _ _ _ journaled)
     (c.self.invariant.closed (ap is_broken ok.0) ∙ ap is_finished ok.0) (c.len.ensures.count ∙ ap length (ap (λ (v : Stored). v.reports) c.store.ensures)) did c.self.view_is

@@ -1,3 +1,4 @@
+use Rattle.lert_spec.specs.Counts.{weighed}
 use Rattle.lert_bay.specs.Kept.{Bays, seen_by}
 use Rattle.std.proofs.{Common.{ℕ, ◌≡◌, ◌∙◌, List, Err, true, refl, length, ap, sym, subst, inl, arith}, lemmas.Bool.false≢true, lemmas.Result.err_from_is_err_and}
 use Rattle.std.specs.List.{length_refill}
@@ -7,7 +8,7 @@ use Rattle.lert_cone.proofs.{SoundLaws.turns_back, Stepping.{breaks, passes, ref
 use Rattle.lert_cone.proofs.FaultLaws.{any_turn, by_bay_of, is_broken_by, no_refusal}
 use Rattle.lert_cone.proofs.{Refusals.{no_fault, one_fault}, TimeLaws.timely}
 use Rattle.lert_bay.proofs.KeptLaws.{IsLawful}
-use Rattle.lert_spec.specs.{declared.numbers.Numbers.Numbers, Look.closing, Timely.IsTimely}
+use Rattle.lert_spec.specs.{declared.numbers.Numbers.Numbers, Look.closing_of, Timely.IsTimelyIn}
 use Rattle.lert_cone.specs.{declared.state.ConeState.TheVariants.{Running, Finished}, InStep.IsLogging, Listing.Listing, Sound.{IsKept, IsSound, IsSoundAs}}
 use Rattle.lert_cone.specs.Stands.{Standing, StandsFor, over_of, is_broken, is_finished, is_refusal}
 use Rattle.lert_reports.specs.Stored.{Stored}
@@ -30,6 +31,7 @@ finish-requires g c =
     record {
       still = c.self.invariant.closed (ap is_broken running) ∙ ap is_finished running;
       own = λ k d below. absurd (omega (arith, below));
+      light = λ k d below. absurd (omega (arith, below));
       fits = omega (arith, counted.fits);
       counted = counted;
       can_log = record {
@@ -150,13 +152,13 @@ returns g c =
           c.len.ensures.count
           ∙ ap length (ap (λ (v : Stored). v.reports) c.store.ensures ∙ up.reports_are
           ∙ reports_finished c.finish.new.tally.listing (events_of h) c.in_default.ensures.closed (ap (λ (l : Listing). l.events) is ∙ whole.keys))
-          ∙ ap (λ (l : Listing). length (closing l.settings (events_of h))) is;
+          ∙ ap (λ (l : Listing). length (closing_of weighed l.settings (events_of h))) is;
       reports = c.len.ensures.count ∙ ap length (ap (λ (v : Stored). v.reports) c.store.ensures);
       finished = λ i. record (cone_at c.finish.new.bay c.self.inside.made.value c.finish.new.tally c.self.inside.events Finished (over_of c.self.inside.over) c.self.inside.journal.gate
           c.finish.new.log c.self.inside.last) { listing = is i; rows = c.finish.ensures.rows i };
       in_time = λ h stands sound seen told.
           let after = turned.told seen told in
-          subst (λ (settings : Numbers). IsTimely settings.threshold settings.bins (events_of h) c.finish.new.tally.due.reports) (ap (λ (l : Listing). l.settings) is)
+          subst (λ (settings : Numbers). IsTimelyIn weighed settings.threshold settings.bins (events_of h) c.finish.new.tally.due.reports) (ap (λ (l : Listing). l.settings) is)
           (timely refl (ap (λ (l : Listing). l.closed) is) (stands_then g c h stands)
           (subst (λ (l : Listing). IfTold (g.B.Bay.files c.self.inside.made.value) (λ first. (history : List Packet) × IsSound l.settings l.cone history first)) (sym is) sound)
           after.0 after.1);

@@ -1,6 +1,7 @@
+use Rattle.lert_spec.specs.Counts.{weighed}
 use Rattle.std.proofs.Common.{◌∙◌, List, ap, sym, subst}
 use Rattle.lert_base.specs.Packet.{events_of}
-use Rattle.lert_spec.specs.{declared.report.Report.Report, Timely.{IsTimely, IsTimelySoFar}}
+use Rattle.lert_spec.specs.{declared.report.Report.Report, Timely.{IsTimelyIn, IsTimelySoFarIn}}
 use Rattle.lert_reports.specs.Stored.{Stored}
 use Rattle.lert_cone.specs.Stands.{is_broken, is_finished}
 use Rattle.lert_cone.proofs.{StandLaws.{reports_running, reports_finished}, TimeLaws.{timely, timely_so_far}}
@@ -18,11 +19,11 @@ returns-clause-finished g c = rw (← c.self.view_is) (λ finished h stands soun
 
 pub returns-clause-in_time : goal.returns-clause-in_time
 returns-clause-in_time g c = rw (← c.self.view_is) (λ finished h stands sound seen told.
-    subst (λ (reports : List Report). IsTimely c.self.inside.tally.listing.settings.threshold c.self.inside.tally.listing.settings.bins (events_of h) reports) (sym (ap (λ
+    subst (λ (reports : List Report). IsTimelyIn weighed c.self.inside.tally.listing.settings.threshold c.self.inside.tally.listing.settings.bins (events_of h) reports) (sym (ap (λ
     (v : Stored). v.reports) c.store.ensures)) (timely (ap is_broken finished) (c.self.invariant.closed (ap is_broken finished) ∙ ap is_finished finished) stands sound seen told))
 
 pub returns-clause-in_time_so_far : goal.returns-clause-in_time_so_far
 returns-clause-in_time_so_far g c = rw (← c.self.view_is) (λ running h stands sound seen told.
-    subst (λ (reports : List Report). IsTimelySoFar c.self.inside.tally.listing.settings.threshold c.self.inside.tally.listing.settings.bins (events_of h) reports) (sym (ap (λ
+    subst (λ (reports : List Report). IsTimelySoFarIn weighed c.self.inside.tally.listing.settings.threshold c.self.inside.tally.listing.settings.bins (events_of h) reports) (sym (ap (λ
     (v : Stored). v.reports) c.store.ensures))
     (timely_so_far (ap is_broken running) (c.self.invariant.closed (ap is_broken running) ∙ ap is_finished running) stands sound seen told))

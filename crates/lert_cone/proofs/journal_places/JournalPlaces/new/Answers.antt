@@ -4,7 +4,7 @@ use Rattle.lert_spec.proofs.LimitLaws.{capacity_to}
 use Rattle.lert_cone.proofs.BinLaws.{begun_from, span_few}
 use Rattle.lert_cone.proofs.journal_places.JournalPlaces.new.Goals as goal
 
--- a bin more than the keys that a cone takes
+-- a bin more than the items that a cone takes
 few : (s : Numbers) → IsValid s → (n w : ℕ) → n ≤ capacity s → w ≡ span s 0 → n + w < 2 ^ 33
 few s valid n w within is = omega (arith, within, is, capacity_to s valid, span_few s valid)
 

@@ -1,9 +1,12 @@
-use Rattle.std.proofs.Common.{◌≡◌, ◌∙◌, ℕ, false, All, List, [], replicate, length, ap, sym, subst, arith}
-use Rattle.lert_levels.specs.{declared.rows.bin_at.BinAt.BinAt, OnDisk.{OnDisk, written}, rows.Rows.{IsAt, AreRows, HoldsBins}}
+use Rattle.lert_spec.specs.Counts.{weighed}
+use Rattle.lert_spec.specs.declared.item.Item.{Item}
+use Rattle.lert_cone.specs.History.{written}
+use Rattle.std.proofs.Common.{◌≡◌, ◌∙◌, false, All, List, [], replicate, length, ap, sym, subst, arith}
+use Rattle.lert_levels.specs.{declared.rows.bin_at.BinAt.BinAt, OnDisk.OnDisk, rows.Rows.{IsAt, AreRows, HoldsBins}}
 use Rattle.lert_levels.proofs.{LaterLaws.HoldsBins-none, rows.MoveLaws.AreRows-none}
 use Rattle.lert_reports.specs.Stored.{Stored}
-use Rattle.lert_spec.specs.{declared.report.Report.Report, Limits.IsValid, Mix.cone_of}
-use Rattle.lert_spec.proofs.{LookLaws.AreKeys, TailLaws.AreOfCone}
+use Rattle.lert_spec.specs.{Items.AreOfVersion, declared.report.Report.Report, Limits.IsValid, Mix.cone_of}
+use Rattle.lert_spec.proofs.{LookLaws.HaveKeys, TailLaws.IsPartOf}
 use Rattle.lert_cone.specs.Listing.{Listing, reports_of}
 use Rattle.lert_cone.proofs.{RecountLaws.counted_from_none, TallyLaws.rows_none}
 use Rattle.lert_cone.proofs.tally.Tally.new.Goals as goal
@@ -13,23 +16,29 @@ adopted-requires-clause-are g c =
     subst (λ (rows : List (List BinAt)). AreRows c.args.settings.now rows) (sym (ap (λ (v : OnDisk). v.rows) c.requires.levels)) (AreRows-none c.args.settings.now)
 
 pub adopted-requires-clause-keys : goal.adopted-requires-clause-keys
-adopted-requires-clause-keys g c = subst AreKeys (sym c.requires.unread) tt
+adopted-requires-clause-keys g c = subst (HaveKeys weighed) (sym c.requires.unread) tt
 
 pub adopted-requires-clause-keys_own : goal.adopted-requires-clause-keys_own
-adopted-requires-clause-keys_own g c = subst (AreOfCone c.args.settings.now c.args.cone) (sym c.requires.unread) tt
+adopted-requires-clause-keys_own g c = subst (IsPartOf weighed c.args.settings.now c.args.cone) (sym c.requires.unread) tt
+
+pub adopted-requires-clause-light : goal.adopted-requires-clause-light
+adopted-requires-clause-light g c = subst (AreOfVersion written) (sym c.requires.unread) (λ k d below. absurd (omega (arith, below)))
+
+pub adopted-requires-clause-version : goal.adopted-requires-clause-version
+adopted-requires-clause-version g c = ap (λ (v : OnDisk). v.version) c.requires.levels
 
 pub adopted-requires-clause-within : goal.adopted-requires-clause-within
-adopted-requires-clause-within g c = omega (arith, ap (length {A = ℕ}) c.requires.unread)
+adopted-requires-clause-within g c = omega (arith, ap (length {A = Item}) c.requires.unread)
 
 pub returns-clause-listing : goal.returns-clause-listing
 returns-clause-listing g c =
-    c.adopted.ensures.listing ∙ ap (λ (keys : List ℕ). record { settings = c.args.settings.now; cone = c.args.cone; events = keys; closed = false }) c.requires.unread
+    c.adopted.ensures.listing ∙ ap (λ (keys : List Item). record { settings = c.args.settings.now; cone = c.args.cone; events = keys; closed = false }) c.requires.unread
 
 pub returns-clause-counted : goal.returns-clause-counted
 returns-clause-counted g c =
     let at = subst (λ (rows : List (List BinAt)). IsAt c.args.settings.now 0 rows) (sym (ap (λ (v : OnDisk). v.rows) c.requires.levels)) (rows_none c.args.settings.now
     (subst IsValid c.numbers-valid.ensures.value c.numbers-valid.ensures.valid)) in
-    counted_from_none c.adopted.result (c.adopted.ensures.recounted 0 (omega arith) at (omega (arith, ap (length {A = ℕ}) c.requires.unread)))
+    counted_from_none c.adopted.result (c.adopted.ensures.recounted 0 (omega arith) at (omega (arith, ap (length {A = Item}) c.requires.unread)))
 
 pub adopted-requires-clause-levels : goal.adopted-requires-clause-levels
 adopted-requires-clause-levels g c = ap (λ (v : OnDisk). v.settings) c.requires.levels

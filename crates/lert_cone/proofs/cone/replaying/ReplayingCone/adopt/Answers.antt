@@ -1,22 +1,25 @@
+use Rattle.lert_spec.specs.declared.item.Item.{Item}
+use Rattle.lert_spec.specs.Counts.{weighed}
 use Rattle.std.proofs.{Common.{◌≡◌, ◌∙◌, ◌+◌, ◌-◌, ◌≤◌, List, Option, ℕ, length, ap, sym, subst, arith}, Math.Nat.mul-div-le}
 use Rattle.lert_base.specs.Keys.{Keys}
 use Rattle.lert_bay.specs.Files.{Files}
 use Rattle.lert_gatelog.specs.Gated.{Log}
 use Rattle.lert_reports.specs.Log.{most_record}
-use Rattle.lert_spec.specs.{declared.numbers.Numbers.Numbers, declared.report.Report.Report, Edges.{capacity, edge, offset, span}}
-use Rattle.lert_spec.proofs.{LookLaws.AreKeys, TailLaws.AreOfCone}
+use Rattle.lert_cone.specs.History.{written}
+use Rattle.lert_spec.specs.{Items.AreOfVersion, declared.numbers.Numbers.Numbers, declared.report.Report.Report, Edges.{capacity, edge, offset, span}}
+use Rattle.lert_spec.proofs.{LookLaws.HaveKeys, TailLaws.IsPartOf}
 use Rattle.lert_cone.specs.{Listing.Listing, JournalPlaces.places_from, Record.LogPlace, Unread.unread}
-use Rattle.lert_cone.proofs.{AdoptLaws.{adopted, before, past}, AdoptStands.{adopted_cone, adopted_head, adopted_replays}, UnreadLaws.{length_unread, unread_keys, unread_own}}
+use Rattle.lert_cone.proofs.{AdoptLaws.{adopted, before, past}, AdoptStands.{adopted_cone, adopted_head, adopted_replays}, UnreadLaws.{length_unread, unread_keys, unread_own, unread_light}}
 use Rattle.lert_cone.proofs.cone.replaying.ReplayingCone.adopt.Goals as goal
 
--- the keys that aren't read are fewer than those of the log's last record, since level 0 has none of them there
+-- the items that aren't read are fewer than those of the log's last record, since level 0 has none of them there
 few : (s : Numbers) (n0 first : ℕ) → first ≤ edge s 0 n0 + 1 → (first - 1 ≤ edge s 0 n0) × (first - 1 ≤ n0)
 few s n0 first early = (omega (arith, early), omega (arith, early, mul-div-le (n0 - offset s 0) (span s 0)))
 
-few_for : (s : Numbers) (cone n0 first : ℕ) (told : Option Files) (keys : List ℕ) → keys ≡ unread s cone (first - 1) told → first ≤ edge s 0 n0 + 1 → n0 ≤ capacity s →
+few_for : (s : Numbers) (cone n0 first : ℕ) (told : Option Files) (keys : List Item) → keys ≡ unread s cone (first - 1) told → first ≤ edge s 0 n0 + 1 → n0 ≤ capacity s →
     (length keys ≡ first - 1) × (length keys ≤ edge s 0 n0) × (first - 1 ≤ capacity s)
 few_for s cone n0 first told keys is early fits =
-    let counted : length keys ≡ first - 1 = ap (length {A = ℕ}) is ∙ length_unread s cone (first - 1) told in
+    let counted : length keys ≡ first - 1 = ap (length {A = Item}) is ∙ length_unread s cone (first - 1) told in
     let less = few s n0 first early in
     (counted, omega (arith, counted, less.0), omega (arith, less.1, fits))
 
@@ -26,13 +29,21 @@ at-log-requires g c =
 
 pub adopted-tally-requires-clause-keys : goal.adopted-tally-requires-clause-keys
 adopted-tally-requires-clause-keys g c =
-    subst AreKeys (sym c.of-unread.ensures)
+    subst (HaveKeys weighed) (sym c.of-unread.ensures)
     (unread_keys c.args.room.settings c.args.cone c.requires.room.valid c.requires.named (c.args.last.first - 1) (g.B.Bay.files c.args.bay))
 
 pub adopted-tally-requires-clause-keys_own : goal.adopted-tally-requires-clause-keys_own
 adopted-tally-requires-clause-keys_own g c =
-    subst (AreOfCone c.args.room.settings c.args.cone) (sym c.of-unread.ensures)
+    subst (IsPartOf weighed c.args.room.settings c.args.cone) (sym c.of-unread.ensures)
     (unread_own c.args.room.settings c.args.cone c.requires.room.valid c.requires.named (c.args.last.first - 1) (g.B.Bay.files c.args.bay))
+
+pub adopted-tally-requires-clause-light : goal.adopted-tally-requires-clause-light
+adopted-tally-requires-clause-light g c =
+    subst (AreOfVersion written) (sym c.of-unread.ensures)
+    (unread_light c.args.room.settings c.args.cone c.requires.room.valid c.requires.named (c.args.last.first - 1) (g.B.Bay.files c.args.bay))
+
+pub adopted-tally-requires-clause-version : goal.adopted-tally-requires-clause-version
+adopted-tally-requires-clause-version g c = c.requires.room.version
 
 pub adopted-tally-requires-clause-within : goal.adopted-tally-requires-clause-within
 adopted-tally-requires-clause-within g c =
@@ -72,7 +83,7 @@ returns-clause-log g c = λ seen told records log last.
     let n = c.args.last.first - 1 in
     let less = few s c.args.last.n0 c.args.last.first c.requires.point.names.first_to in
     let long : length c.adopted-tally.result.listing.events ≡ n =
-    ap (λ (l : Listing). length l.events) c.adopted-tally.ensures.listing ∙ ap (length {A = ℕ}) c.of-unread.ensures ∙ length_unread s c.args.cone n (g.B.Bay.files c.args.bay) in
+    ap (λ (l : Listing). length l.events) c.adopted-tally.ensures.listing ∙ ap (length {A = Item}) c.of-unread.ensures ∙ length_unread s c.args.cone n (g.B.Bay.files c.args.bay) in
     adopted_head s c.args.cone c.args.last.n0 c.args.last.offset c.args.last.first c.args.last.closed c.args.room.levels.rows c.args.room.store.reports records c.args.last.log_end (seen 1) _
     c.requires.room.at log last c.adopted-tally.ensures.rows (omega (arith, long, less.1)) (ap (λ (l : LogPlace). l.gate) c.at-log.ensures)
 
@@ -90,7 +101,7 @@ returns-clause-replays g c = λ seen told records log last history sound.
       before_it.done,
       adopted_replays g.B.Bay.files g.B.Bay.leaves g.B.Faulty.faults c.args.bay c.of.result.value s c.args.cone c.at_gate-journal.result.gate keys n c.adopted-tally.result
           c.at-log.result c.args.last c.args.room.levels.rows c.args.room.store.reports history before_it.done seen
-          (c.adopted-tally.ensures.listing ∙ ap (λ (ks : List ℕ). record { settings = s; cone = c.args.cone; events = ks; closed = c.args.last.closed }) c.of-unread.ensures)
+          (c.adopted-tally.ensures.listing ∙ ap (λ (ks : List Item). record { settings = s; cone = c.args.cone; events = ks; closed = c.args.last.closed }) c.of-unread.ensures)
           c.adopted-tally.ensures.rows c.adopted-tally.ensures.reports (ap (λ (j : Log). j.gate) c.at_gate-journal.ensures) log_is told
           (past (g.B.Bay.leaves c.args.bay) seen s c.args.cone history c.args.room.levels.rows c.args.room.store.reports records c.args.last.log_end c.args.last.n0
           c.args.last.offset c.args.last.first c.args.last.closed

@@ -1,6 +1,9 @@
+use Rattle.lert_spec.specs.Items.{AreOfVersion}
+use Rattle.lert_cone.proofs.KeyLemmas.{of_keys}
+use Rattle.lert_spec.specs.declared.item.Item.{Item}
 use Rattle.std.proofs.Common.{◌≡◌, ◌∙◌, ℕ, ◌+◌, ◌*◌, ◌<◌, ◌++◌, ◌∷◌, [], All, List, length, max, None, Some, Err, Ok, IsFalse, ◌≤◌, le_refl, refl, sym, ap, subst, arith}
 use Rattle.lert_spec.specs.Items.{keys_in}
-use Rattle.lert_levels.specs.OnDisk.{written}
+use Rattle.lert_cone.specs.History.{written}
 use Rattle.lert_base.specs.{Entries.packet_of, Packet.events_of}
 use Rattle.lert_bay.specs.Files.{Files}
 use Rattle.lert_bay.proofs.KeptLaws.{calls_as}
@@ -53,8 +56,8 @@ read_packet-requires-clause-fits g c =
     let taking : c.self.inside.stopped ≡ None = subst (λ (v : Replaying g.row.B.Denot). v.stopped ≡ None) (sym c.self.view_is) c.requires.taking in
     (c.self.invariant.taking taking).recounted.fits
 
-pub replay_keys-requires : goal.replay_keys-requires
-replay_keys-requires g c =
+pub replay_items-requires : goal.replay_items-requires
+replay_items-requires g c =
     let taking : c.self.inside.stopped ≡ None = subst (λ (v : Replaying g.row.B.Denot). v.stopped ≡ None) (sym c.self.view_is) c.requires.taking in
     let was = c.self.invariant.taking taking in
     let len_is : c.self.inside.buffer.len ≡ length c.self.inside.buffer.items = omega (arith, c.self.inside.buffer.ok) in
@@ -63,9 +66,11 @@ replay_keys-requires g c =
     let journaled = c.in-Ok-true.ensures.journaled c.in-Ok-true.field-0-test in
     let follows = c.in-Ok-true.ensures.follows c.in-Ok-true.field-0-test in
     record {
-      own = subst (λ (keys : List ℕ). All (λ key. cone_of c.self.inside.tally.listing.settings key ≡ c.self.inside.tally.listing.cone) keys) (sym c.keys_of.ensures.value) journaled.of_cone;
-      fits = omega (arith, follows.within, ap (length {A = ℕ}) c.keys_of.ensures.value);
-      before_closing = λ closed. omega (arith, follows.before_closing (sym was.closed ∙ closed), ap (length {A = ℕ}) c.keys_of.ensures.value);
+      own = subst (λ (items : List Item). All (λ item. cone_of c.self.inside.tally.listing.settings item.key ≡ c.self.inside.tally.listing.cone) items) (sym c.of.ensures.value)
+          (of_keys (λ key. cone_of c.self.inside.tally.listing.settings key ≡ c.self.inside.tally.listing.cone) c.read_packet.new.entry.keys.items journaled.of_cone);
+      light = subst (AreOfVersion written) (sym c.of.ensures.value) journaled.weighed;
+      fits = omega (arith, follows.within, ap (length {A = Item}) c.of.ensures.value);
+      before_closing = λ closed. omega (arith, follows.before_closing (sym was.closed ∙ closed), ap (length {A = Item}) c.of.ensures.value);
       recounted = was.recounted;
       can_log = record {
         logging = subst (λ n. IsLogging c.self.inside.tally c.self.inside.log n) (sym room) was.logging;
@@ -81,9 +86,9 @@ went_on at gate new next packet at_is next_is forward few =
 pub invariant_of-self : goal.invariant_of-self
 invariant_of-self = broken_keys_kept
 
--- its keys aren't taken
-pub returns-in-Err-replay_keys : goal.returns-in-Err-replay_keys
-returns-in-Err-replay_keys g c =
+-- its items aren't taken
+pub returns-in-Err-replay_items : goal.returns-in-Err-replay_items
+returns-in-Err-replay_items g c =
     rw (← c.self.view_is) (record {
       taken = tt;
       forward = tt;
@@ -91,55 +96,55 @@ returns-in-Err-replay_keys g c =
       refused = let cone = seen_as c.self.inside.bay c.self.inside.made.value c.self.inside.tally c.self.inside.events c.self.inside.stopped
           c.self.inside.journal.gate c.self.inside.log c.self.inside.last in
           λ seen told. subst (λ (fault : ReplayFault). WhyRefused cone (seen 0) c.args.gate fault) (sym c.from-fault.ensures)
-          (refused_keys cone (seen 0) c.args.gate c.in-Err-replay_keys.fault (record {
+          (refused_keys cone (seen 0) c.args.gate c.in-Err-replay_items.fault (record {
             packet = (packet_of c.read_packet.new.entry);
             stands = (held_at c.at_gate-self-inside.ensures (c.in-Ok-true.ensures.found seen told c.in-Ok-true.field-0-test));
             follows = c.in-Ok-true.ensures.follows c.in-Ok-true.field-0-test;
           }));
-      broke = λ i. record (seen_as c.replay_keys.new.bay c.self.inside.made.value c.replay_keys.new.tally c.self.inside.events (Some c.from-fault.result)
-          c.read_packet.new.journal.gate c.replay_keys.new.log c.self.inside.last) { listing = c.replay_keys.ensures.listing i };
-      replays = λ seen told h done way gate_same. subst (λ (fault : ReplayFault). fault ≡ Failed) (sym c.from-fault.ensures) (only_by_bay c.in-Err-replay_keys.fault (λ file at same.
+      broke = λ i. record (seen_as c.replay_items.new.bay c.self.inside.made.value c.replay_items.new.tally c.self.inside.events (Some c.from-fault.result)
+          c.read_packet.new.journal.gate c.replay_items.new.log c.self.inside.last) { listing = c.replay_items.ensures.listing i };
+      replays = λ seen told h done way gate_same. subst (λ (fault : ReplayFault). fault ≡ Failed) (sym c.from-fault.ensures) (only_by_bay c.in-Err-replay_items.fault (λ file at same.
           with_keys (bays g) (lawful g) c.read_packet.ensures.keeps c.self.inside.tally c.self.inside.log c.self.inside.last seen told h done c.args.gate way gate_same
           (packet_of c.read_packet.new.entry) (held_at c.at_gate-self-inside.ensures (c.in-Ok-true.ensures.found seen told
-          c.in-Ok-true.field-0-test)) c.keys_of.result.now c.keys_of.ensures.value (λ told_read next is on_read. c.replay_keys.ensures.sound seen told_read h (events_of next.rest) is
-          (next_holds h done c.self.inside.tally.listing.events c.args.gate (packet_of c.read_packet.new.entry) c.keys_of.result.now _
-          (subst (λ g. IsPast h done c.self.inside.tally.listing.events g) (sym gate_same) way.past) next c.keys_of.ensures.value refl (ap (λ n. n + 1) c.len-first.ensures)) on_read file at
-          (c.in-Err-replay_keys.is ∙ ap Err same))));
+          c.in-Ok-true.field-0-test)) c.of.result c.of.ensures.value (λ told_read next is on_read. c.replay_items.ensures.sound seen told_read h (events_of next.rest) is
+          (next_holds h done c.self.inside.tally.listing.events c.args.gate (packet_of c.read_packet.new.entry) c.of.result _
+          (subst (λ g. IsPast h done c.self.inside.tally.listing.events g) (sym gate_same) way.past) next c.of.ensures.value refl (ap (λ n. n + 1) c.len-first.ensures)) on_read file at
+          (c.in-Err-replay_items.is ∙ ap Err same))));
       stays_sound = λ seen told h done way gate_same. keys_stay (bays g) (lawful g) c.read_packet.ensures.keeps c.self.inside.tally c.self.inside.log c.self.inside.last
           seen told h done c.args.gate way gate_same (c.self.invariant.taking way.taking).recounted
           (packet_of c.read_packet.new.entry) (held_at c.at_gate-self-inside.ensures (c.in-Ok-true.ensures.found seen told c.in-Ok-true.field-0-test))
-          c.keys_of.result.now c.keys_of.ensures.value _ refl (ap (λ n. n + 1) c.len-first.ensures) _ _ _ c.replay_keys.ensures;
+          c.of.result c.of.ensures.value _ refl (ap (λ n. n + 1) c.len-first.ensures) _ _ _ c.replay_items.ensures;
       unflushed = λ seen told none. keys_unwritten (bays g) (lawful g) c.read_packet.ensures.keeps c.self.inside.tally.listing.settings
-          (length c.self.inside.tally.listing.events) c.self.inside.last.n0 (packet_of c.read_packet.new.entry) c.keys_of.result.now _ c.keys_of.ensures.value
+          (length c.self.inside.tally.listing.events) c.self.inside.last.n0 (packet_of c.read_packet.new.entry) c.of.result _ c.of.ensures.value
           (none (packet_of c.read_packet.new.entry) (held_at c.at_gate-self-inside.ensures (c.in-Ok-true.ensures.found seen told
-          c.in-Ok-true.field-0-test)) (c.in-Ok-true.ensures.follows c.in-Ok-true.field-0-test)) c.replay_keys.ensures.unflushed;
+          c.in-Ok-true.field-0-test)) (c.in-Ok-true.ensures.follows c.in-Ok-true.field-0-test)) c.replay_items.ensures.unflushed;
       malformed = λ at same.
           let answer : c.from-fault.result ≡ Malformed at = one_fault same in
-          absurd (keys_never_malformed c.in-Err-replay_keys.fault at (sym c.from-fault.ensures ∙ answer));
+          absurd (keys_never_malformed c.in-Err-replay_items.fault at (sym c.from-fault.ensures ∙ answer));
       log = let taking : c.self.inside.stopped ≡ None = subst (λ (v : Replaying g.row.B.Denot). v.stopped ≡ None) (sym c.self.view_is) c.requires.taking in
           logged_behind (bays g) (lawful g) c.read_packet.ensures.keeps c.self.inside.tally.listing.settings _ _
-          c.replay_keys.new.bay c.replay_keys.result (Err c.from-fault.result) (c.self.invariant.taking taking).log_shut c.replay_keys.ensures.keeps.journal (λ P holds. tt)
-          c.replay_keys.ensures.log;
+          c.replay_items.new.bay c.replay_items.result (Err c.from-fault.result) (c.self.invariant.taking taking).log_shut c.replay_items.ensures.keeps.journal (λ P holds. tt)
+          c.replay_items.ensures.log;
       framed = λ seen told some. tt;
       whole = λ seen told some at same.
           let answer : c.from-fault.result ≡ Unsound 2 at = one_fault same in
-          let fault_is = unsound_keys c.in-Err-replay_keys.fault 2 at (sym c.from-fault.ensures ∙ answer) in
-          c.replay_keys.ensures.whole seen (c.read_packet.ensures.keeps.reads.seen ∙ told) some at (c.in-Err-replay_keys.is ∙ ap Err fault_is);
+          let fault_is = unsound_keys c.in-Err-replay_items.fault 2 at (sym c.from-fault.ensures ∙ answer) in
+          c.replay_items.ensures.whole seen (c.read_packet.ensures.keeps.reads.seen ∙ told) some at (c.in-Err-replay_items.is ∙ ap Err fault_is);
       unsound = λ file at same.
           let answer : c.from-fault.result ≡ Unsound file at = one_fault same in
-          let fault_is = unsound_keys c.in-Err-replay_keys.fault file at (sym c.from-fault.ensures ∙ answer) in
-          λ seen told. c.replay_keys.ensures.keeps.shows seen told file at (c.in-Err-replay_keys.is ∙ ap Err fault_is);
+          let fault_is = unsound_keys c.in-Err-replay_items.fault file at (sym c.from-fault.ensures ∙ answer) in
+          λ seen told. c.replay_items.ensures.keeps.shows seen told file at (c.in-Err-replay_items.is ∙ ap Err fault_is);
       same_cone = record {
-        settings = ap (λ (l : Listing). l.settings) c.replay_keys.ensures.listing;
-        cone = ap (λ (l : Listing). l.cone) c.replay_keys.ensures.listing;
+        settings = ap (λ (l : Listing). l.settings) c.replay_items.ensures.listing;
+        cone = ap (λ (l : Listing). l.cone) c.replay_items.ensures.listing;
         made = refl;
         last = refl;
       };
-      journal = alone_behind (bays g) (lawful g) c.read_packet.ensures.keeps 0 c.replay_keys.new.bay c.replay_keys.ensures.keeps.journal;
-      kept = calls_behind (bays g) (lawful g) c.read_packet.ensures.keeps c.replay_keys.new.bay _ _ (λ same.
+      journal = alone_behind (bays g) (lawful g) c.read_packet.ensures.keeps 0 c.replay_items.new.bay c.replay_items.ensures.keeps.journal;
+      kept = calls_behind (bays g) (lawful g) c.read_packet.ensures.keeps c.replay_items.new.bay _ _ (λ same.
           let answer : c.from-fault.result ≡ Failed = one_fault same in
-          c.in-Err-replay_keys.is ∙ ap Err (failed_keys c.in-Err-replay_keys.fault (sym c.from-fault.ensures ∙ answer))) c.replay_keys.ensures.keeps.kept;
-      handed = broken_read c.self.inside.tally.listing.settings (packet_of c.read_packet.new.entry) _ _ (g.B.Bay.handed_out c.replay_keys.new.bay) c.replay_keys.ensures.keeps.kept.journal
+          c.in-Err-replay_items.is ∙ ap Err (failed_keys c.in-Err-replay_items.fault (sym c.from-fault.ensures ∙ answer))) c.replay_items.ensures.keeps.kept;
+      handed = broken_read c.self.inside.tally.listing.settings (packet_of c.read_packet.new.entry) _ _ (g.B.Bay.handed_out c.replay_items.new.bay) c.replay_items.ensures.keeps.kept.journal
           c.in-Ok-true.field-0 _ _ c.in-Ok-true.ensures.handed c.in-Ok-true.field-0-test (ap (λ (j : Log). j.gate) (c.in-Ok-true.ensures.moved c.in-Ok-true.field-0-test))
           (c.in-Ok-true.ensures.forward c.in-Ok-true.field-0-test).1;
     })
@@ -153,10 +158,10 @@ returns-in_default g c =
     rw (← c.self.view_is) (record {
       taken = let taking : c.self.inside.stopped ≡ None = subst (λ (v : Replaying g.row.B.Denot). v.stopped ≡ None) (sym c.self.view_is) c.requires.taking in
           let was = c.self.invariant.taking taking in
-          let listing_is = listing_more c.self.inside.tally.listing c.replay_keys.new.tally.listing (keys_in c.read_packet.new.entry.keys.items) c.keys_of.result.now
-          c.replay_keys.ensures.listing c.in_default.ensures.taken c.keys_of.ensures.value in
+          let listing_is = listing_more c.self.inside.tally.listing c.replay_items.new.tally.listing c.read_packet.new.entry.keys.items c.of.result
+          c.replay_items.ensures.listing c.in_default.ensures.taken c.of.ensures.value in
           let moved = moved_on (payload_of written (packet_of c.read_packet.new.entry)) (c.in-Ok-true.ensures.moved c.in-Ok-true.field-0-test) c.at_gate-self-inside.ensures in
-          let events_is = length_more c.self.inside.tally.listing c.replay_keys.new.tally.listing (keys_in c.read_packet.new.entry.keys.items) c.self.inside.events c.len-self-inside.result
+          let events_is = length_more c.self.inside.tally.listing c.replay_items.new.tally.listing c.read_packet.new.entry.keys.items c.self.inside.events c.len-self-inside.result
           listing_is was.counted c.len-self-inside.ensures in
           record {
             packet = (packet_of c.read_packet.new.entry);
@@ -164,8 +169,8 @@ returns-in_default g c =
             journaled = c.in-Ok-true.ensures.journaled c.in-Ok-true.field-0-test;
             follows = c.in-Ok-true.ensures.follows c.in-Ok-true.field-0-test;
             next_is = c.gate.ensures.value ∙ moved;
-            is = λ i. record (seen_as c.replay_keys.new.bay c.self.inside.made.value c.replay_keys.new.tally (events_is i) c.self.inside.stopped
-                ((sym c.gate.ensures.value) i) c.replay_keys.new.log c.self.inside.last) { listing = listing_is i };
+            is = λ i. record (seen_as c.replay_items.new.bay c.self.inside.made.value c.replay_items.new.tally (events_is i) c.self.inside.stopped
+                ((sym c.gate.ensures.value) i) c.replay_items.new.log c.self.inside.last) { listing = listing_is i };
           };
       forward = went_on c.at_gate-self-inside.result.gate c.args.gate c.read_packet.new.journal.gate c.gate.result
           c.self.inside.tally.listing.settings.packet (ap (λ (j : Log). j.gate) c.at_gate-self-inside.ensures) c.gate.ensures.value
@@ -173,49 +178,49 @@ returns-in_default g c =
       ended = tt;
       refused = tt;
       broke = tt;
-      replays = let listing_is = listing_more c.self.inside.tally.listing c.replay_keys.new.tally.listing (keys_in c.read_packet.new.entry.keys.items) c.keys_of.result.now
-          c.replay_keys.ensures.listing c.in_default.ensures.taken c.keys_of.ensures.value in
+      replays = let listing_is = listing_more c.self.inside.tally.listing c.replay_items.new.tally.listing c.read_packet.new.entry.keys.items c.of.result
+          c.replay_items.ensures.listing c.in_default.ensures.taken c.of.ensures.value in
           let moved = moved_on (payload_of written (packet_of c.read_packet.new.entry)) (c.in-Ok-true.ensures.moved c.in-Ok-true.field-0-test) c.at_gate-self-inside.ensures in
           λ seen told h done way gate_same.
           let past : IsPast h done c.self.inside.tally.listing.events c.args.gate = subst (λ g. IsPast h done c.self.inside.tally.listing.events g) (sym gate_same) way.past in
           with_keys (bays g) (lawful g) c.read_packet.ensures.keeps c.self.inside.tally c.self.inside.log c.self.inside.last seen told h done c.args.gate way gate_same
           (packet_of c.read_packet.new.entry) (held_at c.at_gate-self-inside.ensures (c.in-Ok-true.ensures.found seen told
-          c.in-Ok-true.field-0-test)) c.keys_of.result.now c.keys_of.ensures.value (λ told_read next is on_read. (
+          c.in-Ok-true.field-0-test)) c.of.result c.of.ensures.value (λ told_read next is on_read. (
             (packet_of c.read_packet.new.entry),
             record {
               taking = way.taking;
               past = subst (λ (l : Listing). IsPast h (done ++ (packet_of c.read_packet.new.entry) ∷ []) l.events c.read_packet.new.journal.gate) (sym listing_is)
-                  (subst (λ g. IsPast h (done ++ (packet_of c.read_packet.new.entry) ∷ []) (c.self.inside.tally.listing.events ++ (keys_in c.read_packet.new.entry.keys.items)) g) (sym moved)
+                  (subst (λ g. IsPast h (done ++ (packet_of c.read_packet.new.entry) ∷ []) (c.self.inside.tally.listing.events ++ c.read_packet.new.entry.keys.items) g) (sym moved)
                   (past_more h done c.self.inside.tally.listing.events c.args.gate (packet_of c.read_packet.new.entry) past next));
               on_way = c.in_default.ensures.on_way seen told_read h (events_of next.rest) is
-                  (next_holds h done c.self.inside.tally.listing.events c.args.gate (packet_of c.read_packet.new.entry) c.keys_of.result.now _ past next c.keys_of.ensures.value refl
+                  (next_holds h done c.self.inside.tally.listing.events c.args.gate (packet_of c.read_packet.new.entry) c.of.result _ past next c.of.ensures.value refl
                   (ap (λ n. n + 1) c.len-first.ensures)) on_read;
             },
           ));
       stays_sound = λ seen told h done way gate_same. keys_stay (bays g) (lawful g) c.read_packet.ensures.keeps c.self.inside.tally c.self.inside.log c.self.inside.last
           seen told h done c.args.gate way gate_same (c.self.invariant.taking way.taking).recounted
           (packet_of c.read_packet.new.entry) (held_at c.at_gate-self-inside.ensures (c.in-Ok-true.ensures.found seen told c.in-Ok-true.field-0-test))
-          c.keys_of.result.now c.keys_of.ensures.value _ refl (ap (λ n. n + 1) c.len-first.ensures) _ _ _ c.replay_keys.ensures;
+          c.of.result c.of.ensures.value _ refl (ap (λ n. n + 1) c.len-first.ensures) _ _ _ c.replay_items.ensures;
       unflushed = λ seen told none. keys_unwritten (bays g) (lawful g) c.read_packet.ensures.keeps c.self.inside.tally.listing.settings
-          (length c.self.inside.tally.listing.events) c.self.inside.last.n0 (packet_of c.read_packet.new.entry) c.keys_of.result.now _ c.keys_of.ensures.value
+          (length c.self.inside.tally.listing.events) c.self.inside.last.n0 (packet_of c.read_packet.new.entry) c.of.result _ c.of.ensures.value
           (none (packet_of c.read_packet.new.entry) (held_at c.at_gate-self-inside.ensures (c.in-Ok-true.ensures.found seen told
-          c.in-Ok-true.field-0-test)) (c.in-Ok-true.ensures.follows c.in-Ok-true.field-0-test)) c.replay_keys.ensures.unflushed;
+          c.in-Ok-true.field-0-test)) (c.in-Ok-true.ensures.follows c.in-Ok-true.field-0-test)) c.replay_items.ensures.unflushed;
       malformed = λ at same. absurd (no_fault same);
       log = let taking : c.self.inside.stopped ≡ None = subst (λ (v : Replaying g.row.B.Denot). v.stopped ≡ None) (sym c.self.view_is) c.requires.taking in
           logged_behind (bays g) (lawful g) c.read_packet.ensures.keeps c.self.inside.tally.listing.settings _ _
-          c.replay_keys.new.bay _ (Ok (Some c.gate.result)) (c.self.invariant.taking taking).log_shut c.replay_keys.ensures.keeps.journal (λ P holds. holds) c.in_default.ensures.log;
+          c.replay_items.new.bay _ (Ok (Some c.gate.result)) (c.self.invariant.taking taking).log_shut c.replay_items.ensures.keeps.journal (λ P holds. holds) c.in_default.ensures.log;
       framed = λ seen told some. c.in_default.ensures.framed seen (c.read_packet.ensures.keeps.reads.seen ∙ told) some;
       whole = λ seen told some at same. no_fault same;
       unsound = λ file at same. absurd (no_fault same);
       same_cone = record {
-        settings = ap (λ (l : Listing). l.settings) c.replay_keys.ensures.listing;
-        cone = ap (λ (l : Listing). l.cone) c.replay_keys.ensures.listing;
+        settings = ap (λ (l : Listing). l.settings) c.replay_items.ensures.listing;
+        cone = ap (λ (l : Listing). l.cone) c.replay_items.ensures.listing;
         made = refl;
         last = refl;
       };
-      journal = alone_behind (bays g) (lawful g) c.read_packet.ensures.keeps 0 c.replay_keys.new.bay c.replay_keys.ensures.keeps.journal;
-      kept = calls_behind (bays g) (lawful g) c.read_packet.ensures.keeps c.replay_keys.new.bay _ _ (λ same. absurd (no_fault same)) c.replay_keys.ensures.keeps.kept;
-      handed = taken_read c.self.inside.tally.listing.settings (packet_of c.read_packet.new.entry) _ _ (g.B.Bay.handed_out c.replay_keys.new.bay) c.replay_keys.ensures.keeps.kept.journal
+      journal = alone_behind (bays g) (lawful g) c.read_packet.ensures.keeps 0 c.replay_items.new.bay c.replay_items.ensures.keeps.journal;
+      kept = calls_behind (bays g) (lawful g) c.read_packet.ensures.keeps c.replay_items.new.bay _ _ (λ same. absurd (no_fault same)) c.replay_items.ensures.keeps.kept;
+      handed = taken_read c.self.inside.tally.listing.settings (packet_of c.read_packet.new.entry) _ _ (g.B.Bay.handed_out c.replay_items.new.bay) c.replay_items.ensures.keeps.kept.journal
           c.in-Ok-true.field-0 c.args.gate c.gate.result c.in-Ok-true.ensures.handed c.in-Ok-true.field-0-test
           (c.gate.ensures.value ∙ moved_on (payload_of written (packet_of c.read_packet.new.entry)) (c.in-Ok-true.ensures.moved c.in-Ok-true.field-0-test) c.at_gate-self-inside.ensures);
     })

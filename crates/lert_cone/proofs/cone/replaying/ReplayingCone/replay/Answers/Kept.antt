@@ -1,7 +1,6 @@
 -- What a replay of one record keeps of its cone, at each of its exits.
 use Rattle.lert_cone.proofs.SoundLaws.{some_keys_of}
-use Rattle.lert_spec.specs.Items.{keys_in}
-use Rattle.lert_levels.specs.OnDisk.{written}
+use Rattle.lert_cone.specs.History.{written}
 use Rattle.lert_bay.specs.Kept.{Bays, seen_by}
 use Rattle.std.proofs.Common.{◌≡◌, ◌∙◌, ◌*◌, ◌++◌, length, take, drop, None, refl, sym, ap, subst, arith}
 use Rattle.lert_base.specs.Entries.{packet_of}
@@ -24,13 +23,13 @@ lawful g = record { as_read = g.met.B.Bay.as_read; since_now = g.met.B.Bay.since
 pub broken_keys_kept : goal.invariant_of-self
 broken_keys_kept g c =
     let len_is : c.self.inside.buffer.len ≡ length c.self.inside.buffer.items = omega (arith, c.self.inside.buffer.ok) in
-    stopped_cone refl (ap (λ (l : Listing). l.settings) c.replay_keys.ensures.listing) refl refl
+    stopped_cone refl (ap (λ (l : Listing). l.settings) c.replay_items.ensures.listing) refl refl
     ((c.read_packet.ensures.keeps.file ∙ ap (λ (j : Log). j.file) c.at_gate-self-inside.ensures) ∙ sym c.self.invariant.file)
     ((c.read_packet.ensures.keeps.most ∙ ap (λ (j : Log). j.most) c.at_gate-self-inside.ensures ∙ c.greatest_payload-most.ensures.value ∙ ap most_payload c.settings.ensures)
-    ∙ sym c.self.invariant.most) (refilled_twice c.self.inside.buffer.len c.self.inside.buffer.items c.read_packet.new.buffer c.replay_keys.new.buffer len_is) c.read_packet.ensures.keeps.roomy
-    (omega (arith, c.read_packet.ensures.keeps.reads.kept.never_falls, c.replay_keys.ensures.keeps.kept.never_falls)) (turns_on
-    (turns_as c.read_packet.ensures.keeps.reads.seen) c.replay_keys.ensures.keeps.journal.seen)
-    (c.replay_keys.ensures.keeps.kept.mark ∙ c.read_packet.ensures.keeps.reads.kept.mark)
+    ∙ sym c.self.invariant.most) (refilled_twice c.self.inside.buffer.len c.self.inside.buffer.items c.read_packet.new.buffer c.replay_items.new.buffer len_is) c.read_packet.ensures.keeps.roomy
+    (omega (arith, c.read_packet.ensures.keeps.reads.kept.never_falls, c.replay_items.ensures.keeps.kept.never_falls)) (turns_on
+    (turns_as c.read_packet.ensures.keeps.reads.seen) c.replay_items.ensures.keeps.journal.seen)
+    (c.replay_items.ensures.keeps.kept.mark ∙ c.read_packet.ensures.keeps.reads.kept.mark)
     c.self.invariant
 
 pub taken_kept : goal.invariant_of-self-in-Ok-true
@@ -38,27 +37,27 @@ taken_kept g c =
     let taking : c.self.inside.stopped ≡ None = subst (λ (v : Replaying g.row.B.Denot). v.stopped ≡ None) (sym c.self.view_is) c.requires.taking in
     let was = c.self.invariant.taking taking in
     let len_is : c.self.inside.buffer.len ≡ length c.self.inside.buffer.items = omega (arith, c.self.inside.buffer.ok) in
-    let listing_is = listing_more c.self.inside.tally.listing c.replay_keys.new.tally.listing (keys_in c.read_packet.new.entry.keys.items) c.keys_of.result.now
-    c.replay_keys.ensures.listing c.in_default.ensures.taken c.keys_of.ensures.value in
+    let listing_is = listing_more c.self.inside.tally.listing c.replay_items.new.tally.listing c.read_packet.new.entry.keys.items c.of.result
+    c.replay_items.ensures.listing c.in_default.ensures.taken c.of.ensures.value in
     let moved = moved_on (payload_of written (packet_of c.read_packet.new.entry)) (c.in-Ok-true.ensures.moved c.in-Ok-true.field-0-test) c.at_gate-self-inside.ensures in
-    let events_is = length_more c.self.inside.tally.listing c.replay_keys.new.tally.listing (keys_in c.read_packet.new.entry.keys.items) c.self.inside.events c.len-self-inside.result
+    let events_is = length_more c.self.inside.tally.listing c.replay_items.new.tally.listing c.read_packet.new.entry.keys.items c.self.inside.events c.len-self-inside.result
     listing_is was.counted c.len-self-inside.ensures in
-    let settings_are : c.replay_keys.new.tally.listing.settings ≡ c.self.inside.tally.listing.settings = ap (λ (l : Listing). l.settings) listing_is in
+    let settings_are : c.replay_items.new.tally.listing.settings ≡ c.self.inside.tally.listing.settings = ap (λ (l : Listing). l.settings) listing_is in
     let journaled = c.in-Ok-true.ensures.journaled c.in-Ok-true.field-0-test in
-    let long = lent_again c.self.inside.buffer.len c.self.inside.buffer.items c.read_packet.new.buffer c.replay_keys.new.buffer _ len_is c.deref_mut-in-Ok-true.ensures.value
-    c.replay_keys.auto.buffer in
+    let long = lent_again c.self.inside.buffer.len c.self.inside.buffer.items c.read_packet.new.buffer c.replay_items.new.buffer _ len_is c.deref_mut-in-Ok-true.ensures.value
+    c.replay_items.auto.buffer in
     record {
       file = c.read_packet.ensures.keeps.file ∙ ap (λ (j : Log). j.file) c.at_gate-self-inside.ensures;
       most = (c.read_packet.ensures.keeps.most ∙ ap (λ (j : Log). j.most) c.at_gate-self-inside.ensures ∙ c.greatest_payload-most.ensures.value ∙ ap most_payload c.settings.ensures)
           ∙ ap most_payload (sym settings_are);
-      roomy = refilled_twice c.self.inside.buffer.len c.self.inside.buffer.items c.read_packet.new.buffer c.replay_keys.new.buffer len_is
+      roomy = refilled_twice c.self.inside.buffer.len c.self.inside.buffer.items c.read_packet.new.buffer c.replay_items.new.buffer len_is
           ∙ c.self.invariant.roomy ∙ ap room_of (sym settings_are);
       keys_roomy = c.read_packet.ensures.keeps.roomy ∙ c.self.invariant.keys_roomy ∙ ap (λ (s : Numbers). 4 * s.packet) (sym settings_are);
       within = omega (arith, c.in_default.ensures.recounted.fits, c.len-self-inside.ensures);
       valid = c.in_default.ensures.recounted.valid;
-      never_falls = omega (arith, c.self.invariant.never_falls, c.read_packet.ensures.keeps.reads.kept.never_falls, c.replay_keys.ensures.keeps.kept.never_falls);
-      tells = turns_on (turns_on c.self.invariant.tells (turns_as c.read_packet.ensures.keeps.reads.seen)) c.replay_keys.ensures.keeps.journal.seen;
-      marked = c.replay_keys.ensures.keeps.kept.mark ∙ c.read_packet.ensures.keeps.reads.kept.mark ∙ c.self.invariant.marked;
+      never_falls = omega (arith, c.self.invariant.never_falls, c.read_packet.ensures.keeps.reads.kept.never_falls, c.replay_items.ensures.keeps.kept.never_falls);
+      tells = turns_on (turns_on c.self.invariant.tells (turns_as c.read_packet.ensures.keeps.reads.seen)) c.replay_items.ensures.keeps.journal.seen;
+      marked = c.replay_items.ensures.keeps.kept.mark ∙ c.read_packet.ensures.keeps.reads.kept.mark ∙ c.self.invariant.marked;
       taking = λ _. record {
         counted = sym c.len-self-inside.ensures;
         recounted = c.in_default.ensures.recounted;
@@ -66,8 +65,8 @@ taken_kept g c =
         near = near_then c.args.gate c.read_packet.new.journal.gate c.self.inside.events c.len-self-inside.result (packet_of c.read_packet.new.entry) c.requires.reach moved
             (some_keys_of _ _ _ journaled)
             events_is;
-        journal_settled = settled_then c.replay_keys.ensures.keeps.journal (read_settled c.read_packet.ensures.keeps.reads.seen c.read_packet.ensures.keeps.reads.images was.journal_settled);
-        logging = subst (λ n. IsLogging c.replay_keys.new.tally c.replay_keys.new.log n) long c.in_default.ensures.can_log.logging;
+        journal_settled = settled_then c.replay_items.ensures.keeps.journal (read_settled c.read_packet.ensures.keeps.reads.seen c.read_packet.ensures.keeps.reads.images was.journal_settled);
+        logging = subst (λ n. IsLogging c.replay_items.new.tally c.replay_items.new.log n) long c.in_default.ensures.can_log.logging;
         log_shut = c.in_default.ensures.can_log.log_shut;
       };
     }
