@@ -7,7 +7,7 @@ import hashlib
 import re
 import shutil
 from pathlib import Path
-from typing import Callable
+from typing import Callable, Collection
 
 TOP = Path(__file__).resolve().parents[2]
 MEASURED = TOP / "docs/dev/GATE.md"
@@ -62,15 +62,18 @@ class Crates:
             found += [each for each in [*self.below(used), used] if each not in found]
         return found
 
-    def words(self, verb: str, name: str, rlib: Callable[[str], Path]) -> list[str]:
-        """The words with which rt has rattle check or build a crate, in its folder, over libraries that stand there."""
+    def words(self, verb: str, name: str, rlib: Callable[[str], Path], as_source: Collection[str] = ()) -> list[str]:
+        """The words with which rt has rattle check or build a crate, in its folder, over libraries that stand there, and
+        over others as source."""
         top, libraries = kit(), kit() / "rlibs"
         root = "src/main.rt" if (self.folder(name) / "src/main.rt").is_file() else "src/lib.rt"
         words = [str(top / "bin/rattle"), verb, "--crate-name", name, root]
         places = {used: libraries / f"{used}.rlib" for used in ["std", *self.of_kit(name)]}
-        places |= {used: rlib(used) for used in self.needs(name)}
+        places |= {used: rlib(used) for used in self.needs(name) if used not in as_source}
         words += [word for used, place in places.items() for word in ("--extern", f"{used}={place}")]
-        folders = [libraries, *(rlib(used).parent for used in self.below(name))]
+        sources = [used for used in self.below(name) if used in as_source]
+        words += [word for used in sources for word in ("--lib", f"{used}={self.folder(used) / 'src/lib.rt'}")]
+        folders = [libraries, *(rlib(used).parent for used in self.below(name) if used not in as_source)]
         words += [word for folder in dict.fromkeys(folders) for word in ("-L", f"dependency={folder}")]
         words += ["--antt-project", str(top / "rattle/logic/antt-project.json"), "--logic-built", str(top / "logic_built")]
         return [*words, "--links", f"{name}="]
