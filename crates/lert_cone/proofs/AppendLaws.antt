@@ -3,8 +3,7 @@ use Rattle.lert_spec.specs.declared.item.Item.{Item}
 use Rattle.std.proofs.Common.{◌≡◌, ℕ, ◌+◌, ◌-◌, ◌^◌, ◌<◌, ◌≤◌, false, List, [], ◌∷◌, ◌++◌, length, Some, All, Result, Ok, Err, OnOk, refl, sym, ap, ◌∙◌, subst, inl, inr, arith, length-append}
 use Rattle.std.proofs.{Common.append-nil, lemmas.Bool.false≢true, lemmas.List.take_at, lemmas.List.Elements.{All-append, All-nil, All-cons}}
 use Rattle.std.specs.Result.{is_err}
-use Rattle.lert_base.specs.Packet.{keys_of}
-use Rattle.lert_base.specs.Packet.{Packet, events_of}
+use Rattle.lert_base.specs.Packet.{keys_of, Packet, events_of}
 use Rattle.lert_bay.specs.{Files.Files, Settled.part}
 use Rattle.lert_gatelog.specs.{Gated.next_gate, Kept.{InEach, KeepsOthers, KeepsBefore, IsWhollySettled}}
 use Rattle.lert_journal.specs.{Journal.{HasPackets, HasPacketsOrOneMore}, Payload.{payload_of, IsJournaled}}

@@ -3,10 +3,9 @@ use Rattle.lert_spec.specs.Counts.{weighed}
 use Rattle.std.proofs.{Common.{◌≡◌, ℕ, zero, suc, ◌+◌, ◌-◌, ◌^◌, ◌<◌, ◌≤◌, All, List, [], ◌∷◌, ◌++◌, drop, map, take, Some, None, refl, sym, arith}, lemmas.List.Elements.{All-nil, All-cons}}
 use Rattle.std.specs.Prelude.{slice_index_or}
 use Rattle.lert_cone.specs.History.{written}
-use Rattle.lert_base.specs.Packet.{keys_of}
+use Rattle.lert_base.specs.Packet.{keys_of, Packet, events_of}
 use Rattle.lert_spec.specs.Items.{units}
 use Rattle.lert_spec.proofs.ItemLaws.{units_of_version}
-use Rattle.lert_base.specs.Packet.{Packet, events_of}
 use Rattle.lert_bay.specs.Files.{Files}
 use Rattle.lert_journal.specs.Payload.{IsJournaled}
 use Rattle.lert_spec.specs.{declared.numbers.Numbers.Numbers, Mix.{mix, cone_of}, Bins.bins_of, Edges.edge, Look.closing_of}

@@ -3,8 +3,7 @@ use Rattle.lert_spec.specs.declared.item.Item.{Item}
 use Rattle.std.proofs.Common.{◌≡◌, ℕ, ◌+◌, ◌<◌, ◌≤◌, ◌^◌, Bool, true, false, List, [], ◌∷◌, ◌++◌, length, take, drop, map, All, sym, ap, ◌∙◌, subst, inl, inr, ◌⊎◌, arith, length-append, append-nil}
 use Rattle.std.proofs.{Common.append_assoc, Math.Seq.get_or-append_seam, lemmas.Bool.false≢true, lemmas.Grind.flat_map-append, lemmas.List.take-append-drop}
 use Rattle.lert_cone.specs.History.{written}
-use Rattle.lert_base.specs.Packet.{keys_of}
-use Rattle.lert_base.specs.Packet.{Packet, events_of}
+use Rattle.lert_base.specs.Packet.{keys_of, Packet, events_of}
 use Rattle.lert_gatelog.specs.Gated.{IsOpen, IsClosed, Records, next_gate}
 use Rattle.lert_gatelog.proofs.Deciding.{one_payload, open_or_closed}
 use Rattle.lert_journal.specs.{Journal.{HoldsPacket, LeavesAt}, Payload.{payload_of, packet_in, IsJournaled}}

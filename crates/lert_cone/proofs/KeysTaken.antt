@@ -1,8 +1,7 @@
 -- Keys in turn: none, one more, and one that isn't taken.
-use Rattle.lert_spec.specs.Items.{most_weight}
+use Rattle.lert_spec.specs.Items.{most_weight, unit}
 use Rattle.lert_cone.specs.History.{written}
 use Rattle.lert_spec.specs.declared.item.Item.{Item}
-use Rattle.lert_spec.specs.Items.{unit}
 use Rattle.std.proofs.Common.{◌≡◌, ℕ, ◌+◌, ◌<◌, ◌≤◌, List, [], ◌∷◌, ◌++◌, All, length, take, drop, get_or, Result, Ok, Err, OnOk, refl, sym, ap, ◌∙◌, subst, inl, inr, arith, length-append}
 use Rattle.std.proofs.{Common.{append_assoc, append-nil, length-take}, lemmas.List.{take_all, take_more, take-append-drop}, lemmas.List.Elements.{All-nil, All-cons}, lemmas.Option.same_Some}
 use Rattle.std.specs.Result.{IsErrAnd}

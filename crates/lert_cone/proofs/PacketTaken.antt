@@ -2,8 +2,7 @@
 use Rattle.std.specs.{Prelude.IsErr, Result.IsErrAnd}
 use Rattle.std.proofs.Common.{◌≡◌, ℕ, ◌+◌, ◌^◌, ◌<◌, ◌≤◌, List, [], ◌∷◌, ◌++◌, All, length, Result, Ok, Err, OnOk, OnErr, Some, refl, ap, ◌∙◌, subst, inl, inr, arith, sym}
 use Rattle.lert_cone.specs.History.{written}
-use Rattle.lert_base.specs.Packet.{keys_of}
-use Rattle.lert_base.specs.Packet.{Packet, events_of}
+use Rattle.lert_base.specs.Packet.{keys_of, Packet, events_of}
 use Rattle.lert_bay.specs.{Files.{Files, IfTold, Turns}, Kept.{Bays, KeepsBay}}
 use Rattle.lert_gatelog.specs.{Gated.{IsClosed, Log, next_gate}, Kept.{InEach, KeepsOthers, KeepsBefore, IsWhollySettled, OthersStay}}
 use Rattle.lert_io.specs.declared.faulty.Failed.{Failed as Fault}

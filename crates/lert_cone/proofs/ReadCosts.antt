@@ -1,13 +1,12 @@
 -- How many bytes of the journal the replay of a packet hands out.
 use Rattle.std.proofs.{Common.{◌≡◌, ℕ, ◌+◌, ◌*◌, ◌-◌, ◌≤◌, Bool, true, false, Ok, Err, length, refl, subst, arith}, lemmas.Bool.{false≢true, true≢false}}
-use Rattle.lert_cone.specs.History.{written}
+use Rattle.lert_cone.specs.History.{written, most_payload}
 use Rattle.lert_base.specs.Packet.{Packet}
 use Rattle.lert_bay.specs.{Handed.ReadsUpTo, declared.bay.TheConstants.JOURNAL}
 use Rattle.lert_bay.proofs.HandedLaws.{up_to_more}
 use Rattle.lert_gatelog.specs.{Gated.next_gate, declared.fault.LogFault.LogFault, declared.fault.LogFault.TheVariants.{Failed, Malformed}}
 use Rattle.lert_journal.specs.{Cost.entry_cost, Payload.payload_of}
 use Rattle.lert_spec.specs.declared.numbers.Numbers.{Numbers}
-use Rattle.lert_cone.specs.History.{most_payload}
 
 -- ---- a packet is read
 

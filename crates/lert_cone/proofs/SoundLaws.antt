@@ -1,16 +1,12 @@
 -- The files of a cone as their headers leave them, and through an append.
 use Rattle.lert_spec.specs.declared.item.Item.{Item}
-use Rattle.lert_spec.specs.Items.{AreOfVersion}
-use Rattle.lert_spec.specs.Items.{most_weight}
-use Rattle.std.proofs.lemmas.List.Elements.{All-head}
-use Rattle.std.proofs.lemmas.List.Elements.{All-append}
-use Rattle.std.proofs.lemmas.List.Elements.{All-tail}
+use Rattle.lert_spec.specs.Items.{AreOfVersion, most_weight}
+use Rattle.std.proofs.lemmas.List.Elements.{All-head, All-append, All-tail}
 use Rattle.std.proofs.Common.{◌≡◌, ℕ, ◌+◌, ◌^◌, ◌<◌, ◌≤◌, List, [], ◌∷◌, ◌++◌, length, take, get_or, Option, Some, None, All, refl, sym, ap, ◌∙◌, subst, arith, length-append, append-nil}
 use Rattle.std.proofs.{Math.Seq.get_or-append_seam, lemmas.Grind.flat_map-append, lemmas.List.{take-take, take_at, take_all}, lemmas.List.Elements.All-nil, lemmas.Option.{none-some, same_Some}}
 use Rattle.lert_spec.proofs.ItemLaws.{length-keys_in}
 use Rattle.lert_cone.specs.History.{written}
-use Rattle.lert_base.specs.Packet.{keys_of}
-use Rattle.lert_base.specs.Packet.{Packet, events_of}
+use Rattle.lert_base.specs.Packet.{keys_of, Packet, events_of}
 use Rattle.lert_bay.specs.{Files.{Files, Turns}, Settled.{part, Keeps}}
 use Rattle.lert_gatelog.specs.{Gated.{IsClosed, next_gate}, Kept.{InEach, KeepsOthers, IsWhollySettled, OthersStay}}
 use Rattle.lert_gatelog.proofs.GatedLaws.{byte_of_part, part_within}

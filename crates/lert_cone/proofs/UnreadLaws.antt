@@ -1,12 +1,10 @@
 -- The items that a reopening doesn't read: as many items of the cone as are asked for, and of a journal its first ones.
-use Rattle.std.proofs.Common.{min}
-use Rattle.std.proofs.Common.{max}
+use Rattle.std.proofs.Common.{min, max}
 use Rattle.std.proofs.Common.{◌≡◌, ℕ, zero, suc, ◌+◌, ◌<◌, ◌≤◌, ◌^◌, List, [], ◌∷◌, ◌++◌, length, map, take, replicate, All, Option, Some, refl, sym, ap, ap₂, ◌∙◌, subst, arith, append_assoc}
 use Rattle.std.proofs.{Common.length-append}
 use Rattle.std.proofs.{lemmas.List.{length-map, length-replicate, length-take-le, map-append, take-append-le, take_all}, lemmas.List.Elements.{All-nil, All-cons, All-head, All-tail}}
 use Rattle.lert_cone.specs.History.{written}
-use Rattle.lert_base.specs.Packet.{keys_of}
-use Rattle.lert_base.specs.Packet.{Packet, events_of}
+use Rattle.lert_base.specs.Packet.{keys_of, Packet, events_of}
 use Rattle.lert_bay.specs.{Files.Files, Settled.part}
 use Rattle.lert_gatelog.specs.Gated.{Records, IsOpen, counted_at}
 use Rattle.lert_journal.specs.Payload.{IsJournaled, packet_in, payload_of}

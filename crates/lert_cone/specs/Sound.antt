@@ -1,8 +1,7 @@
 -- What the files of a cone hold for a list of packets, and what a bay keeps of that.
 use Rattle.std.specs.Prelude.{◌≡◌, ℕ, ◌-◌, ◌^◌, ◌<◌, ◌≤◌, Bool, true, List, [], ◌∷◌, ◌++◌, length, take, All, Option, Some, slice_index_or, if◌then◌else◌}
 use Rattle.std.proofs.Common.{◌⊎◌}
-use Rattle.lert_base.specs.Packet.{keys_of}
-use Rattle.lert_base.specs.Packet.{Packet, events_of}
+use Rattle.lert_base.specs.Packet.{keys_of, Packet, events_of}
 use Rattle.lert_bay.specs.{Files.{Files, IfTold}, Kept.Bays, Settled.part, declared.bay.TheConstants.{JOURNAL, LOG, FRAMES}}
 use Rattle.lert_frames.specs.Frame.{HoldsFrame}
 use Rattle.lert_gatelog.specs.Kept.{IsWhollySettled}

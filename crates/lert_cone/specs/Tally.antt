@@ -2,13 +2,12 @@
 use Rattle.std.specs.Prelude.{ℕ, ◌≡◌, ◌⊎◌, ◌+◌, ◌-◌, ◌*◌, ◌^◌, ◌<◌, ◌≤◌, ◌==◌, List, [], ◌∷◌, length, slice_range, Option, Some, None, if◌then◌else◌}
 use Rattle.lert_bay.specs.{Files.Files, declared.bay.TheConstants.{LOG, FRAMES}}
 use Rattle.lert_spec.specs.{declared.numbers.Numbers.Numbers, declared.piece.Piece.Piece, declared.report.Report.Report, Bins.{Bin, tally}, Edges.{span, edge, depth, lookback, capacity}}
-use Rattle.lert_spec.specs.{Limits.IsValid, Table.count_of}
+use Rattle.lert_spec.specs.{Limits.IsValid, Table.count_of, Counts.weighed, Items.AreOfVersion, declared.item.Item.Item}
 use Rattle.lert_spec.proofs.{LookLaws.HaveKeys, TailLaws.IsPartOf}
 use Rattle.lert_levels.specs.{declared.rows.bin_at.BinAt.BinAt, rows.Loading.OneBreaks, rows.Ranges.young_bins, rows.Rows.{IsAt, AreRows, HoldsBins}, rows.Young.Young}
 use Rattle.lert_levels.specs.{declared.rows.fault.FlushFault.FlushFault, declared.rows.fault.FlushFault.TheVariants.{Failed as FlushFailed, Malformed}}
 use Rattle.lert_cone.specs.{declared.tally.TakeFault.TakeFault, declared.tally.TakeFault.TheVariants.{Failed, Unsound}, Due.{Dues, unbegun}, Listing.{Listing, reports_of}}
 use Rattle.lert_levels.specs.OnDisk.{OnDisk}
-use Rattle.lert_spec.specs.{Counts.weighed, Items.AreOfVersion, declared.item.Item.Item}
 use Rattle.lert_cone.specs.History.{written}
 
 -- a cone's items, level 0, the rows of the older levels, and its reports

@@ -1,8 +1,7 @@
-use Rattle.lert_spec.specs.Items.{AreOfVersion}
+use Rattle.lert_spec.specs.Items.{AreOfVersion, keys_in}
 use Rattle.lert_cone.proofs.KeyLemmas.{of_keys}
 use Rattle.lert_spec.specs.declared.item.Item.{Item}
 use Rattle.std.proofs.Common.{◌≡◌, ◌∙◌, ℕ, ◌+◌, ◌*◌, ◌<◌, ◌++◌, ◌∷◌, [], All, List, length, max, None, Some, Err, Ok, IsFalse, ◌≤◌, le_refl, refl, sym, ap, subst, arith}
-use Rattle.lert_spec.specs.Items.{keys_in}
 use Rattle.lert_cone.specs.History.{written}
 use Rattle.lert_base.specs.{Entries.packet_of, Packet.events_of}
 use Rattle.lert_bay.specs.Files.{Files}
