@@ -13,12 +13,16 @@ pub fn rotate_up(slots: &mut [u64], from: usize, to: usize)
     slots[from..to + 1].rotate_right(1);
 }
 
-/// Writes `text` from `at` on.
+/// Writes `text` from `at` on. One slot, as most new tails have, is written without a call.
 pub fn overwrite(slots: &mut [u64], at: usize, text: &[u64])
     requires { at + length text.now ≤ length slots.old }
     ensures { slots.new ≡ take at slots.old ++ (text.now ++ drop (at + length text.now) slots.old) }
 {
-    slots[at..at + text.len()].copy_from_slice(text);
+    if text.len() == 1 {
+        slots[at] = text[0];
+    } else {
+        slots[at..at + text.len()].copy_from_slice(text);
+    }
 }
 
 /// Makes the first `count` slots 0.

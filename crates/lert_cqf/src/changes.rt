@@ -13,7 +13,7 @@ ghost use Rattle.lert_cqf.specs.Rows.{IsRaised, filled_gap};
 use crate::cells::{overwrite, rotate_up};
 use crate::rows::Rows;
 use lert_counter::write_group;
-use lert_runs::grown;
+use lert_runs::{Growth, grown};
 
 impl Rows {
     /// Makes room for one slot at `place` in the run of `home`: the cells from there up to the first free one
@@ -117,7 +117,8 @@ impl Rows {
     {
         let begin = self.start(home);
         let end = self.start(home + 1);
-        let growth = grown(width, self.part(begin, end), x, count);
+        let mut growth = Growth::none();
+        grown(width, self.part(begin, end), x, count, &mut growth);
         let at = begin + growth.start as u64;
         self.widen(
             home,

@@ -1,6 +1,6 @@
 //! How a run grows.
 
-ghost use Rattle.std.specs.Prelude.{◌≡◌, ℕ, ◌+◌, ◌^◌, ◌≤◌, List};
+ghost use Rattle.std.specs.Prelude.{◌≡◌, ℕ, ◌+◌, ◌^◌, ◌≤◌, List, replicate};
 ghost use Rattle.lert_runs.specs.Growth.{IsGrowthOf};
 ghost use Rattle.lert_runs.specs.RunText.{count_in, IsTextOf};
 
@@ -16,30 +16,36 @@ pub struct Growth {
     pub len: usize,
 }
 
-/// What a run text needs so that the count of `x` rises by `n`: where that is 0, nothing in place of nothing. Nothing
-/// is written.
-pub fn grown(width: u32, run: &[u64], x: u64, n: u64) -> Growth
+impl Growth {
+    /// Nothing in place of nothing.
+    pub fn none() -> Growth
+        ensures { result ≡ record { start = 0; old = 0; text = replicate 9 0; len = 0 } }
+    {
+        Growth {
+            start: 0,
+            old: 0,
+            text: [0; 9],
+            len: 0,
+        }
+    }
+}
+
+/// Puts into `into` what a run text needs so that the count of `x` rises by `n`: where that is 0, nothing in place of
+/// nothing. The run isn't written. It is put there since a growth that is returned is copied.
+pub fn grown(width: u32, run: &[u64], x: u64, n: u64, into: &mut Growth)
     requires narrow { 8 ≤ width }
     requires wide { width ≤ 62 }
     requires run_text { (ps : List (ℕ × ℕ)) × IsTextOf width run.now ps × (count_in ps x + n ≤ 2 ^ 47) }
-    ensures grown { 1 ≤ n → (ps : List (ℕ × ℕ)) → IsTextOf width run.now ps → IsGrowthOf width x n run.now ps result }
-    ensures still { n ≡ 0 → result ≡ record { start = 0; old = 0; text = result.text; len = 0 } }
+    ensures grown { 1 ≤ n → (ps : List (ℕ × ℕ)) → IsTextOf width run.now ps
+        → IsGrowthOf width x n run.now ps into.new }
+    ensures still { n ≡ 0 → into.new ≡ record { start = 0; old = 0; text = into.new.text; len = 0 } }
 {
-    let mut text = [0; 9];
     if n == 0 {
-        return Growth {
-            start: 0,
-            old: 0,
-            text,
-            len: 0,
-        };
+        *into = Growth::none();
+        return;
     }
     let place = find(width, run, x);
-    let len = write_group(width, x, place.count + n, &mut text);
-    Growth {
-        start: place.start,
-        old: place.used,
-        text,
-        len,
-    }
+    into.start = place.start;
+    into.old = place.used;
+    into.len = write_group(width, x, place.count + n, &mut into.text);
 }

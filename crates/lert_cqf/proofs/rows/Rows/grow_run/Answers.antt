@@ -14,8 +14,8 @@ part-requires-clause-within c =
     let bounds = grow_bounds c.requires.growing.0 c.requires.growing.1 c.args.width c.args.home c.args.x c.args.count _ _ _ _ g in
     omega (arith, bounds.end, c.start-end.ensures)
 
-pub grown-growth-requires-clause-run_text : goal.grown-growth-requires-clause-run_text
-grown-growth-requires-clause-run_text c =
+pub grown-requires-clause-run_text : goal.grown-requires-clause-run_text
+grown-requires-clause-run_text c =
     let g = c.requires.growing.2 in
     let bounds = grow_bounds c.requires.growing.0 c.requires.growing.1 c.args.width c.args.home c.args.x c.args.count _ _ _ _ g in
     (g.pairs, record { ascend = g.ascend; text = run_part c.args.home _ _ _ _ _ c.part.ensures c.start-begin.ensures c.start-end.ensures ∙ bounds.slice }, g.fits)
@@ -36,9 +36,9 @@ pub overflow_add-at : goal.overflow_add-at
 overflow_add-at c =
     let g = c.requires.growing.2 in
     let bounds = grow_bounds c.requires.growing.0 c.requires.growing.1 c.args.width c.args.home c.args.x c.args.count _ _ _ _ g in
-    let is = grow_of c.requires.growing.0 c.requires.growing.1 c.args.width c.args.home c.args.x c.args.count _ _ _ _ g c.part.result.now c.grown-growth.result
+    let is = grow_of c.requires.growing.0 c.requires.growing.1 c.args.width c.args.home c.args.x c.args.count _ _ _ _ g c.part.result.now c.grown.new.into
     (run_part c.args.home _ _ _ _ _ c.part.ensures c.start-begin.ensures c.start-end.ensures ∙ bounds.slice)
-    (c.grown-growth.ensures.grown c.requires.positive) in
+    (c.grown.ensures.grown c.requires.positive) in
     omega (arith, c.start-begin.ensures, bounds.joined, bounds.end, bounds.short, is.within)
 
 pub start-end-requires-clause-within : goal.start-end-requires-clause-within
@@ -63,59 +63,59 @@ pub overflow_add-at-2 : goal.overflow_add-at-2
 overflow_add-at-2 c =
     let g = c.requires.growing.2 in
     let bounds = grow_bounds c.requires.growing.0 c.requires.growing.1 c.args.width c.args.home c.args.x c.args.count _ _ _ _ g in
-    let is = grow_of c.requires.growing.0 c.requires.growing.1 c.args.width c.args.home c.args.x c.args.count _ _ _ _ g c.part.result.now c.grown-growth.result
+    let is = grow_of c.requires.growing.0 c.requires.growing.1 c.args.width c.args.home c.args.x c.args.count _ _ _ _ g c.part.result.now c.grown.new.into
     (run_part c.args.home _ _ _ _ _ c.part.ensures c.start-begin.ensures c.start-end.ensures ∙ bounds.slice)
-    (c.grown-growth.ensures.grown c.requires.positive) in
+    (c.grown.ensures.grown c.requires.positive) in
     omega (arith, c.start-begin.ensures, bounds.joined, bounds.end, bounds.short, is.within)
 
 pub overflow_sub-growth : goal.overflow_sub-growth
 overflow_sub-growth c =
     let g = c.requires.growing.2 in
     let bounds = grow_bounds c.requires.growing.0 c.requires.growing.1 c.args.width c.args.home c.args.x c.args.count _ _ _ _ g in
-    let is = grow_of c.requires.growing.0 c.requires.growing.1 c.args.width c.args.home c.args.x c.args.count _ _ _ _ g c.part.result.now c.grown-growth.result
+    let is = grow_of c.requires.growing.0 c.requires.growing.1 c.args.width c.args.home c.args.x c.args.count _ _ _ _ g c.part.result.now c.grown.new.into
     (run_part c.args.home _ _ _ _ _ c.part.ensures c.start-begin.ensures c.start-end.ensures ∙ bounds.slice)
-    (c.grown-growth.ensures.grown c.requires.positive) in
+    (c.grown.ensures.grown c.requires.positive) in
     is.longer
 
 pub widen-requires : goal.widen-requires
 widen-requires c =
     let g = c.requires.growing.2 in
     let bounds = grow_bounds c.requires.growing.0 c.requires.growing.1 c.args.width c.args.home c.args.x c.args.count _ _ _ _ g in
-    let is = grow_of c.requires.growing.0 c.requires.growing.1 c.args.width c.args.home c.args.x c.args.count _ _ _ _ g c.part.result.now c.grown-growth.result
+    let is = grow_of c.requires.growing.0 c.requires.growing.1 c.args.width c.args.home c.args.x c.args.count _ _ _ _ g c.part.result.now c.grown.new.into
     (run_part c.args.home _ _ _ _ _ c.part.ensures c.start-begin.ensures c.start-end.ensures ∙ bounds.slice)
-    (c.grown-growth.ensures.grown c.requires.positive) in (
+    (c.grown.ensures.grown c.requires.positive) in (
       c.requires.growing.0,
       c.requires.growing.1,
-      grow_opening c.requires.growing.0 c.requires.growing.1 c.args.width c.args.home c.args.x c.args.count _ _ _ _ g c.grown-growth.result is
-          (c.start-begin.result + c.grown-growth.result.start + c.grown-growth.result.old) (c.start-end.result - 1)
-          (ap (λ k. k + c.grown-growth.result.start + c.grown-growth.result.old) c.start-begin.ensures) (omega (arith, c.start-end.ensures)),
+      grow_opening c.requires.growing.0 c.requires.growing.1 c.args.width c.args.home c.args.x c.args.count _ _ _ _ g c.grown.new.into is
+          (c.start-begin.result + c.grown.new.into.start + c.grown.new.into.old) (c.start-end.result - 1)
+          (ap (λ k. k + c.grown.new.into.start + c.grown.new.into.old) c.start-begin.ensures) (omega (arith, c.start-end.ensures)),
     )
 
 pub shared_ref_as_front-overwrite : goal.shared_ref_as_front-overwrite
 shared_ref_as_front-overwrite c =
     let g = c.requires.growing.2 in
     let bounds = grow_bounds c.requires.growing.0 c.requires.growing.1 c.args.width c.args.home c.args.x c.args.count _ _ _ _ g in
-    let is = grow_of c.requires.growing.0 c.requires.growing.1 c.args.width c.args.home c.args.x c.args.count _ _ _ _ g c.part.result.now c.grown-growth.result
+    let is = grow_of c.requires.growing.0 c.requires.growing.1 c.args.width c.args.home c.args.x c.args.count _ _ _ _ g c.part.result.now c.grown.new.into
     (run_part c.args.home _ _ _ _ _ c.part.ensures c.start-begin.ensures c.start-end.ensures ∙ bounds.slice)
-    (c.grown-growth.ensures.grown c.requires.positive) in
+    (c.grown.ensures.grown c.requires.positive) in
     is.short
 
 pub overwrite-requires : goal.overwrite-requires
 overwrite-requires c =
     let g = c.requires.growing.2 in
     let bounds = grow_bounds c.requires.growing.0 c.requires.growing.1 c.args.width c.args.home c.args.x c.args.count _ _ _ _ g in
-    let is = grow_of c.requires.growing.0 c.requires.growing.1 c.args.width c.args.home c.args.x c.args.count _ _ _ _ g c.part.result.now c.grown-growth.result
+    let is = grow_of c.requires.growing.0 c.requires.growing.1 c.args.width c.args.home c.args.x c.args.count _ _ _ _ g c.part.result.now c.grown.new.into
     (run_part c.args.home _ _ _ _ _ c.part.ensures c.start-begin.ensures c.start-end.ensures ∙ bounds.slice)
-    (c.grown-growth.ensures.grown c.requires.positive) in
+    (c.grown.ensures.grown c.requires.positive) in
     let n = c.requires.growing.0 in
     let homes = c.requires.growing.1 in
-    let o = grow_opening n homes c.args.width c.args.home c.args.x c.args.count _ _ _ _ g c.grown-growth.result is
-    (c.start-begin.result + c.grown-growth.result.start + c.grown-growth.result.old) (c.start-end.result - 1)
-    (ap (λ k. k + c.grown-growth.result.start + c.grown-growth.result.old) c.start-begin.ensures) (omega (arith, c.start-end.ensures)) in
+    let o = grow_opening n homes c.args.width c.args.home c.args.x c.args.count _ _ _ _ g c.grown.new.into is
+    (c.start-begin.result + c.grown.new.into.start + c.grown.new.into.old) (c.start-end.result - 1)
+    (ap (λ k. k + c.grown.new.into.start + c.grown.new.into.old) c.start-begin.ensures) (omega (arith, c.start-end.ensures)) in
     let w = c.widen.ensures.widened n homes o in
     let slots_long = (w.lengths).slots_long in
     let long = ap (λ (t : List ℕ). length t) c.deref_mut.ensures.value in
-    let text = length-take c.grown-growth.result.len c.grown-growth.result.text in
+    let text = length-take c.grown.new.into.len c.grown.new.into.text in
     let stands = (grow_stands n homes c.args.width c.args.home c.args.x c.args.count _ _ _ _ g).start_is in
     let text_run = run n homes c.args.width c.args.home c.args.x c.args.count _ _ _ _ g in
     let inside = text_within n c.args.home _ _ g.before g.after (w.spread).slots_are in
@@ -125,26 +125,26 @@ overwrite-requires c =
       is.within,
       is.longer,
       w.added_long,
-      length-append (take (c.grown-growth.result.start + c.grown-growth.result.old) text_run) (w.added ++ drop (c.grown-growth.result.start + c.grown-growth.result.old) text_run),
-      length-append w.added (drop (c.grown-growth.result.start + c.grown-growth.result.old) text_run),
-      length-take (c.grown-growth.result.start + c.grown-growth.result.old) text_run,
-      length-drop (c.grown-growth.result.start + c.grown-growth.result.old) text_run,
+      length-append (take (c.grown.new.into.start + c.grown.new.into.old) text_run) (w.added ++ drop (c.grown.new.into.start + c.grown.new.into.old) text_run),
+      length-append w.added (drop (c.grown.new.into.start + c.grown.new.into.old) text_run),
+      length-take (c.grown.new.into.start + c.grown.new.into.old) text_run,
+      length-drop (c.grown.new.into.start + c.grown.new.into.old) text_run,
     )
 
 pub returns-clause-stand : goal.returns-clause-stand
 returns-clause-stand c = λ n homes g.
     let bounds = grow_bounds n homes c.args.width c.args.home c.args.x c.args.count _ _ _ _ g in
-    let is = grow_of n homes c.args.width c.args.home c.args.x c.args.count _ _ _ _ g c.part.result.now c.grown-growth.result
+    let is = grow_of n homes c.args.width c.args.home c.args.x c.args.count _ _ _ _ g c.part.result.now c.grown.new.into
     (run_part c.args.home _ _ _ _ _ c.part.ensures c.start-begin.ensures c.start-end.ensures ∙ bounds.slice)
-    (c.grown-growth.ensures.grown c.requires.positive) in
-    let o = grow_opening n homes c.args.width c.args.home c.args.x c.args.count _ _ _ _ g c.grown-growth.result is
-    (c.start-begin.result + c.grown-growth.result.start + c.grown-growth.result.old) (c.start-end.result - 1)
-    (ap (λ k. k + c.grown-growth.result.start + c.grown-growth.result.old) c.start-begin.ensures) (omega (arith, c.start-end.ensures)) in
+    (c.grown.ensures.grown c.requires.positive) in
+    let o = grow_opening n homes c.args.width c.args.home c.args.x c.args.count _ _ _ _ g c.grown.new.into is
+    (c.start-begin.result + c.grown.new.into.start + c.grown.new.into.old) (c.start-end.result - 1)
+    (ap (λ k. k + c.grown.new.into.start + c.grown.new.into.old) c.start-begin.ensures) (omega (arith, c.start-end.ensures)) in
     let w = c.widen.ensures.widened n homes o in
-    grow_written n homes c.args.width c.args.home c.args.x c.args.count _ _ _ _ g c.grown-growth.result is _ _ _ _ _ w (c.start-begin.result + c.grown-growth.result.start)
-    (ap (λ k. k + c.grown-growth.result.start) c.start-begin.ensures)
+    grow_written n homes c.args.width c.args.home c.args.x c.args.count _ _ _ _ g c.grown.new.into is _ _ _ _ _ w (c.start-begin.result + c.grown.new.into.start)
+    (ap (λ k. k + c.grown.new.into.start) c.start-begin.ensures)
     (with_items_is c.widen.new.self.slots c.overwrite.new.slots (c.overwrite.auto.slots ∙ c.deref_mut.ensures.len)
     ∙ c.overwrite.ensures
-    ∙ ap (λ (t : List ℕ). take (c.start-begin.result + c.grown-growth.result.start) t
-    ++ (take c.grown-growth.result.len c.grown-growth.result.text ++ drop (c.start-begin.result + c.grown-growth.result.start + length (take c.grown-growth.result.len c.grown-growth.result.text))
+    ∙ ap (λ (t : List ℕ). take (c.start-begin.result + c.grown.new.into.start) t
+    ++ (take c.grown.new.into.len c.grown.new.into.text ++ drop (c.start-begin.result + c.grown.new.into.start + length (take c.grown.new.into.len c.grown.new.into.text))
     t)) c.deref_mut.ensures.value)
