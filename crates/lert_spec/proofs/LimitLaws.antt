@@ -1,5 +1,5 @@
 -- What the rules of the settings give, and how large a level's numbers get.
-use Rattle.std.proofs.Common.{ℕ, ◌≡◌, ◌+◌, ◌-◌, ◌*◌, ◌^◌, ◌<◌, ◌≤◌, zero, suc, Bool, true, false, not, leb, List, [], ◌∷◌, ◌++◌, length, get_or, Some}
+use Rattle.std.proofs.Common.{ℕ, ◌≡◌, ◌+◌, ◌-◌, ◌*◌, ◌^◌, ◌<◌, ◌≤◌, zero, suc, Bool, true, false, not, leb, List, [], ◌∷◌, ◌++◌, length, get_or, Option, Some}
 use Rattle.std.proofs.Common.{None, refl, ap, sym, ◌∙◌, arith, inl, inr, ◌⊎◌, lit<, unwrap_or, max}
 use Rattle.std.specs.Int.Count.{count_leading_zeros}
 use Rattle.std.proofs.lemmas.Nat.{leading_top}
@@ -11,7 +11,7 @@ use Rattle.lert_spec.proofs.EdgeLaws.{span_pos}
 use Rattle.lert_spec.proofs.FirstPass.{find_is}
 use Rattle.lert_spec.specs.declared.numbers.Numbers.{Numbers}
 use Rattle.lert_spec.specs.Edges.{span, spans, offset, capacity, quotient_bits}
-use Rattle.lert_spec.specs.Limits.{lies, limits_kept, sums_kept, first_broken, IsInLimits, IsValid}
+use Rattle.lert_spec.specs.Limits.{lies, limits_kept, sums_kept, first_or, early_broken, late_broken, first_broken, IsInLimits, IsValid}
 
 -- where none fails, each holds
 holds : (at k : ℕ) (kept : List Bool) → position_from not at kept ≡ None → k < length kept → get_or kept k true ≡ true
@@ -75,9 +75,21 @@ IsValid-from_none s limits none =
       positions_fit = leb-true (offset s s.levels + span s s.levels) (2 ^ 31) (holds 9 2 kept none (lit< tt));
     }
 
+-- the rules in their order
+pub first_breaks : (first others : Option ℕ) (rule : ℕ) → first ≡ Some rule → first_or first others ≡ Some rule
+first_breaks first others rule broken = ap (λ b. first_or b others) broken
+
+pub first_keeps : (first others result : Option ℕ) → first ≡ None → others ≡ result → first_or first others ≡ result
+first_keeps first others result kept is = ap (λ b. first_or b others) kept ∙ is
+
+pub first_none : (first others : Option ℕ) → first_or first others ≡ None → (first ≡ None) × (others ≡ None)
+first_none (Some rule) others is = absurd (cc)
+first_none None others is = (refl, is)
+
 -- numbers that break no rule are settings
 pub IsValid-from_unbroken : (s : Numbers) → first_broken s ≡ None → IsValid s
-IsValid-from_unbroken s none =
+IsValid-from_unbroken s unbroken =
+    let none = (first_none (early_broken s) (late_broken s) unbroken).0 in
     elim (cases_broken 1 (limits_kept s)) [
       | inl some ↦ absurd (let early = position_from-append_some 1 some.0 (limits_kept s) (sums_kept s) some.1 in cc)
       | inr kept ↦ IsValid-from_none s (IsInLimits-from_none s kept)

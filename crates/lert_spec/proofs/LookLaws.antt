@@ -1,5 +1,5 @@
 -- How the reports grow with one more event.
-use Rattle.std.proofs.Common.{ℕ, ◌≡◌, ◌≢◌, ◌+◌, ◌-◌, ◌^◌, ◌<◌, ◌≤◌, zero, suc, Bool, true, false, cond, eqb, leb, not, ◌&&◌, List, [], ◌∷◌, ◌++◌}
+use Rattle.std.proofs.Common.{ℕ, ◌≡◌, ◌≢◌, ◌+◌, ◌-◌, ◌<◌, ◌≤◌, zero, suc, Bool, true, false, cond, eqb, leb, not, ◌&&◌, List, [], ◌∷◌, ◌++◌}
 use Rattle.std.proofs.Common.{length, take, drop, map, filter, refl, ap, ap₂, sym, ◌∙◌, arith, inl, inr, subst, sum_by, length-append, length-drop, slice_range}
 use Rattle.std.proofs.Math.Nat.{mul-div-le}
 use Rattle.std.proofs.Math.Seq.{drop-append_seam}
@@ -9,7 +9,7 @@ use Rattle.std.proofs.lemmas.List.Sums.{sum_by-append, sum_by-cons}
 use Rattle.lert_spec.specs.declared.numbers.Numbers.{Numbers}
 use Rattle.lert_spec.specs.declared.report.Report.{Report}
 use Rattle.lert_spec.specs.Counts.{Measure, plain, weight_for, weight_in}
-use Rattle.lert_spec.specs.Edges.{edge, offset, span, depth, lookback}
+use Rattle.lert_spec.specs.Edges.{key_limit, edge, offset, span, depth, lookback}
 use Rattle.lert_spec.specs.Limits.{IsValid}
 use Rattle.lert_spec.specs.Look.{insert_mixed, mixed_in, is_listed, is_due_in, with_due_in, look_up_to, look_of}
 use Rattle.lert_spec.specs.Mix.{mix}
@@ -21,32 +21,32 @@ use Rattle.lert_spec.proofs.ReportLaws.{times, times-cons_same, times-cons_other
 use Rattle.lert_spec.proofs.ReportLaws.{insert_before}
 use Rattle.lert_spec.proofs.ReportLaws.{insert_same, insert_behind}
 
--- each key fits 64 bits
-abbrev pub HaveKeys : {A : Type 0} → Measure A → List A → Type 0
-HaveKeys by [] = Unit {0}
-HaveKeys by (item ∷ items) = (by.key item < 2 ^ 64) × HaveKeys by items
+-- each key has the bits of a key at most
+abbrev pub HaveKeys : {A : Type 0} → Numbers → Measure A → List A → Type 0
+HaveKeys s by [] = Unit {0}
+HaveKeys s by (item ∷ items) = (by.key item < key_limit s) × HaveKeys s by items
 
-abbrev pub AreKeys : List ℕ → Type 0
-AreKeys keys = HaveKeys plain keys
+abbrev pub AreKeys : Numbers → List ℕ → Type 0
+AreKeys s keys = HaveKeys s plain keys
 
-AreKeys-insert_mixed : (key : ℕ) (keys : List ℕ) → key < 2 ^ 64 → AreKeys keys → AreKeys (insert_mixed key keys)
-AreKeys-insert_mixed key [] below fit = (below, tt)
-AreKeys-insert_mixed key (other ∷ others) below fit =
+AreKeys-insert_mixed : (s : Numbers) (key : ℕ) (keys : List ℕ) → key < key_limit s → AreKeys s keys → AreKeys s (insert_mixed key keys)
+AreKeys-insert_mixed s key [] below fit = (below, tt)
+AreKeys-insert_mixed s key (other ∷ others) below fit =
     elim (cases_lt (mix key) (mix other)) [
       | inl less ↦ rw (insert_before key other others less) (below, fit)
       | inr more ↦ elim (cases_eq key other) [
         | inl same ↦ rw (insert_same key other others more same) fit
-        | inr differs ↦ rw (insert_behind key other others more differs) (fit.0, AreKeys-insert_mixed key others below fit.1)
+        | inr differs ↦ rw (insert_behind key other others more differs) (fit.0, AreKeys-insert_mixed s key others below fit.1)
       ]
     ]
 
-pub AreKeys-mixed_order : {A : Type 0} (by : Measure A) (events : List A) → HaveKeys by events → AreKeys (mixed_in by events)
-AreKeys-mixed_order by [] fit = tt
-AreKeys-mixed_order by (event ∷ events) fit = AreKeys-insert_mixed (by.key event) (mixed_in by events) fit.0 (AreKeys-mixed_order by events fit.1)
+pub AreKeys-mixed_order : {A : Type 0} (s : Numbers) (by : Measure A) (events : List A) → HaveKeys s by events → AreKeys s (mixed_in by events)
+AreKeys-mixed_order s by [] fit = tt
+AreKeys-mixed_order s by (event ∷ events) fit = AreKeys-insert_mixed s (by.key event) (mixed_in by events) fit.0 (AreKeys-mixed_order s by events fit.1)
 
-pub HaveKeys-append : {A : Type 0} (by : Measure A) (events others : List A) → HaveKeys by events → HaveKeys by others → HaveKeys by (events ++ others)
-HaveKeys-append by [] others fit more = more
-HaveKeys-append by (event ∷ events) others fit more = (fit.0, HaveKeys-append by events others fit.1 more)
+pub HaveKeys-append : {A : Type 0} (s : Numbers) (by : Measure A) (events others : List A) → HaveKeys s by events → HaveKeys s by others → HaveKeys s by (events ++ others)
+HaveKeys-append s by [] others fit more = more
+HaveKeys-append s by (event ∷ events) others fit more = (fit.0, HaveKeys-append s by events others fit.1 more)
 
 kept_or_not : (test : ℕ → Bool) (key : ℕ) (keys : List ℕ) (P : List ℕ → Type 0) → P (key ∷ filter test keys) → P (filter test keys) → P (filter test (key ∷ keys))
 kept_or_not test key keys P kept dropped =
@@ -55,10 +55,10 @@ kept_or_not test key keys P kept dropped =
       | inr fails ↦ subst P (sym (ap (λ t. cond t (key ∷ filter test keys) (filter test keys)) fails)) dropped
     ]
 
-pub AreKeys-filter : (test : ℕ → Bool) (keys : List ℕ) → AreKeys keys → AreKeys (filter test keys)
-AreKeys-filter test [] fit = tt
-AreKeys-filter test (key ∷ keys) fit =
-    let rest = AreKeys-filter test keys fit.1 in kept_or_not test key keys AreKeys (fit.0, rest) rest
+pub AreKeys-filter : (s : Numbers) (test : ℕ → Bool) (keys : List ℕ) → AreKeys s keys → AreKeys s (filter test keys)
+AreKeys-filter s test [] fit = tt
+AreKeys-filter s test (key ∷ keys) fit =
+    let rest = AreKeys-filter s test keys fit.1 in kept_or_not test key keys (AreKeys s) (fit.0, rest) rest
 
 pub MixedFrom-lower : (low high : ℕ) (keys : List ℕ) → low ≤ high → MixedFrom high keys → MixedFrom low keys
 MixedFrom-lower low high [] below ordered = tt
@@ -71,14 +71,14 @@ MixedFrom-filter test low (key ∷ keys) ordered =
     kept_or_not test key keys (MixedFrom low) (ordered.0, rest) (MixedFrom-lower low (mix key) (filter test keys) ordered.0 rest)
 
 -- keys in order of their mixed values are one list where each stands as often in both
-pub one_order : (low : ℕ) (keys others : List ℕ) → MixedFrom low keys → MixedFrom low others → AreKeys keys → AreKeys others →
+pub one_order : (s : Numbers) (low : ℕ) (keys others : List ℕ) → MixedFrom low keys → MixedFrom low others → AreKeys s keys → AreKeys s others →
     ((key : ℕ) → times key keys ≡ times key others) → keys ≡ others
-one_order low [] [] ordered other_ordered fit other_fit same = refl
-one_order low [] (other ∷ others) ordered other_ordered fit other_fit same =
+one_order s low [] [] ordered other_ordered fit other_fit same = refl
+one_order s low [] (other ∷ others) ordered other_ordered fit other_fit same =
     absurd (omega (arith, same other, times-cons_same other other others refl))
-one_order low (key ∷ keys) [] ordered other_ordered fit other_fit same =
+one_order s low (key ∷ keys) [] ordered other_ordered fit other_fit same =
     absurd (omega (arith, same key, times-cons_same key key keys refl))
-one_order low (key ∷ keys) (other ∷ others) ordered other_ordered fit other_fit same =
+one_order s low (key ∷ keys) (other ∷ others) ordered other_ordered fit other_fit same =
     let here = times-cons_same key key keys refl in
     let there = times-cons_same other other others refl in
     elim (cases_order (mix key) (mix other)) [
@@ -89,7 +89,7 @@ one_order low (key ∷ keys) (other ∷ others) ordered other_ordered fit other_
             | inr differs ↦ omega (arith, same k, times-cons_other k key keys differs, times-cons_other k other others (λ e. differs (first ∙ e)))
           ] in
           ap₂ (λ x xs. x ∷ xs) first
-          (one_order (mix key) keys others ordered.1 (MixedFrom-lower (mix key) (mix other) others (omega (arith, equal)) other_ordered.1) fit.1 other_fit.1 rest))
+          (one_order s (mix key) keys others ordered.1 (MixedFrom-lower (mix key) (mix other) others (omega (arith, equal)) other_ordered.1) fit.1 other_fit.1 rest))
       | inr (inl less) ↦ absurd (omega (arith, same key, here, times-below (mix other) key (other ∷ others) less (omega arith, other_ordered.1)))
       | inr (inr more) ↦ absurd (omega (arith, same other, there, times-below (mix key) other (key ∷ keys) more (omega arith, ordered.1)))
     ]
@@ -127,17 +127,17 @@ module _ {A : Type 0} (by : Measure A) where
       occurs by key events from to (omega (arith, positive, leb-true threshold (weight_in by key events from to) parts.0))
 
   -- the due keys of a window of the earlier events are the same with later ones behind them
-  due_keys-append : (threshold : ℕ) (events others : List A) (from to : ℕ) (reports : List Report) → 1 ≤ threshold → HaveKeys by events → HaveKeys by others → to ≤ length events →
+  due_keys-append : (s : Numbers) (threshold : ℕ) (events others : List A) (from to : ℕ) (reports : List Report) → 1 ≤ threshold → HaveKeys s by events → HaveKeys s by others → to ≤ length events →
       filter (is_due_in by threshold (events ++ others) from to reports) (mixed_in by (events ++ others)) ≡ filter (is_due_in by threshold events from to reports) (mixed_in by events)
-  due_keys-append threshold events others from to reports positive fit more within =
+  due_keys-append s threshold events others from to reports positive fit more within =
       let all = events ++ others in
       let before : ℕ → Bool = is_due_in by threshold events from to reports in
       let after : ℕ → Bool = is_due_in by threshold all from to reports in
-      one_order 0 (filter after (mixed_in by all)) (filter before (mixed_in by events))
+      one_order s 0 (filter after (mixed_in by all)) (filter before (mixed_in by events))
       (MixedFrom-filter after 0 (mixed_in by all) (MixedFrom-mixed_order by all))
       (MixedFrom-filter before 0 (mixed_in by events) (MixedFrom-mixed_order by events))
-      (AreKeys-filter after (mixed_in by all) (AreKeys-mixed_order by all (HaveKeys-append by events others fit more)))
-      (AreKeys-filter before (mixed_in by events) (AreKeys-mixed_order by events fit))
+      (AreKeys-filter s after (mixed_in by all) (AreKeys-mixed_order s by all (HaveKeys-append s by events others fit more)))
+      (AreKeys-filter s before (mixed_in by events) (AreKeys-mixed_order s by events fit))
       (λ key. elim (cases_Bool (before key)) [
         | inl due ↦ (
             let occurs = due_occurs threshold events from to reports key positive due in
@@ -157,17 +157,17 @@ module _ {A : Type 0} (by : Measure A) where
       ])
 
   -- later events change no report made before them
-  pub look_to-append : (s : Numbers) (events others : List A) (m : ℕ) → 1 ≤ s.threshold → HaveKeys by events → HaveKeys by others → m ≤ length events →
+  pub look_to-append : (s : Numbers) (events others : List A) (m : ℕ) → 1 ≤ s.threshold → HaveKeys s by events → HaveKeys s by others → m ≤ length events →
       look_up_to by s (events ++ others) m ≡ look_up_to by s events m
   look_to-append s events others zero positive fit more within = refl
   look_to-append s events others (suc m) positive fit more within =
       let before = look_to-append s events others m positive fit more (omega arith) in
       ap (with_due_in by s.threshold (events ++ others) (lookback s (suc m)) (suc m)) before
       ∙ ap (λ keys. look_up_to by s events m ++ map (λ key. record { key = key; at = suc m }) keys)
-      (due_keys-append s.threshold events others (lookback s (suc m)) (suc m) (look_up_to by s events m) positive fit more within)
+      (due_keys-append s s.threshold events others (lookback s (suc m)) (suc m) (look_up_to by s events m) positive fit more within)
 
   -- one more event adds the reports of its own window
-  pub look-push : (s : Numbers) (events : List A) (event : A) → 1 ≤ s.threshold → HaveKeys by events → by.key event < 2 ^ 64 →
+  pub look-push : (s : Numbers) (events : List A) (event : A) → 1 ≤ s.threshold → HaveKeys s by events → by.key event < key_limit s →
       look_of by s (events ++ event ∷ []) ≡ with_due_in by s.threshold (events ++ event ∷ []) (lookback s (suc (length events))) (suc (length events)) (look_of by s events)
   look-push s events event positive fit below =
       let longer : length (events ++ event ∷ []) ≡ suc (length events) = omega (arith, length-append events (event ∷ [])) in
@@ -238,14 +238,14 @@ new_there true event = times-cons_same event event [] refl
 new_there false event = refl
 
 -- a test that only one key of the order can pass keeps that key or none
-only_one : {A : Type 0} (by : Measure A) (test : ℕ → Bool) (events : List A) (event : ℕ) → HaveKeys by events → event < 2 ^ 64 → 1 ≤ times_in by event events → ((key : ℕ) → event ≢ key →
-    test key ≡ false) →
+only_one : {A : Type 0} (s : Numbers) (by : Measure A) (test : ℕ → Bool) (events : List A) (event : ℕ) → HaveKeys s by events → event < key_limit s → 1 ≤ times_in by event events →
+    ((key : ℕ) → event ≢ key → test key ≡ false) →
     filter test (mixed_in by events) ≡ cond (test event) (event ∷ []) []
-only_one by test events event fit below occurs others =
-    one_order 0 (filter test (mixed_in by events)) (cond (test event) (event ∷ []) [])
+only_one s by test events event fit below occurs others =
+    one_order s 0 (filter test (mixed_in by events)) (cond (test event) (event ∷ []) [])
     (MixedFrom-filter test 0 (mixed_in by events) (MixedFrom-mixed_order by events))
     (single (test event))
-    (AreKeys-filter test (mixed_in by events) (AreKeys-mixed_order by events fit))
+    (AreKeys-filter s test (mixed_in by events) (AreKeys-mixed_order s by events fit))
     (single_fits (test event))
     (λ key. times-filter key test (mixed_in by events) ∙ elim (cases_eq event key) [
       | inl same ↦ (
@@ -260,7 +260,7 @@ only_one by test events event fit below occurs others =
     single true = (omega arith, tt)
     single false = tt
 
-    single_fits : (here : Bool) → AreKeys (cond here (event ∷ []) [])
+    single_fits : (here : Bool) → AreKeys s (cond here (event ∷ []) [])
     single_fits true = (below, tt)
     single_fits false = tt
 
@@ -270,7 +270,7 @@ map_one false event at = refl
 
 module _ {A : Type 0} (by : Measure A) where
   -- between two flushes one more event adds at most its own report
-  pub look-push_between : (s : Numbers) (events : List A) (event : A) → IsValid s → HaveKeys by events → by.key event < 2 ^ 64 → edge s 0 (suc (length events)) ≡ edge s 0 (length events) →
+  pub look-push_between : (s : Numbers) (events : List A) (event : A) → IsValid s → HaveKeys s by events → by.key event < key_limit s → edge s 0 (suc (length events)) ≡ edge s 0 (length events) →
       look_of by s (events ++ event ∷ [])
       ≡ look_of by s events
       ++ cond {A = List Report} (is_due_in by s.threshold (events ++ event ∷ []) (edge s 0 (length events)) (suc (length events)) (look_of by s events) (by.key event))
@@ -286,6 +286,6 @@ module _ {A : Type 0} (by : Measure A) where
       look-push by s events event valid.limits.threshold_from fit below
       ∙ ap (λ from. with_due_in by s.threshold all from (suc n) (look_of by s events)) back
       ∙ ap (λ keys. look_of by s events ++ map (λ key. record { key = key; at = suc n }) keys)
-      (only_one by (is_due_in by s.threshold all (edge s 0 n) (suc n) (look_of by s events)) all (by.key event) (HaveKeys-append by events (event ∷ []) fit (below, tt)) below (omega arith)
+      (only_one s by (is_due_in by s.threshold all (edge s 0 n) (suc n) (look_of by s events)) all (by.key event) (HaveKeys-append s by events (event ∷ []) fit (below, tt)) below (omega arith)
       (λ key differs. only_the_new by s events event key valid differs))
       ∙ ap (λ more. look_of by s events ++ more) (map_one (is_due_in by s.threshold all (edge s 0 n) (suc n) (look_of by s events) (by.key event)) (by.key event) (suc n))

@@ -3,7 +3,7 @@ use Rattle.std.proofs.Common.{ℕ, ◌≡◌, ◌+◌, ◌*◌, ◌/◌, ◌%◌
 use Rattle.std.proofs.Math.Nat.{mod-eq_of_lt, mod-lt, mul_assoc, mul_comm, div-add-mod, div-eq_of_lt-le}
 use Rattle.std.proofs.lemmas.Nat.{xor_shr, xor_lt, shr-shr, shr_le, mul-mod_first, mul-mod_second, shr_below, pow_pos}
 use Rattle.std.specs.Int.Bits.{xor_self, xor_zero_r, xor_assoc}
-use Rattle.lert_spec.specs.{Edges.tail_bits, declared.numbers.Numbers.Numbers, Mix.{folded, scaled, mix, cone_of, tail_of}}
+use Rattle.lert_spec.specs.{Edges.{key_bits, key_limit, tail_bits}, declared.numbers.Numbers.Numbers, Mix.{folded, scaled, mix, cone_of, tail_of}}
 
 -- the other way: what gives a key back from its mixed value
 unfoldable pub unmixed : ℕ → ℕ
@@ -79,14 +79,14 @@ pub mix_parts : (s : Numbers) (key : ℕ) → cone_of s key * 2 ^ tail_bits s + 
 mix_parts s key = omega (arith, div-add-mod (mix key) (2 ^ tail_bits s), mul_comm (2 ^ tail_bits s) (cone_of s key))
 
 -- two keys of one cone and one tail are one
-pub one_key : (s : Numbers) (a b : ℕ) → a < 2 ^ 64 → b < 2 ^ 64 → cone_of s a ≡ cone_of s b → tail_of s a ≡ tail_of s b → a ≡ b
+pub one_key : (s : Numbers) (a b : ℕ) → a < key_limit s → b < key_limit s → cone_of s a ≡ cone_of s b → tail_of s a ≡ tail_of s b → a ≡ b
 one_key s a b a_below b_below cones tails =
     mix_is_one_to_one a b a_below b_below
     (sym (mix_parts s a) ∙ ap₂ (λ cone tail. cone * 2 ^ tail_bits s + tail) cones tails ∙ mix_parts s b)
 
 -- cones and tails lie in their ranges
-pub cone_below : (s : Numbers) (key : ℕ) → s.cone_bits ≤ 64 → key < 2 ^ 64 → cone_of s key < 2 ^ s.cone_bits
-cone_below s key within below = shr_below (mix key) s.cone_bits (tail_bits s) (let bits : s.cone_bits + tail_bits s ≡ 64 = omega arith in rw bits (mix_below key))
+pub cone_below : (s : Numbers) (key : ℕ) → s.cone_bits ≤ key_bits s → key < key_limit s → cone_of s key < 2 ^ s.cone_bits
+cone_below s key within below = shr_below (mix key) s.cone_bits (tail_bits s) (let bits : s.cone_bits + tail_bits s ≡ key_bits s = omega arith in rw bits (mix_below key))
 
 pub tail_below : (s : Numbers) (key : ℕ) → tail_of s key < 2 ^ tail_bits s
 tail_below s key = mod-lt (mix key) {m = 2 ^ tail_bits s} (pow_pos (tail_bits s))

@@ -4,7 +4,7 @@ use Rattle.std.proofs.Common.{refl, ap, ap₂, sym, ◌∙◌, arith, inl, inr, 
 use Rattle.std.proofs.Math.Nat.{le_trans, le-min, min-eq_left, min-eq_right, min-le_left, min-le_right, mod-eq_of_lt, mul-le-mul_left, mul-le-mul_right, mul-suc, pow-le-pow_right}
 use Rattle.std.proofs.lemmas.{Bool.{cases_lt, cases_eq, eq-eqb, ne_eqb}, List.length-append, List.Elements.{All-nil, All-cons, All-head, All-tail, All-append}, List.Sums.sum_by-cons}
 use Rattle.std.specs.List.{All}
-use Rattle.lert_spec.specs.{declared.item.Item.Item, declared.numbers.Numbers.Numbers, declared.piece.Piece.Piece, Bins.tally, Counts.{weighed, weight_of}, Edges.tail_bits}
+use Rattle.lert_spec.specs.{declared.item.Item.Item, declared.numbers.Numbers.Numbers, declared.piece.Piece.Piece, Bins.tally, Counts.{weighed, weight_of}, Edges.{key_bits, key_limit, tail_bits}}
 use Rattle.lert_spec.specs.{Items.{most_weight, AreOfVersion}, Mix.tail_of, Table.{cost, costs, count_of, total, AscendsFrom, IsTable}}
 use Rattle.lert_spec.proofs.{CostLaws.{cost_to, costs_to}, LookLaws.{HaveKeys, HaveKeys-append}, MixLaws.{unmixed, unmixed_below, mix-unmixed}, Tables.count_of-below}
 use Rattle.lert_spec.proofs.TallyLaws.{WeighSome, tail_weight, tails_in, tails_in-append, tally_table, count_of-tally, total-tally, one_table, count_of-cons_same, count_of-cons_other}
@@ -91,10 +91,10 @@ module _ (most key : ℕ) (some : 1 ≤ most) where
 
 -- ---- all pieces
 
--- a tail has at most 64 bits, so it has a key
-tail_fits : (s : Numbers) (tail : ℕ) → tail < 2 ^ tail_bits s → tail < 2 ^ 64
+-- a tail has at most the bits of a key, so it has one
+tail_fits : (s : Numbers) (tail : ℕ) → tail < 2 ^ tail_bits s → tail < key_limit s
 tail_fits s tail below =
-    let fits = pow-le-pow_right {n = 2} (lit< tt) {i = tail_bits s} {j = 64} (omega arith) in
+    let fits = pow-le-pow_right {n = 2} (lit< tt) {i = tail_bits s} {j = key_bits s} (omega arith) in
     omega arith
 
 pub tail-unmixed : (s : Numbers) (tail : ℕ) → tail < 2 ^ tail_bits s → tail_of s (unmixed tail) ≡ tail
@@ -145,17 +145,17 @@ light-spread version n (p ∷ ps) least upper =
     (light-shares (most_weight version) (unmixed p.tail) (most_some version) own p.count gets.0 gets.1)
     (light-spread version (n - own) ps gets.3 gets.4)
 
--- their keys have 64 bits
-keys-shares : (most key n weight : ℕ) → key < 2 ^ 64 → HaveKeys weighed (shares most key n weight)
-keys-shares most key zero weight below = tt
-keys-shares most key (suc others) weight below = (below, keys-shares most key others (weight - min most (weight - others)) below)
+-- their keys have the bits of a key
+keys-shares : (s : Numbers) (most key n weight : ℕ) → key < key_limit s → HaveKeys s weighed (shares most key n weight)
+keys-shares s most key zero weight below = tt
+keys-shares s most key (suc others) weight below = (below, keys-shares s most key others (weight - min most (weight - others)) below)
 
-pub keys-spread : (s : Numbers) (version from n : ℕ) (pieces : List Piece) → AscendsFrom from (2 ^ tail_bits s) pieces → HaveKeys weighed (spread version n pieces)
+pub keys-spread : (s : Numbers) (version from n : ℕ) (pieces : List Piece) → AscendsFrom from (2 ^ tail_bits s) pieces → HaveKeys s weighed (spread version n pieces)
 keys-spread s version from n [] ascends = tt
 keys-spread s version from n (p ∷ ps) ascends =
     let own = min p.count (n - costs version ps) in
-    HaveKeys-append weighed (shares (most_weight version) (unmixed p.tail) own p.count) (spread version (n - own) ps)
-    (keys-shares (most_weight version) (unmixed p.tail) own p.count (unmixed_below p.tail (tail_fits s p.tail ascends.1)))
+    HaveKeys-append s weighed (shares (most_weight version) (unmixed p.tail) own p.count) (spread version (n - own) ps)
+    (keys-shares s (most_weight version) (unmixed p.tail) own p.count (unmixed_below p.tail (tail_fits s p.tail ascends.1)))
     (keys-spread s version (p.tail + 1) (n - own) ps ascends.3)
 
 -- of each tail they weigh what the pieces count

@@ -4,7 +4,7 @@ use Rattle.std.proofs.Common.{◌∷◌, take, drop, map, filter, refl, ap, ap�
 use Rattle.std.proofs.lemmas.Bool.{cases_lt, cases_eq, cases_Bool, eq-eqb, ne_eqb, lt-leb}
 use Rattle.std.proofs.lemmas.List.Sums.{sum_by-cons}
 use Rattle.std.proofs.lemmas.Nat.{mul-add-lt, shr_high, mod_low, pow-add}
-use Rattle.lert_spec.specs.Edges.{tail_bits}
+use Rattle.lert_spec.specs.Edges.{key_bits, key_limit, tail_bits}
 use Rattle.lert_spec.specs.declared.numbers.Numbers.{Numbers}
 use Rattle.lert_spec.specs.declared.piece.Piece.{Piece}
 use Rattle.lert_spec.specs.declared.report.Report.{Report}
@@ -42,17 +42,17 @@ AscendsFrom-lower : (least high limit : ℕ) (pieces : List Piece) → least ≤
 AscendsFrom-lower least high limit [] below ascends = tt
 AscendsFrom-lower least high limit (p ∷ ps) below ascends = (omega (arith, ascends.0), ascends.1, ascends.2, ascends.3)
 
-module _ (s : Numbers) (cone : ℕ) (bits : s.cone_bits ≤ 64) (named : cone < 2 ^ s.cone_bits) where
-  joined_below : (tail : ℕ) → tail < 2 ^ tail_bits s → cone * 2 ^ tail_bits s + tail < 2 ^ 64
+module _ (s : Numbers) (cone : ℕ) (bits : s.cone_bits ≤ key_bits s) (named : cone < 2 ^ s.cone_bits) where
+  joined_below : (tail : ℕ) → tail < 2 ^ tail_bits s → cone * 2 ^ tail_bits s + tail < key_limit s
   joined_below tail below =
-      let whole : tail_bits s + s.cone_bits ≡ 64 = omega arith in
+      let whole : tail_bits s + s.cone_bits ≡ key_bits s = omega arith in
       let power = sym (pow-add 2 (tail_bits s) s.cone_bits) ∙ ap (λ n. 2 ^ n) whole in
       omega (arith, mul-add-lt cone (2 ^ tail_bits s) tail (2 ^ s.cone_bits) named below, power)
 
   mix-key_with : (tail : ℕ) → tail < 2 ^ tail_bits s → mix (key_with s cone tail) ≡ cone * 2 ^ tail_bits s + tail
   mix-key_with tail below = mix-unmixed (cone * 2 ^ tail_bits s + tail) (joined_below tail below)
 
-  key_with_below : (tail : ℕ) → tail < 2 ^ tail_bits s → key_with s cone tail < 2 ^ 64
+  key_with_below : (tail : ℕ) → tail < 2 ^ tail_bits s → key_with s cone tail < key_limit s
   key_with_below tail below = unmixed_below (cone * 2 ^ tail_bits s + tail) (joined_below tail below)
 
   cone-key_with : (tail : ℕ) → tail < 2 ^ tail_bits s → cone_of s (key_with s cone tail) ≡ cone
@@ -62,7 +62,7 @@ module _ (s : Numbers) (cone : ℕ) (bits : s.cone_bits ≤ 64) (named : cone < 
   tail-key_with tail below = ap (λ m. m % 2 ^ tail_bits s) (mix-key_with tail below) ∙ mod_low cone (tail_bits s) tail below
 
   -- a key of the cone is the one with its tail
-  key_with-tail : (key : ℕ) → key < 2 ^ 64 → cone_of s key ≡ cone → key_with s cone (tail_of s key) ≡ key
+  key_with-tail : (key : ℕ) → key < key_limit s → cone_of s key ≡ cone → key_with s cone (tail_of s key) ≡ key
   key_with-tail key below of_cone =
       let under = tail_below s key in
       one_key s (key_with s cone (tail_of s key)) key (key_with_below (tail_of s key) under) below
@@ -78,7 +78,7 @@ module _ (s : Numbers) (cone : ℕ) (bits : s.cone_bits ≤ 64) (named : cone < 
             (MixedFrom-keys_of (p.tail + 1) ps ascends.3),
       )
 
-  AreKeys-keys_of : (least : ℕ) (pieces : List Piece) → AscendsFrom least (2 ^ tail_bits s) pieces → AreKeys (keys_of s cone pieces)
+  AreKeys-keys_of : (least : ℕ) (pieces : List Piece) → AscendsFrom least (2 ^ tail_bits s) pieces → AreKeys s (keys_of s cone pieces)
   AreKeys-keys_of least [] ascends = tt
   AreKeys-keys_of least (p ∷ ps) ascends = (key_with_below p.tail ascends.1, AreKeys-keys_of (p.tail + 1) ps ascends.3)
 
@@ -93,12 +93,12 @@ module _ (s : Numbers) (cone : ℕ) (bits : s.cone_bits ≤ 64) (named : cone < 
       ]
 
   -- a key of another cone isn't among the keys of pieces
-  times-other_cone : (key least : ℕ) (pieces : List Piece) → AscendsFrom least (2 ^ tail_bits s) pieces → ((key < 2 ^ 64) × (cone_of s key ≡ cone) → ⊥) →
+  times-other_cone : (key least : ℕ) (pieces : List Piece) → AscendsFrom least (2 ^ tail_bits s) pieces → ((key < key_limit s) × (cone_of s key ≡ cone) → ⊥) →
       times key (keys_of s cone pieces) ≡ 0
   times-other_cone key least [] ascends other = refl
   times-other_cone key least (p ∷ ps) ascends other =
       let differs : key_with s cone p.tail ≢ key = λ same. other
-      (subst (λ k. k < 2 ^ 64) same (key_with_below p.tail ascends.1), ap (cone_of s) (sym same) ∙ cone-key_with p.tail ascends.1) in
+      (subst (λ k. k < key_limit s) same (key_with_below p.tail ascends.1), ap (cone_of s) (sym same) ∙ cone-key_with p.tail ascends.1) in
       times-cons_other key (key_with s cone p.tail) (keys_of s cone ps) differs
       ∙ times-other_cone key (p.tail + 1) ps ascends.3 other
 
@@ -113,7 +113,7 @@ module _ (s : Numbers) (cone : ℕ) (bits : s.cone_bits ≤ 64) (named : cone < 
 
   -- how often a key of the cone stands among the keys of the due pieces: once where its count reaches the threshold and it isn't reported
   module _ (threshold : ℕ) (reports : List Report) (positive : 1 ≤ threshold) where
-    times-due_pieces : (key least : ℕ) (pieces : List Piece) → AscendsFrom least (2 ^ tail_bits s) pieces → key < 2 ^ 64 → cone_of s key ≡ cone →
+    times-due_pieces : (key least : ℕ) (pieces : List Piece) → AscendsFrom least (2 ^ tail_bits s) pieces → key < key_limit s → cone_of s key ≡ cone →
         times key (keys_of s cone (filter (is_due_piece s cone threshold reports) pieces)) ≡ cond {A = ℕ} (leb threshold (count_of pieces (tail_of s key)) && not (is_listed key reports)) 1 0
     times-due_pieces key least [] ascends below of_cone =
         sym (ap (λ t. cond {A = ℕ} (t && not (is_listed key reports)) 1 0) (lt-leb threshold 0 (omega arith)))
@@ -150,7 +150,7 @@ module _ (s : Numbers) (cone : ℕ) (bits : s.cone_bits ≤ 64) (named : cone < 
         ]
 
   -- among items of the cone a tail weighs as much as its key
-  tails-weigh : {A : Type 0} (by : Measure A) (key : ℕ) (items : List A) → key < 2 ^ 64 → cone_of s key ≡ cone → HaveKeys by items → IsPartOf by s cone items →
+  tails-weigh : {A : Type 0} (by : Measure A) (key : ℕ) (items : List A) → key < key_limit s → cone_of s key ≡ cone → HaveKeys s by items → IsPartOf by s cone items →
       tails_in by s (tail_of s key) items ≡ sum_by (weight_for by key) items
   tails-weigh by key [] below of_cone fit of = refl
   tails-weigh by key (other ∷ others) below of_cone fit of =
@@ -177,17 +177,18 @@ module _ (s : Numbers) (cone : ℕ) (bits : s.cone_bits ≤ 64) (named : cone < 
         )
       ]
 
-module _ {A : Type 0} (by : Measure A) where
-  pub HaveKeys-take : (n : ℕ) (items : List A) → HaveKeys by items → HaveKeys by (take n items)
+module _ {A : Type 0} (s : Numbers) (by : Measure A) where
+  pub HaveKeys-take : (n : ℕ) (items : List A) → HaveKeys s by items → HaveKeys s by (take n items)
   HaveKeys-take zero items fit = tt
   HaveKeys-take (suc n) [] fit = tt
   HaveKeys-take (suc n) (item ∷ items) fit = (fit.0, HaveKeys-take n items fit.1)
 
-  pub HaveKeys-drop : (n : ℕ) (items : List A) → HaveKeys by items → HaveKeys by (drop n items)
+  pub HaveKeys-drop : (n : ℕ) (items : List A) → HaveKeys s by items → HaveKeys s by (drop n items)
   HaveKeys-drop zero items fit = fit
   HaveKeys-drop (suc n) [] fit = tt
   HaveKeys-drop (suc n) (item ∷ items) fit = HaveKeys-drop n items fit.1
 
+module _ {A : Type 0} (by : Measure A) where
   pub IsPartOf-take : (s : Numbers) (cone n : ℕ) (items : List A) → IsPartOf by s cone items → IsPartOf by s cone (take n items)
   IsPartOf-take s cone zero items of = tt
   IsPartOf-take s cone (suc n) [] of = tt
@@ -209,17 +210,17 @@ module _ {A : Type 0} (by : Measure A) where
   WeighSome-drop (suc n) (item ∷ items) some = WeighSome-drop n items some.1
 
   -- a key that occurs fits, and is of the cone
-  occurs_fits : (s : Numbers) (cone key : ℕ) (events : List A) → HaveKeys by events → IsPartOf by s cone events → 1 ≤ times_in by key events → (key < 2 ^ 64) × (cone_of s key ≡ cone)
+  occurs_fits : (s : Numbers) (cone key : ℕ) (events : List A) → HaveKeys s by events → IsPartOf by s cone events → 1 ≤ times_in by key events → (key < key_limit s) × (cone_of s key ≡ cone)
   occurs_fits s cone key [] fit of occurs = absurd (omega arith)
   occurs_fits s cone key (event ∷ events) fit of occurs =
       elim (cases_eq (by.key event) key) [
-        | inl same ↦ (subst (λ k. k < 2 ^ 64) same fit.0, ap (cone_of s) (sym same) ∙ of.0)
+        | inl same ↦ (subst (λ k. k < key_limit s) same fit.0, ap (cone_of s) (sym same) ∙ of.0)
         | inr differs ↦ occurs_fits s cone key events fit.1 of.1 (omega (arith, times_in-other by key event events differs))
       ]
 
-cases_of_cone : (s : Numbers) (cone key : ℕ) → ((key < 2 ^ 64) × (cone_of s key ≡ cone)) ⊎ ((key < 2 ^ 64) × (cone_of s key ≡ cone) → ⊥)
+cases_of_cone : (s : Numbers) (cone key : ℕ) → ((key < key_limit s) × (cone_of s key ≡ cone)) ⊎ ((key < key_limit s) × (cone_of s key ≡ cone) → ⊥)
 cases_of_cone s cone key =
-    elim (cases_lt key (2 ^ 64)) [
+    elim (cases_lt key (key_limit s)) [
       | inl below ↦ elim (cases_eq (cone_of s key) cone) [
         | inl same ↦ inl (below, same)
         | inr other ↦ inr (λ both. other both.1)
@@ -228,8 +229,8 @@ cases_of_cone s cone key =
     ]
 
 -- the keys that are due in a window, in mixed order, are those of the due pieces of the window's table, in ascending tails
-pub due_by_tally : {A : Type 0} (by : Measure A) (s : Numbers) (cone threshold : ℕ) (events : List A) (from to : ℕ) (reports : List Report) → s.cone_bits ≤ 64 →
-    cone < 2 ^ s.cone_bits → 1 ≤ threshold → HaveKeys by events → IsPartOf by s cone events → WeighSome by events →
+pub due_by_tally : {A : Type 0} (by : Measure A) (s : Numbers) (cone threshold : ℕ) (events : List A) (from to : ℕ) (reports : List Report) → s.cone_bits ≤ key_bits s →
+    cone < 2 ^ s.cone_bits → 1 ≤ threshold → HaveKeys s by events → IsPartOf by s cone events → WeighSome by events →
     filter (is_due_in by threshold events from to reports) (mixed_in by events)
     ≡ keys_of s cone (filter (is_due_piece s cone threshold reports) (tally by s (slice_range events from to)))
 due_by_tally by s cone threshold events from to reports bits named positive fit of some =
@@ -237,15 +238,15 @@ due_by_tally by s cone threshold events from to reports bits named positive fit 
     let window = slice_range events from to in
     let due : ℕ → Bool = is_due_in by threshold events from to reports in
     let test : Piece → Bool = is_due_piece s cone threshold reports in
-    let window_fits = HaveKeys-take by (to - from) (drop from events) (HaveKeys-drop by from events fit) in
+    let window_fits = HaveKeys-take s by (to - from) (drop from events) (HaveKeys-drop s by from events fit) in
     let window_of = IsPartOf-take by s cone (to - from) (drop from events) (IsPartOf-drop by s cone from events of) in
     let window_some = WeighSome-take by (to - from) (drop from events) (WeighSome-drop by from events some) in
     let table = tally_table by s window window_some in
     let kept = AscendsFrom-filter s cone bits named test 0 limit (tally by s window) table in
-    one_order 0 (filter due (mixed_in by events)) (keys_of s cone (filter test (tally by s window)))
+    one_order s 0 (filter due (mixed_in by events)) (keys_of s cone (filter test (tally by s window)))
     (MixedFrom-filter due 0 (mixed_in by events) (MixedFrom-mixed_order by events))
     (MixedFrom-lower 0 (cone * limit + 0) (keys_of s cone (filter test (tally by s window))) (omega arith) (MixedFrom-keys_of s cone bits named 0 (filter test (tally by s window)) kept))
-    (AreKeys-filter due (mixed_in by events) (AreKeys-mixed_order by events fit))
+    (AreKeys-filter s due (mixed_in by events) (AreKeys-mixed_order s by events fit))
     (AreKeys-keys_of s cone bits named 0 (filter test (tally by s window)) kept)
     (λ key. times-filter key due (mixed_in by events) ∙ elim (cases_of_cone s cone key) [
       | inl mine ↦ (
@@ -269,18 +270,18 @@ due_by_tally by s cone threshold events from to reports bits named positive fit 
     ])
 
 -- the same of a list of keys
-pub due_by_tails : (s : Numbers) (cone threshold : ℕ) (events : List ℕ) (from to : ℕ) (reports : List Report) → s.cone_bits ≤ 64 → cone < 2 ^ s.cone_bits → 1 ≤ threshold →
-    AreKeys events → AreOfCone s cone events →
+pub due_by_tails : (s : Numbers) (cone threshold : ℕ) (events : List ℕ) (from to : ℕ) (reports : List Report) → s.cone_bits ≤ key_bits s → cone < 2 ^ s.cone_bits → 1 ≤ threshold →
+    AreKeys s events → AreOfCone s cone events →
     filter (is_due threshold events from to reports) (mixed_order events)
     ≡ keys_of s cone (filter (is_due_piece s cone threshold reports) (tallied s (slice_range events from to)))
 due_by_tails s cone threshold events from to reports bits named positive fit of =
     due_by_tally plain s cone threshold events from to reports bits named positive fit of (keys_weigh events)
 
-pub AreKeys-take : (n : ℕ) (keys : List ℕ) → AreKeys keys → AreKeys (take n keys)
-AreKeys-take n keys fit = HaveKeys-take plain n keys fit
+pub AreKeys-take : (s : Numbers) (n : ℕ) (keys : List ℕ) → AreKeys s keys → AreKeys s (take n keys)
+AreKeys-take s n keys fit = HaveKeys-take s plain n keys fit
 
-pub AreKeys-drop : (n : ℕ) (keys : List ℕ) → AreKeys keys → AreKeys (drop n keys)
-AreKeys-drop n keys fit = HaveKeys-drop plain n keys fit
+pub AreKeys-drop : (s : Numbers) (n : ℕ) (keys : List ℕ) → AreKeys s keys → AreKeys s (drop n keys)
+AreKeys-drop s n keys fit = HaveKeys-drop s plain n keys fit
 
 pub AreOfCone-take : (s : Numbers) (cone n : ℕ) (keys : List ℕ) → AreOfCone s cone keys → AreOfCone s cone (take n keys)
 AreOfCone-take s cone n keys of = IsPartOf-take plain s cone n keys of

@@ -1,5 +1,5 @@
 -- The limits of the settings, in the order in which they are tested.
-use Rattle.std.specs.{Prelude.{ℕ, ◌+◌, ◌*◌, ◌^◌, ◌≤◌, ◌&&◌, Bool, nat_le, not, List, [], ◌∷◌, ◌++◌, Option}, List.position_from}
+use Rattle.std.specs.{Prelude.{ℕ, ◌+◌, ◌*◌, ◌^◌, ◌≤◌, ◌&&◌, Bool, nat_le, not, List, [], ◌∷◌, ◌++◌, Option, Some, None}, List.position_from}
 use Rattle.lert_spec.specs.{declared.numbers.Numbers.Numbers, Edges.{offset, span}}
 
 -- a number lies from `least` to `most`
@@ -28,9 +28,26 @@ sums_kept s =
     ∷ nat_le (offset s s.levels + span s s.levels) (2 ^ 31)
     ∷ []
 
--- the first broken rule, counted from 1, none where all are kept
+-- a rule that comes first, or another
+abbrev pub first_or : Option ℕ → Option ℕ → Option ℕ
+first_or (Some rule) other = Some rule
+first_or None other = other
+
+-- the first broken rule of those that come before all others of a command line, counted from 1, none where all are kept
+abbrev pub early_broken : Numbers → Option ℕ
+early_broken s = position_from not 1 (limits_kept s ++ sums_kept s)
+
+-- which of the rules are kept that come behind all others of a command line: there is none so far
+abbrev pub late_kept : Numbers → List Bool
+late_kept s = []
+
+-- the first broken one of them, counted from 15
+abbrev pub late_broken : Numbers → Option ℕ
+late_broken s = position_from not 15 (late_kept s)
+
+-- the first broken rule, none where all are kept
 abbrev pub first_broken : Numbers → Option ℕ
-first_broken s = position_from not 1 (limits_kept s ++ sums_kept s)
+first_broken s = first_or (early_broken s) (late_broken s)
 
 -- each number by itself lies in its limits
 pub record IsInLimits (s : Numbers) : Type 0 where
