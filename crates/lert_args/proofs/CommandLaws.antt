@@ -5,8 +5,10 @@ use Rattle.std.proofs.lemmas.Bool.{lt-leb}
 use Rattle.std.specs.Prelude.{codes, option_and_then}
 use Rattle.std.specs.List.{remove}
 use Rattle.std.specs.Str.{bytes_eq}
+use Rattle.lert_spec.specs.{declared.numbers.Numbers.Numbers, Limits.{early_broken, first_broken, first_or, late_broken}}
+use Rattle.lert_spec.proofs.LimitLaws.{first_breaks, first_keeps, first_none}
 use Rattle.lert_args.specs.Answered.{IsAnswered}
-use Rattle.lert_args.specs.Command.{command, first_or, if_unnamed, line_broken, line_of, recover_named, run_named, settings_said, usage_of, workers_said}
+use Rattle.lert_args.specs.Command.{command, if_unnamed, line_broken, line_of, recover_named, run_named, settings_said, usage_of, workers_said}
 use Rattle.lert_args.specs.Said.{Said}
 use Rattle.lert_args.specs.declared.line.Line.{Line}
 use Rattle.lert_args.specs.declared.line.Line.TheVariants.{Run, Recover}
@@ -108,12 +110,27 @@ breaks_by line rule broken = breaks line (Usage rule) (λ other same. let rules 
 pub keeps : (given line : Line) → line ≡ given → line_broken line ≡ None → IsAnswered (Ok given) (Some line)
 keeps given line same kept = record { line = ap Some same; sound = kept; usage = tt }
 
--- the rules in their order
-pub first_breaks : (first others : Option ℕ) (rule : ℕ) → first ≡ Some rule → first_or first others ≡ Some rule
-first_breaks first others rule broken = ap (λ b. first_or b others) broken
+-- the rules of the settings, none of which comes late
+only_first : (first : Option ℕ) (rule : ℕ) → first_or first None ≡ Some rule → first ≡ Some rule
+only_first (Some early) rule is = is
+only_first None rule is = absurd (cc)
 
-pub first_keeps : (first others result : Option ℕ) → first ≡ None → others ≡ result → first_or first others ≡ result
-first_keeps first others result kept is = ap (λ b. first_or b others) kept ∙ is
+pub all_early : (s : Numbers) (rule : ℕ) → first_broken s ≡ Some rule → early_broken s ≡ Some rule
+all_early s rule broken = only_first (early_broken s) rule broken
+
+-- a line's own rules, between those
+module _ (s : Numbers) (workers last : Option ℕ) (kept : first_broken s ≡ None) where
+  both_kept : (early_broken s ≡ None) × (late_broken s ≡ None)
+  both_kept = first_none (early_broken s) (late_broken s) kept
+
+  pub workers_break : (rule : ℕ) → workers ≡ Some rule → first_or (early_broken s) (first_or workers (first_or last (late_broken s))) ≡ Some rule
+  workers_break rule broken = first_keeps (early_broken s) _ _ both_kept.0 (first_breaks workers _ rule broken)
+
+  pub last_breaks : (rule : ℕ) → workers ≡ None → last ≡ Some rule → first_or (early_broken s) (first_or workers (first_or last (late_broken s))) ≡ Some rule
+  last_breaks rule enough broken = first_keeps (early_broken s) _ _ both_kept.0 (first_keeps workers _ _ enough (first_breaks last _ rule broken))
+
+  pub none_breaks : workers ≡ None → last ≡ None → first_or (early_broken s) (first_or workers (first_or last (late_broken s))) ≡ None
+  none_breaks enough few = first_keeps (early_broken s) _ _ both_kept.0 (first_keeps workers _ _ enough (first_keeps last _ _ few both_kept.1))
 
 pub over : (most n rule : ℕ) → most < n → cond {A = Option ℕ} (leb n most) None (Some rule) ≡ Some rule
 over most n rule more = ap (λ b. cond {A = Option ℕ} b None (Some rule)) (lt-leb n most more)

@@ -7,8 +7,9 @@ use Rattle.std.proofs.lemmas.Bool.{leb-true}
 use Rattle.std.proofs.lemmas.List.Elements.{All-cons, All-head, All-nil, All-tail}
 use Rattle.std.proofs.lemmas.Option.{get_or_from_slice_get}
 use Rattle.lert_spec.specs.declared.numbers.Numbers.{Numbers}
-use Rattle.lert_spec.specs.Limits.{first_broken, lies}
-use Rattle.lert_args.specs.Command.{command, drill_options, drill_said, events_broken, first_or, gen_options, gen_said, if_unnamed, line_broken, recover_named, recover_said}
+use Rattle.lert_spec.specs.Limits.{early_broken, first_or, late_broken, lies}
+use Rattle.lert_spec.proofs.LimitLaws.{first_none}
+use Rattle.lert_args.specs.Command.{command, drill_options, drill_said, events_broken, gen_options, gen_said, if_unnamed, line_broken, recover_named, recover_said}
 use Rattle.lert_args.specs.Command.{run_named, run_options, run_said, setting_options, traces_broken, usage, usage_of, workers_broken}
 use Rattle.lert_args.specs.Said.{Kind, Reading, Said, are_distinct, between, kind_of, names_given, said, said_at_end, said_by, said_once, said_with, spelt, value_of, with_name, with_value}
 use Rattle.lert_args.specs.Said.{awaits, behind, ends, named, refused, valued}
@@ -157,10 +158,6 @@ both : (a b : Bool) → (a && b) ≡ true → (a ≡ true) × (b ≡ true)
 both true b is = (refl, is)
 both false b is = absurd (cc)
 
-first_none : (a b : Option ℕ) → first_or a b ≡ None → (a ≡ None) × (b ≡ None)
-first_none (Some rule) b is = absurd (cc)
-first_none None b is = (refl, is)
-
 kept : (b : Bool) (rule : ℕ) → cond {A = Option ℕ} b None (Some rule) ≡ None → b ≡ true
 kept true rule is = refl
 kept false rule is = absurd (cc)
@@ -180,6 +177,14 @@ few_events most events is = leb-true events most (kept (nat_le events most) 14 i
 few_traces : (traces : List ℕ) → traces_broken traces ≡ None → length traces ≤ 1024
 few_traces traces is = leb-true (length traces) 1024 (kept (nat_le (length traces) 1024) 13 is)
 
+-- a line's own rules, between those of its settings
+rules_of_line : (s : Numbers) (workers : ℕ) (last : Option ℕ) → first_or (early_broken s) (first_or (workers_broken workers) (first_or last (late_broken s))) ≡ None →
+    (workers_broken workers ≡ None) × (last ≡ None)
+rules_of_line s workers last is =
+    let behind = first_none (early_broken s) (first_or (workers_broken workers) (first_or last (late_broken s))) is in
+    let own = first_none (workers_broken workers) (first_or last (late_broken s)) behind.1 in
+    (own.0, (first_none last (late_broken s) own.1).0)
+
 -- what a line keeps that breaks no rule
 abbrev pub Keeps : Line → Type 0
 Keeps (Run settings workers dir traces) = AreWorkers workers × (length traces ≤ 1024)
@@ -189,13 +194,13 @@ Keeps (Drill settings workers seed events) = AreWorkers workers × (events ≤ 4
 
 keeps : (line : Line) → line_broken line ≡ None → Keeps line
 keeps (Run settings workers dir traces) is =
-    let rest = first_none (workers_broken workers) (traces_broken traces) (first_none (first_broken settings) (first_or (workers_broken workers) (traces_broken traces)) is).1 in
-    (are_workers workers rest.0, few_traces traces rest.1)
+    let own = rules_of_line settings workers (traces_broken traces) is in
+    (are_workers workers own.0, few_traces traces own.1)
 keeps (Recover settings dir) is = tt
 keeps (Gen seed events) is = few_events (2 ^ 32) events is
 keeps (Drill settings workers seed events) is =
-    let rest = first_none (workers_broken workers) (events_broken 4194304 events) (first_none (first_broken settings) (first_or (workers_broken workers) (events_broken 4194304 events)) is).1 in
-    (are_workers workers rest.0, few_events 4194304 events rest.1)
+    let own = rules_of_line settings workers (events_broken 4194304 events) is in
+    (are_workers workers own.0, few_events 4194304 events own.1)
 
 -- where words spell a line that breaks no rule
 pub line_keeps : (words : List (List ℕ)) (line : Line) → command words ≡ Some line → usage words ≡ None → Keeps line

@@ -1,6 +1,6 @@
 -- The command lines, and the first rule that a line breaks.
 use Rattle.std.specs.{Prelude.{ℕ, nat_le, ◌^◌, List, [], ◌∷◌, ◌++◌, length, codes, Option, Some, None, option_and_then, unwrap_or, if◌then◌else◌}, Str.bytes_eq}
-use Rattle.lert_spec.specs.{declared.numbers.Numbers.Numbers, Limits.{first_broken, lies}}
+use Rattle.lert_spec.specs.{declared.numbers.Numbers.Numbers, Limits.{early_broken, first_broken, first_or, late_broken, lies}}
 use Rattle.lert_args.specs.{Said.{Said, spelt, value_given}, declared.line.Line.Line, declared.line.Line.TheVariants.{Run, Recover, Gen, Drill}}
 
 -- the options of the settings, and those of each command
@@ -83,11 +83,6 @@ abbrev pub command : List (List ℕ) → Option Line
 command [] = None
 command (name ∷ words) = line_of name words
 
--- a rule that comes first, or another
-abbrev pub first_or : Option ℕ → Option ℕ → Option ℕ
-first_or (Some rule) other = Some rule
-first_or None other = other
-
 -- rule 12: 1 to 64 workers
 abbrev pub workers_broken : ℕ → Option ℕ
 workers_broken workers = if lies 1 64 workers then None else Some 12
@@ -100,12 +95,15 @@ traces_broken traces = if nat_le (length traces) 1024 then None else Some 13
 abbrev pub events_broken : ℕ → ℕ → Option ℕ
 events_broken most events = if nat_le events most then None else Some 14
 
--- the first rule that a line breaks, in ascending order over all that concern its command
+-- the first rule that a line breaks, in ascending order over all that concern its command: the early ones of its settings,
+-- its own, and the late ones of its settings
 abbrev pub line_broken : Line → Option ℕ
-line_broken (Run settings workers dir traces) = first_or (first_broken settings) (first_or (workers_broken workers) (traces_broken traces))
+line_broken (Run settings workers dir traces) =
+    first_or (early_broken settings) (first_or (workers_broken workers) (first_or (traces_broken traces) (late_broken settings)))
 line_broken (Recover settings dir) = first_broken settings
 line_broken (Gen seed events) = events_broken (2 ^ 32) events
-line_broken (Drill settings workers seed events) = first_or (first_broken settings) (first_or (workers_broken workers) (events_broken 4194304 events))
+line_broken (Drill settings workers seed events) =
+    first_or (early_broken settings) (first_or (workers_broken workers) (first_or (events_broken 4194304 events) (late_broken settings)))
 
 abbrev pub usage_of : Option Line → Option ℕ
 usage_of None = Some 0

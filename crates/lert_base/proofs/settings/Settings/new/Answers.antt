@@ -1,6 +1,6 @@
 use Rattle.std.proofs.Common.{arith, sym, ◌∙◌}
-use Rattle.lert_spec.specs.Limits.{IsInLimits, limits_kept, sums_kept}
-use Rattle.lert_spec.proofs.LimitLaws.{position_from-append_none, position_from-append_some}
+use Rattle.lert_spec.specs.Limits.{IsInLimits, early_broken, late_broken, limits_kept, sums_kept}
+use Rattle.lert_spec.proofs.LimitLaws.{first_breaks, position_from-append_none, position_from-append_some}
 use Rattle.lert_base.proofs.Filled.{end_is, end_within}
 use Rattle.lert_base.proofs.settings.Settings.new.Goals as goal
 
@@ -18,11 +18,13 @@ broken_sum-requires-clause-end c =
 pub returns-in-Some : goal.returns-in-Some
 returns-in-Some c =
     let s = c.args.numbers in
-    position_from-append_some 1 c.in-Some.rule (limits_kept s) (sums_kept s) (sym c.broken_limit.ensures.value ∙ c.in-Some.is)
+    first_breaks (early_broken s) (late_broken s) c.in-Some.rule
+    (position_from-append_some 1 c.in-Some.rule (limits_kept s) (sums_kept s) (sym c.broken_limit.ensures.value ∙ c.in-Some.is))
 
 -- where these are kept, it is the first of the others
 pub returns-in-Some-broken_sum : goal.returns-in-Some-broken_sum
 returns-in-Some-broken_sum c =
     let s = c.args.numbers in
-    position_from-append_none 1 (limits_kept s) (sums_kept s) (sym c.broken_limit.ensures.value ∙ c.in_default.is)
-    ∙ sym c.broken_sum.ensures.value ∙ c.in-Some-broken_sum.is
+    first_breaks (early_broken s) (late_broken s) c.in-Some-broken_sum.rule
+    (position_from-append_none 1 (limits_kept s) (sums_kept s) (sym c.broken_limit.ensures.value ∙ c.in_default.is)
+    ∙ sym c.broken_sum.ensures.value ∙ c.in-Some-broken_sum.is)
