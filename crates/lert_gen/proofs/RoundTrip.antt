@@ -2,14 +2,14 @@
 use Rattle.std.proofs.Common.{◌≡◌, ℕ, ◌+◌, ◌-◌, ◌*◌, ◌/◌, ◌%◌, ◌<◌, ◌^◌, Bool, true, false, eqb, cond, List, [], ◌∷◌, ◌++◌, length, map, Some, None, refl, ap, ap₂, sym, ◌∙◌, arith}
 use Rattle.std.proofs.Common.{length-append, append_assoc}
 use Rattle.std.proofs.Math.Seq.{drop-append_seam}
-use Rattle.std.specs.List.{flat_map, range_with_len}
+use Rattle.std.proofs.lemmas.List.Elements.{All-nil, All-cons, All-head, All-tail}
+use Rattle.std.specs.List.{All, flat_map, range_with_len}
 use Rattle.byteorder.specs.Endian.{little_bytes, little_from}
 use Rattle.byteorder.specs.Numbers.{length-bytes_low_first, little_number-reads_back}
 use Rattle.lert_spec.specs.Agreed.{agreed}
 use Rattle.lert_trace.specs.Trace.{key_at, left, trace_header, whole, whole_len}
 use Rattle.lert_spec.proofs.TextLaws.{little_from-drop}
 use Rattle.lert_spec.specs.Mix.{mix}
-use Rattle.lert_spec.proofs.LookLaws.{AreKeys}
 use Rattle.lert_spec.proofs.MixLaws.{mix_below}
 use Rattle.lert_gen.specs.Generated.{key_at as generated_key, trace_of}
 
@@ -30,7 +30,7 @@ left-trace keys =
     ap (λ n. cond (eqb n 0) None (Some (length (trace_of keys) - length (trace_of keys) % 8))) even
 
 -- the keys behind some bytes of a trace are read back from there
-read_back : (front : List ℕ) (number : ℕ) (keys : List ℕ) → length front ≡ 8 + 8 * number → AreKeys keys →
+read_back : (front : List ℕ) (number : ℕ) (keys : List ℕ) → length front ≡ 8 + 8 * number → All (λ key. key < 2 ^ 64) keys →
     map (key_at (front ++ flat_map (little_bytes 8) keys)) (range_with_len number (length keys)) ≡ keys
 unfolding key_at
 read_back front number [] long are = refl
@@ -39,13 +39,13 @@ read_back front number (key ∷ keys) long are =
     let bytes = front ++ (little_bytes 8 key ++ rest) in
     let first : little_from (8 + 8 * number) 8 bytes ≡ key =
     ap (λ n. little_from n 8 bytes) (omega (arith, long)) ∙ little_from-drop (length front) 0 8 bytes
-    ∙ ap (little_from 0 8) (drop-append_seam front (little_bytes 8 key ++ rest)) ∙ little_number-reads_back 8 key rest are.0 in
+    ∙ ap (little_from 0 8) (drop-append_seam front (little_bytes 8 key ++ rest)) ∙ little_number-reads_back 8 key rest (All-head (λ k. k < 2 ^ 64) key keys are) in
     let longer : length (front ++ little_bytes 8 key) ≡ 8 + 8 * (number + 1) =
     omega (arith, length-append front (little_bytes 8 key), length-bytes_low_first 0 8 key, long) in
-    let others = read_back (front ++ little_bytes 8 key) (number + 1) keys longer are.1 in
+    let others = read_back (front ++ little_bytes 8 key) (number + 1) keys longer (All-tail (λ k. k < 2 ^ 64) key keys are) in
     ap₂ (λ y ys. y ∷ ys) first (ap (λ xs. map (key_at xs) (range_with_len (number + 1) (length keys))) (sym (append_assoc front (little_bytes 8 key) rest)) ∙ others)
 
-pub whole-trace : (keys : List ℕ) → AreKeys keys → whole (trace_of keys) ≡ keys
+pub whole-trace : (keys : List ℕ) → All (λ key. key < 2 ^ 64) keys → whole (trace_of keys) ≡ keys
 whole-trace keys are =
     let many : whole_len (trace_of keys) ≡ length keys = omega (arith, length_trace keys) in
     ap (λ n. map (key_at (trace_of keys)) (range_with_len 0 n)) many ∙ read_back trace_header 0 keys refl are
@@ -61,6 +61,7 @@ generated_below seed event =
     let v = mix ((seed + event) % 2 ^ 64) in
     of_mixed_below (eqb (v % 2) 0) v (mix_below ((seed + event) % 2 ^ 64))
 
-pub AreKeys-generated : (seed : ℕ) (events : List ℕ) → AreKeys (map (generated_key seed) events)
-AreKeys-generated seed [] = tt
-AreKeys-generated seed (event ∷ events) = (generated_below seed event, AreKeys-generated seed events)
+pub all_generated_below : (seed : ℕ) (events : List ℕ) → All (λ key. key < 2 ^ 64) (map (generated_key seed) events)
+all_generated_below seed [] = All-nil (λ key. key < 2 ^ 64)
+all_generated_below seed (event ∷ events) =
+    All-cons (λ key. key < 2 ^ 64) (generated_key seed event) (map (generated_key seed) events) (generated_below seed event) (all_generated_below seed events)

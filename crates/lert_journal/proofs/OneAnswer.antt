@@ -1,5 +1,5 @@
 -- What stands at a gate of a journal is a packet, a closed gate, or a place at which the format is left: only one of these.
-use Rattle.std.proofs.Common.{◌≡◌, ℕ, suc, ◌+◌, ◌-◌, ◌/◌, ◌<◌, ◌≤◌, ◌^◌}
+use Rattle.std.proofs.Common.{◌≡◌, ℕ, suc, ◌+◌, ◌-◌, ◌/◌, ◌<◌, ◌≤◌}
 use Rattle.std.proofs.Common.{Bool, Some, None, Result, Ok, Err, List, [], ◌∷◌, length, take, map, slice_index_or, refl, sym, ap, ap₂, ◌∙◌}
 use Rattle.std.proofs.Common.{◌⊎◌, inl, inr, arith, length-take}
 use Rattle.std.specs.Prelude.{All}
@@ -10,7 +10,7 @@ use Rattle.lert_gatelog.specs.declared.fault.LogFault.{LogFault}
 use Rattle.lert_gatelog.specs.declared.fault.LogFault.TheVariants.{Failed, Malformed}
 use Rattle.lert_gatelog.specs.Gated.{IsClosed, IsOpen, BreaksAt}
 use Rattle.lert_gatelog.proofs.Deciding.{one_payload, open_or_closed, whole_or_broken, closed_or_broken, one_place, one_list}
-use Rattle.lert_spec.specs.declared.numbers.Numbers.{Numbers}
+use Rattle.lert_spec.specs.{declared.numbers.Numbers.Numbers, Edges.key_limit}
 use Rattle.lert_journal.specs.Journal.{HasPackets, HoldsPacket, LeavesAt}
 use Rattle.lert_journal.specs.Payload.{payload_of, packet_in, item_in, item_len, left, IsJournaled}
 use Rattle.lert_journal.proofs.PayloadBack.{never_left, packet_back}
@@ -103,14 +103,14 @@ read_all version [] back = refl
 read_all version (packet ∷ rest) back = ap₂ (λ x xs. x ∷ xs) (back 0 packet (omega arith)) (read_all version rest (λ n d below. back (suc n) d (omega (arith, below))))
 
 -- packets that a journal may hold are those of their payloads
-all_read : (version : ℕ) (s : Numbers) (cone : ℕ) (packets : List Packet) → All (IsJournaled version s cone) packets → All (λ packet. All (λ key. key < 2 ^ 64) (keys_of packet)) packets →
+all_read : (version : ℕ) (s : Numbers) (cone : ℕ) (packets : List Packet) → All (IsJournaled version s cone) packets → All (λ packet. All (λ key. key < key_limit s) (keys_of packet)) packets →
     map (packet_in version) (map (payload_of version) packets) ≡ packets
 all_read version s cone packets may fit = read_all version packets (λ n d below.
     let here = may n d below in
     packet_back version (slice_index_or packets n d) (omega (arith, here.by_most)) (omega (arith, here.trace_most)) (fit n d below) here.weighed)
 
 pub one_history : (version : ℕ) (s : Numbers) (cone most : ℕ) (bytes : List ℕ) (first : ℕ) (one other : List Packet) (end too : ℕ) → All (IsJournaled version s cone) one →
-    All (IsJournaled version s cone) other → All (λ packet. All (λ key. key < 2 ^ 64) (keys_of packet)) one → All (λ packet. All (λ key. key < 2 ^ 64) (keys_of packet)) other →
+    All (IsJournaled version s cone) other → All (λ packet. All (λ key. key < key_limit s) (keys_of packet)) one → All (λ packet. All (λ key. key < key_limit s) (keys_of packet)) other →
     HasPackets version most bytes first one end → HasPackets version most bytes first other too → (one ≡ other) × (end ≡ too)
 one_history version s cone most bytes first one other end too may may_too fit fit_too has has_too =
     let same = one_list most bytes first (map (payload_of version) one) (map (payload_of version) other) end too has has_too in

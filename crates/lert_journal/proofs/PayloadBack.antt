@@ -8,7 +8,7 @@ use Rattle.std.proofs.lemmas.List.Elements.{All-head, All-tail}
 use Rattle.byteorder.specs.Endian.{little_number, little_bytes}
 use Rattle.byteorder.specs.Numbers.{little_number-reads_back}
 use Rattle.lert_base.specs.Packet.{Packet, keys_of}
-use Rattle.lert_spec.specs.{declared.item.Item.Item, declared.numbers.Numbers.Numbers, Items.{keys_in, most_weight, AreOfVersion}, Mix.cone_of}
+use Rattle.lert_spec.specs.{declared.item.Item.Item, declared.numbers.Numbers.Numbers, Edges.key_limit, Items.{keys_in, most_weight, AreOfVersion}, Mix.cone_of}
 use Rattle.lert_journal.specs.Payload.{payload_of, packet_in, item_in, item_len, item_bytes, is_counted, is_own, stray_place, left, IsJournaled}
 use Rattle.lert_journal.proofs.{PayloadLaws.length_payload, ItemBytes.{len_of, laid_of, items_back, count_back, none_over}}
 
@@ -68,7 +68,7 @@ unbroken version s cone payload packet journaled =
     ∙ (ap (λ b. if b then Some 8 else stray) (le-ltb 1023 packet.trace journaled.trace_most)
     ∙ ap (option_map (stray_place version s cone payload)) (no_stray version s cone 0 packet.items journaled.of_cone journaled.weighed)))
 
-pub never_left : (version : ℕ) (s : Numbers) (cone : ℕ) (packet : Packet) → IsJournaled version s cone packet → All (λ key. key < 2 ^ 64) (keys_of packet) →
+pub never_left : (version : ℕ) (s : Numbers) (cone : ℕ) (packet : Packet) → IsJournaled version s cone packet → All (λ key. key < key_limit s) (keys_of packet) →
     left version s cone (payload_of version packet) ≡ None
 never_left version s cone packet journaled below =
     let payload = payload_of version packet in

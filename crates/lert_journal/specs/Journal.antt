@@ -1,10 +1,10 @@
 -- The packets of a journal: the payloads of its open records.
-use Rattle.std.specs.Prelude.{◌≡◌, ℕ, ◌+◌, ◌<◌, ◌^◌, List, [], ◌∷◌, ◌++◌, map, All, Some}
+use Rattle.std.specs.Prelude.{◌≡◌, ℕ, ◌+◌, ◌<◌, List, [], ◌∷◌, ◌++◌, map, All, Some}
 use Rattle.std.proofs.Common.{◌⊎◌}
 use Rattle.lert_base.specs.Packet.{Packet, keys_of}
 use Rattle.lert_gatelog.specs.Gated.{IsGated, IsOpen, BreaksAt, next_gate}
 use Rattle.lert_journal.specs.Payload.{payload_of, left, IsJournaled}
-use Rattle.lert_spec.specs.declared.numbers.Numbers.{Numbers}
+use Rattle.lert_spec.specs.{declared.numbers.Numbers.Numbers, Edges.key_limit}
 
 -- the open records from the gate `first` on hold these packets, and end at a closed gate
 abbrev pub HasPackets : ℕ → ℕ → List ℕ → ℕ → List Packet → ℕ → Type 0
@@ -20,7 +20,7 @@ HasPacketsOrOneMore version most first packets gate packet bytes =
 pub record HoldsPacket (version : ℕ) (s : Numbers) (cone most : ℕ) (bytes : List ℕ) (gate : ℕ) (packet : Packet) : Type 0 where
   pub stands : IsOpen most bytes gate (payload_of version packet)
   pub journaled : IsJournaled version s cone packet
-  pub fits : All (λ key. key < 2 ^ 64) (keys_of packet)
+  pub fits : All (λ key. key < key_limit s) (keys_of packet)
 
 -- at a gate stands an open record whose payload leaves the format at this place of the file
 pub record IsSpoiledAt (version : ℕ) (s : Numbers) (cone most : ℕ) (bytes : List ℕ) (gate at : ℕ) : Type 0 where

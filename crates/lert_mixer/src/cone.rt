@@ -1,7 +1,7 @@
 //! The two parts of a key: its cone, and its tail there.
 
 ghost use Rattle.std.specs.Prelude.{◌≡◌, ℕ, ◌-◌, ◌^◌, ◌<◌};
-ghost use Rattle.lert_spec.specs.Edges.{tail_bits};
+ghost use Rattle.lert_spec.specs.Edges.{key_limit, tail_bits};
 ghost use Rattle.lert_spec.specs.Mix.{cone_of, tail_of};
 
 use crate::mixer::{mix, unmix};
@@ -31,7 +31,7 @@ pub fn key_of(settings: &Settings, cone: u32, tail: u64) -> u64
     requires tail { tail < 2 ^ tail_bits settings.now }
     ensures cone { cone_of settings.now result ≡ cone }
     ensures tail { tail_of settings.now result ≡ tail }
-    ensures only { (k : ℕ) → k < 2 ^ 64 →
+    ensures only { (k : ℕ) → k < key_limit settings.now →
         cone_of settings.now k ≡ cone → tail_of settings.now k ≡ tail → result ≡ k }
 {
     let cone_bits = settings.numbers().cone_bits;

@@ -1,7 +1,7 @@
 -- The log text, computed on the closing record of three keys 7, on a flush, and on payloads that break each rule.
-use Rattle.std.proofs.{Common.{◌≡◌, ℕ, zero, suc, ◌+◌, ◌<◌, ◌≤◌, ◌^◌, List, [], ◌∷◌, ◌++◌, take, drop, Some, None, refl, arith, inl}, lemmas.List.Elements.All-cons}
+use Rattle.std.proofs.{Common.{◌≡◌, ℕ, zero, suc, ◌+◌, ◌<◌, ◌≤◌, List, [], ◌∷◌, ◌++◌, take, drop, Some, None, refl, arith, inl}, lemmas.List.Elements.All-cons}
 use Rattle.std.specs.Prelude.{slice_index_or}
-use Rattle.lert_spec.specs.{declared.numbers.Numbers.Numbers, Mix.{cone_of, mix}}
+use Rattle.lert_spec.specs.{declared.numbers.Numbers.Numbers, Edges.key_limit, Mix.{cone_of, mix}}
 use Rattle.lert_reports.specs.{declared.log.LogBefore.LogBefore, declared.log.LogKind.LogKind, declared.log.LogParts.LogParts, LogText.{LogRecord, log_payload_of, left_at, log_left, bin_count}}
 use Rattle.lert_reports.specs.Log.{log_header, most_record, before_of, AreRecords, HasLog, IsRepeatedAt, LogLeavesAt, In_header, At_gate, In_payload, Behind_closing}
 use Rattle.lert_reports.specs.LogRules.{AreFrames, AreNew, KeepsRules, record_in}
@@ -168,7 +168,7 @@ of_cone_0 = refl
 
 closed_is_new : AreNew alone 0 0 3 closed.reports
 closed_is_new = record {
-  fit = All-cons (λ report. report.key < 2 ^ 64) (record { key = 7; at = 3 }) [] (omega arith) (λ k other below. absurd (omega (arith, below)));
+  fit = All-cons (λ report. report.key < key_limit alone) (record { key = 7; at = 3 }) [] (omega arith) (λ k other below. absurd (omega (arith, below)));
   of_cone = All-cons (λ report. cone_of alone report.key ≡ 0) (record { key = 7; at = 3 }) [] of_cone_0 (λ k other below. absurd (omega (arith, below)));
   placed = All-cons (λ report. (1 ≤ report.at) × (0 ≤ report.at) × (report.at ≤ 3)) (record { key = 7; at = 3 }) [] (omega arith, omega arith, omega arith)
       (λ k other below. absurd (omega (arith, below)));

@@ -13,7 +13,7 @@ use Rattle.byteorder.specs.Endian.{little_bytes}
 use Rattle.byteorder.specs.Numbers.{little_from-lt}
 use Rattle.lert_spec.specs.declared.numbers.Numbers.{Numbers}
 use Rattle.lert_spec.specs.declared.report.Report.{Report}
-use Rattle.lert_spec.specs.Edges.{edge, capacity}
+use Rattle.lert_spec.specs.Edges.{key_limit, edge, capacity}
 use Rattle.lert_spec.specs.Limits.{lies}
 use Rattle.lert_spec.specs.Mix.{cone_of}
 use Rattle.lert_spec.proofs.ByteLaws.{bytes_back}
@@ -167,11 +167,11 @@ module _ (s : Numbers) (payload : List ℕ) (level : ℕ) (none : left_at payloa
       }
 
 -- a report before others that are new behind it
-new_before : (s : Numbers) (cone n0 : ℕ) (report : Report) (reports : List Report) (earlier : ℕ) → report.key < 2 ^ 64 → cone_of s report.key ≡ cone → 1 ≤ report.at →
+new_before : (s : Numbers) (cone n0 : ℕ) (report : Report) (reports : List Report) (earlier : ℕ) → report.key < key_limit s → cone_of s report.key ≡ cone → 1 ≤ report.at →
     earlier ≤ report.at → report.at ≤ n0 →
     AreNew s cone report.at n0 reports → AreNew s cone earlier n0 (report ∷ reports)
 new_before s cone n0 report reports earlier fits of_cone some later within are = record {
-  fit = All-cons (λ r. r.key < 2 ^ 64) report reports fits are.fit;
+  fit = All-cons (λ r. r.key < key_limit s) report reports fits are.fit;
   of_cone = All-cons (λ r. cone_of s r.key ≡ cone) report reports of_cone are.of_cone;
   placed = All-cons (λ r. (1 ≤ r.at) × (earlier ≤ r.at) × (r.at ≤ n0)) report reports (some, later, within)
       (λ k other below. let there = are.placed k other below in (there.0, omega (arith, later, there.1), there.2));

@@ -1,11 +1,11 @@
 -- The table of a store as reports are put, and what it tells of a key.
-use Rattle.std.proofs.Common.{◌≡◌, ℕ, ◌+◌, ◌<◌, ◌≤◌, ◌^◌, suc, cond, eqb, ltb, ◌||◌, List, [], ◌∷◌, length, map, refl, ap, ap₂, sym, ◌∙◌, bit_xor, count_by, subst, arith, inl, inr}
+use Rattle.std.proofs.Common.{◌≡◌, ℕ, ◌+◌, ◌<◌, ◌^◌, suc, cond, eqb, ltb, ◌||◌, List, [], ◌∷◌, length, map, refl, ap, ap₂, sym, ◌∙◌, bit_xor, count_by, subst, arith, inl, inr}
 use Rattle.std.proofs.{lemmas.Bool.{cases_eq, eq-eqb, ne_eqb, lt-ltb}, lemmas.List.Sums.sum_by-cons, lemmas.Nat.xor_lt}
 use Rattle.std.specs.{Int.Bits.{xor_assoc, xor_self, xor_zero_r}, Prelude.All}
 use Rattle.lert_spec.specs.{declared.numbers.Numbers.Numbers, declared.piece.Piece.Piece, declared.report.Report.Report, Table.count_of}
 use Rattle.lert_spec.specs.{Counts.plain, Look.is_listed}
 use Rattle.lert_spec.proofs.{MixLaws.{mix_below, mix_is_one_to_one}, TallyLaws.{count_of-each, keys_weigh}}
-use Rattle.lert_reports.specs.Stored.{Stored, AreStored, hidden, hidden_tally}
+use Rattle.lert_reports.specs.Stored.{Stored, AreStored, hidden}
 
 -- xor with a number twice gives a number back
 xor_twice : (key secret : ℕ) → bit_xor (bit_xor key secret) secret ≡ key

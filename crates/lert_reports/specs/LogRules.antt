@@ -1,6 +1,6 @@
 -- The rules of a record of a log, in words of the record alone, and what the parts that are read of a payload say of it.
 use Rattle.std.specs.{Prelude.{◌≡◌, ◌≢◌, ℕ, ◌+◌, ◌*◌, ◌<◌, ◌≤◌, ◌^◌, List, [], All, length, map, slice_index_or}, List.{AllPairs, range_with_len}}
-use Rattle.lert_spec.specs.{declared.numbers.Numbers.Numbers, declared.report.Report.Report, Edges.{edge, capacity}, Mix.cone_of}
+use Rattle.lert_spec.specs.{declared.numbers.Numbers.Numbers, declared.report.Report.Report, Edges.{key_limit, edge, capacity}, Mix.cone_of}
 use Rattle.lert_reports.specs.{declared.log.LogBefore.LogBefore, declared.log.LogKind.LogKind, declared.log.LogParts.LogParts}
 use Rattle.lert_reports.specs.LogText.{LogRecord, next_flush, bin_count, directory_bytes, frames_in, report_in}
 
@@ -18,7 +18,7 @@ pub record AreFrames (s : Numbers) (level n : ℕ) (frames : List ℕ) : Type 0 
 
 -- reports of this cone's keys, each at one of the first n0 positions, none before `earlier` nor before an earlier one
 pub record AreNew (s : Numbers) (cone earlier n0 : ℕ) (reports : List Report) : Type 0 where
-  pub fit : All (λ report. report.key < 2 ^ 64) reports
+  pub fit : All (λ report. report.key < key_limit s) reports
   pub of_cone : All (λ report. cone_of s report.key ≡ cone) reports
   pub placed : All (λ report. (1 ≤ report.at) × (earlier ≤ report.at) × (report.at ≤ n0)) reports
   pub ascending : AllPairs (λ one other. one.at ≤ other.at) reports

@@ -1,6 +1,6 @@
 -- What a store of reports is seen as, and what it keeps beside its list.
 use Rattle.std.specs.Prelude.{ℕ, ◌≡◌, ◌+◌, ◌<◌, ◌≤◌, ◌^◌, All, List, [], bit_xor, fold, length, map}
-use Rattle.lert_spec.specs.{declared.numbers.Numbers.Numbers, declared.piece.Piece.Piece, declared.report.Report.Report, Mix.mix, Table.plus}
+use Rattle.lert_spec.specs.{declared.numbers.Numbers.Numbers, declared.piece.Piece.Piece, declared.report.Report.Report, Edges.key_limit, Mix.mix, Table.plus}
 
 -- its settings, and its reports in their order
 pub record Stored : Type 0 where
@@ -31,7 +31,7 @@ pub record IsRoomy (s : Numbers) (room quotient width : ℕ) : Type 0 where
 pub record AreStored (s : Numbers) (secret : ℕ) (reports : List Report) (capacity : ℕ) (pieces : List Piece) (adds room quotient width : ℕ) : Type 0 where
   pub few : length reports ≤ s.room
   pub reserved : s.room ≤ capacity
-  pub keys : All (λ report. report.key < 2 ^ 64) reports
+  pub keys : All (λ report. report.key < key_limit s) reports
   pub counted : pieces ≡ hidden_tally secret (map (λ report. report.key) reports)
   pub added : adds ≡ length reports
   pub roomy : IsRoomy s room quotient width

@@ -2,6 +2,7 @@
 
 ghost use Rattle.std.specs.Prelude.{◌≡◌, ℕ, ◌^◌, ◌<◌, ◌≤◌, [], ◌∷◌, ◌++◌, All, length, IfOk};
 ghost use Rattle.lert_reports.specs.Stored.{AreFewest, hidden};
+ghost use Rattle.lert_spec.specs.Edges.{key_limit};
 ghost use Rattle.lert_spec.specs.Look.{is_listed};
 
 use lert_base::{CountTable, Report, Settings};
@@ -82,7 +83,7 @@ impl<T: CountTable> ReportStore<T> {
     pub fn list(&self) -> &[Report]
         ensures reports { result.now ≡ self.now.reports }
         ensures room { length result.now ≤ self.now.settings.room }
-        ensures keys { All (λ report. report.key < 2 ^ 64) self.now.reports }
+        ensures keys { All (λ report. report.key < key_limit self.now.settings) self.now.reports }
     {
         self.reports.as_slice()
     }

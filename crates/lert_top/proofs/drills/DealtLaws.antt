@@ -5,7 +5,7 @@ use Rattle.std.specs.List.{range_with_len}
 use Rattle.lert_spec.specs.{declared.numbers.Numbers.Numbers, Mix.{cone_of, part_of}}
 use Rattle.lert_trace.specs.Trace.{whole}
 use Rattle.lert_gen.specs.Generated.{dealt, generated, key_at, trace_of}
-use Rattle.lert_gen.proofs.RoundTrip.{AreKeys-generated, whole-trace}
+use Rattle.lert_gen.proofs.RoundTrip.{all_generated_below, whole-trace}
 use Rattle.lert_ingest.specs.Traces.{AreKeysOf, part_length}
 use Rattle.lert_ingest.proofs.Exactly.{keys_same}
 use Rattle.lert_top.specs.drills.Dealt.{AreDealt, all_dealt}
@@ -101,7 +101,7 @@ module _ (seed events : ℕ) where
   part_length_is s cone = sum_of_parts s cone length refl length-append
 
   read_back : (trace : ℕ) → whole (trace_of (dealt seed events trace)) ≡ dealt seed events trace
-  read_back trace = whole-trace (dealt seed events trace) (AreKeys-generated seed (to_trace trace (range_with_len 1 events)))
+  read_back trace = whole-trace (dealt seed events trace) (all_generated_below seed (to_trace trace (range_with_len 1 events)))
 
   -- the keys of sources that tell the bytes of the four traces
   pub dealt_keys : {S : Type 0} (remaining : S → Option (List ℕ)) (sources : List S) (traces : List (List ℕ)) → AreDealt remaining seed events sources →
