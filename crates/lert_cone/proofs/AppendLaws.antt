@@ -1,6 +1,6 @@
 -- What goes together with memory through the append of a packet to the journal.
 use Rattle.lert_spec.specs.declared.item.Item.{Item}
-use Rattle.std.proofs.Common.{◌≡◌, ℕ, ◌+◌, ◌-◌, ◌^◌, ◌<◌, ◌≤◌, false, List, [], ◌∷◌, ◌++◌, length, Some, All, Result, Ok, Err, OnOk, refl, sym, ap, ◌∙◌, subst, inl, inr, arith, length-append}
+use Rattle.std.proofs.Common.{◌≡◌, ℕ, ◌+◌, ◌-◌, ◌<◌, ◌≤◌, false, List, [], ◌∷◌, ◌++◌, length, Some, All, Result, Ok, Err, OnOk, refl, sym, ap, ◌∙◌, subst, inl, inr, arith, length-append}
 use Rattle.std.proofs.{Common.append-nil, lemmas.Bool.false≢true, lemmas.List.take_at, lemmas.List.Elements.{All-append, All-nil, All-cons}}
 use Rattle.std.specs.Result.{is_err}
 use Rattle.lert_base.specs.Packet.{keys_of, Packet, events_of}
@@ -9,7 +9,7 @@ use Rattle.lert_gatelog.specs.{Gated.next_gate, Kept.{InEach, KeepsOthers, Keeps
 use Rattle.lert_journal.specs.{Journal.{HasPackets, HasPacketsOrOneMore}, Payload.{payload_of, IsJournaled}}
 use Rattle.lert_levels.specs.rows.Rows.{HoldsBins}
 use Rattle.lert_reports.specs.Log.{HasLog, last_n0}
-use Rattle.lert_spec.specs.{declared.numbers.Numbers.Numbers, Edges.capacity}
+use Rattle.lert_spec.specs.{declared.numbers.Numbers.Numbers, Edges.{key_limit, capacity}}
 use Rattle.lert_cone.specs.{Framed.last_flush, History.{most_payload, end_of}, InStep.{IsInStep, IsPartway}, JournalPlaces.{NamesRecord, last_place}, Record.LogPlace}
 use Rattle.lert_cone.specs.{Sound.{IsJournal, IsSoundAs, IsSoundOver, but_last}, Stands.IsWhole, Tally.{Tallied, IsCounted}}
 use Rattle.lert_cone.proofs.{EndStep.{partway_all, late_all}, JournalPlaceLaws.{places_more, names_more}, SoundLaws.{events_more, counted_more, end_more}}
@@ -50,7 +50,7 @@ partway_packet s history packet events keys = record {
 
 module _ (leaves since : Files → Type 0) (seen : Files) (t : Tallied) (log : LogPlace) (gate : ℕ) (history : List Packet) (packet : Packet)
     (counted : IsCounted t) (still : t.listing.closed ≡ false) (read : leaves seen) (whole : IsWhole leaves seen t.listing t.rows t.due.reports gate log history)
-    (journaled : IsJournaled written t.listing.settings t.listing.cone packet) (fit : All (λ key. key < 2 ^ 64) (keys_of packet)) (fits : length
+    (journaled : IsJournaled written t.listing.settings t.listing.cone packet) (fit : All (λ key. key < key_limit t.listing.settings) (keys_of packet)) (fits : length
     (events_of history) + length packet.items ≤ capacity t.listing.settings)
     (others : KeepsOthers leaves since seen 0) (before : KeepsBefore leaves since seen 0 gate) where
   up : IsInStep leaves seen history t.listing t.rows t.due.reports log
@@ -83,9 +83,9 @@ module _ (leaves since : Files → Type 0) (seen : Files) (t : Tallied) (log : L
   journaled_more = All-append (IsJournaled written t.listing.settings t.listing.cone) history (packet ∷ []) journal.journaled
       (All-cons (IsJournaled written t.listing.settings t.listing.cone) packet [] journaled (All-nil (IsJournaled written t.listing.settings t.listing.cone)))
 
-  fit_more : All (λ (p : Packet). All (λ key. key < 2 ^ 64) (keys_of p)) (history ++ packet ∷ [])
-  fit_more = All-append (λ (p : Packet). All (λ key. key < 2 ^ 64) (keys_of p)) history (packet ∷ []) journal.fit
-      (All-cons (λ (p : Packet). All (λ key. key < 2 ^ 64) (keys_of p)) packet [] fit (All-nil (λ (p : Packet). All (λ key. key < 2 ^ 64) (keys_of p))))
+  fit_more : All (λ (p : Packet). All (λ key. key < key_limit t.listing.settings) (keys_of p)) (history ++ packet ∷ [])
+  fit_more = All-append (λ (p : Packet). All (λ key. key < key_limit t.listing.settings) (keys_of p)) history (packet ∷ []) journal.fit
+      (All-cons (λ (p : Packet). All (λ key. key < key_limit t.listing.settings) (keys_of p)) packet [] fit (All-nil (λ (p : Packet). All (λ key. key < key_limit t.listing.settings) (keys_of p))))
 
   -- an image with the packets from before, or with these and this one
   journal_same : (image : Files) → since image → HasPackets written (most_payload t.listing.settings) (image 0) 32 history gate → IsJournal t.listing.settings t.listing.cone history (image 0)

@@ -2,7 +2,7 @@
 use Rattle.std.proofs.Common.{ℕ, ◌≡◌, ◌+◌, ◌^◌, ◌<◌, ◌≤◌, suc, Bool, true, false, cond, eqb, leb, not, ◌&&◌, ◌||◌, List, [], ◌∷◌, ◌++◌, length, map, filter, All, Option, Some, None, refl, ap}
 use Rattle.std.proofs.{Common.{sym, ◌∙◌, arith, inl, inr, subst, append_assoc, length-append}, lemmas.Bool.{cases_Bool, cases_eq, eq-eqb, ne_eqb, le-leb, lt-leb, false≢true}, lemmas.List.map-append}
 use Rattle.std.proofs.lemmas.List.Elements.{filter-append}
-use Rattle.lert_spec.specs.Edges.{tail_bits}
+use Rattle.lert_spec.specs.Edges.{key_bits, key_limit, tail_bits}
 use Rattle.lert_spec.specs.{declared.numbers.Numbers.Numbers, declared.piece.Piece.Piece, declared.report.Report.Report, Look.is_listed, Mix.{cone_of, tail_of}, Table.{AscendsFrom, IsTable}}
 use Rattle.lert_spec.proofs.TailLaws.{key_with, is_due_piece}
 use Rattle.lert_cone.specs.Due.{Dues, PassesOver, TookFrom, TookTotals, due_reports, due_key, with_report, with_total}
@@ -46,7 +46,7 @@ due-cons_false s cone listed at p pieces due =
     ap (λ t. map (λ k. record { key = k; at = at }) (map (λ (q : Piece). key_with s cone q.tail) (cond t (p ∷ filter (is_due_piece s cone s.threshold listed) pieces) (filter
     (is_due_piece s cone s.threshold listed) pieces)))) due
 
-module _ (s : Numbers) (cone : ℕ) (bits : s.cone_bits ≤ 64) (named : cone < 2 ^ s.cone_bits) where
+module _ (s : Numbers) (cone : ℕ) (bits : s.cone_bits ≤ key_bits s) (named : cone < 2 ^ s.cone_bits) where
   -- a tail's key isn't among the reports of lesser tails
   unlisted : (listed : List Report) (at least tail : ℕ) (pieces : List Piece) → AscendsFrom least (2 ^ tail_bits s) pieces → tail < 2 ^ tail_bits s → All
       (λ piece. piece.tail < tail) pieces →
@@ -81,7 +81,7 @@ module _ (s : Numbers) (cone : ℕ) (bits : s.cone_bits ≤ 64) (named : cone < 
       or_false false = refl
 
 -- one total more
-module _ (d : Dues) (bits : d.settings.cone_bits ≤ 64) (named : d.cone < 2 ^ d.settings.cone_bits) (pieces : List Piece) (p : Piece) (took : TookTotals d pieces) (less : All
+module _ (d : Dues) (bits : d.settings.cone_bits ≤ key_bits d.settings) (named : d.cone < 2 ^ d.settings.cone_bits) (pieces : List Piece) (p : Piece) (took : TookTotals d pieces) (less : All
     (λ piece. piece.tail < p.tail) pieces) where
   abbrev all : List Piece
   all = pieces ++ p ∷ []
@@ -205,7 +205,7 @@ module _ (d : Dues) (p : Piece) where
         }
       ] took
 
-  pub from_total : (start : Dues) (pieces : List Piece) → d.settings.cone_bits ≤ 64 → d.cone < 2 ^ d.settings.cone_bits → TookFrom start d pieces →
+  pub from_total : (start : Dues) (pieces : List Piece) → d.settings.cone_bits ≤ key_bits d.settings → d.cone < 2 ^ d.settings.cone_bits → TookFrom start d pieces →
       All (λ piece. piece.tail < p.tail) pieces →
       TookFrom start (with_total d p) (pieces ++ p ∷ [])
   from_total start pieces bits named from less =
@@ -232,8 +232,8 @@ module _ (s : Numbers) (cone : ℕ) (listed : List Report) (piece : Piece) where
   pub due_key-few : piece.count < s.threshold → None ≡ due_key s cone listed piece
   due_key-few few = sym (ap (λ t. tested (t && not (is_listed (key_with s cone piece.tail) listed))) (lt-leb s.threshold piece.count few))
 
-  module _ (bits : s.cone_bits ≤ 64) (named : cone < 2 ^ s.cone_bits) (below : piece.tail < 2 ^ tail_bits s) (key : ℕ)
-      (only : (k : ℕ) → k < 2 ^ 64 → cone_of s k ≡ cone → tail_of s k ≡ piece.tail → key ≡ k) (enough : s.threshold ≤ piece.count) where
+  module _ (bits : s.cone_bits ≤ key_bits s) (named : cone < 2 ^ s.cone_bits) (below : piece.tail < 2 ^ tail_bits s) (key : ℕ)
+      (only : (k : ℕ) → k < key_limit s → cone_of s k ≡ cone → tail_of s k ≡ piece.tail → key ≡ k) (enough : s.threshold ≤ piece.count) where
     is_key : key ≡ key_with s cone piece.tail
     is_key = key_with_is s cone bits named piece.tail below key only
 
@@ -249,7 +249,7 @@ module _ (s : Numbers) (cone : ℕ) (listed : List Report) (piece : Piece) where
     due_key-fresh fresh = ap Some is_key ∙ sym (ap tested (test_is false fresh))
 
 -- a total that is not due changes nothing
-module _ (d : Dues) (piece : Piece) (bits : d.settings.cone_bits ≤ 64) (named : d.cone < 2 ^ d.settings.cone_bits) where
+module _ (d : Dues) (piece : Piece) (bits : d.settings.cone_bits ≤ key_bits d.settings) (named : d.cone < 2 ^ d.settings.cone_bits) where
   passes : None ≡ due_key d.settings d.cone d.reports piece → PassesOver d piece
   passes none = λ start pieces from less.
       let same : with_total d piece ≡ d = ap (λ key. cond d.is_full d (with_report d key)) (sym none) ∙ either d.is_full in

@@ -1,6 +1,6 @@
 -- The definitions, computed on the files that three keys 7 leave.
 use Rattle.lert_spec.specs.Counts.{weighed}
-use Rattle.std.proofs.{Common.{◌≡◌, ℕ, zero, suc, ◌+◌, ◌-◌, ◌^◌, ◌<◌, ◌≤◌, All, List, [], ◌∷◌, ◌++◌, drop, map, take, Some, None, refl, sym, arith}, lemmas.List.Elements.{All-nil, All-cons}}
+use Rattle.std.proofs.{Common.{◌≡◌, ℕ, zero, suc, ◌+◌, ◌-◌, ◌<◌, ◌≤◌, All, List, [], ◌∷◌, ◌++◌, drop, map, take, Some, None, refl, sym, arith}, lemmas.List.Elements.{All-nil, All-cons}}
 use Rattle.std.specs.Prelude.{slice_index_or}
 use Rattle.lert_cone.specs.History.{written}
 use Rattle.lert_base.specs.Packet.{keys_of, Packet, events_of}
@@ -8,7 +8,7 @@ use Rattle.lert_spec.specs.Items.{units}
 use Rattle.lert_spec.proofs.ItemLaws.{units_of_version}
 use Rattle.lert_bay.specs.Files.{Files}
 use Rattle.lert_journal.specs.Payload.{IsJournaled}
-use Rattle.lert_spec.specs.{declared.numbers.Numbers.Numbers, Mix.{mix, cone_of}, Bins.bins_of, Edges.edge, Look.closing_of}
+use Rattle.lert_spec.specs.{declared.numbers.Numbers.Numbers, Mix.{mix, cone_of}, Bins.bins_of, Edges.{key_limit, edge}, Look.closing_of}
 use Rattle.lert_cone.specs.{Framed.last_flush, declared.journal_places.JournalPlace.JournalPlace, History.{most_payload, end_of}, JournalPlaces.{HoldsPosition, first_place, oldest_place}}
 use Rattle.lert_cone.specs.{Sound.{IsSoundClosed, HoldFrames}, Unread.unread}
 use Rattle.lert_reports.specs.{declared.log.LogKind.LogKind, Log.{HasLog, before_of, last_directory, listed_in}, LogRules.{AreFrames, KeepsRules}, LogText.{LogRecord, bin_count}}
@@ -74,11 +74,11 @@ journaled = record {
   weighed = units_of_version written (7 ∷ 7 ∷ 7 ∷ []);
 }
 
-keys_fit : All (λ key. key < 2 ^ 64) (keys_of sevens)
+keys_fit : All (λ key. key < key_limit small) (keys_of sevens)
 keys_fit =
-    All-cons (λ key. key < 2 ^ 64) 7 (7 ∷ 7 ∷ []) (omega arith)
-    (All-cons (λ key. key < 2 ^ 64) 7 (7 ∷ []) (omega arith)
-    (All-cons (λ key. key < 2 ^ 64) 7 [] (omega arith) (All-nil (λ key. key < 2 ^ 64))))
+    All-cons (λ key. key < key_limit small) 7 (7 ∷ 7 ∷ []) (omega arith)
+    (All-cons (λ key. key < key_limit small) 7 (7 ∷ []) (omega arith)
+    (All-cons (λ key. key < key_limit small) 7 [] (omega arith) (All-nil (λ key. key < key_limit small))))
 
 -- the closing record behind them
 abbrev ending : LogRecord
@@ -112,7 +112,7 @@ ending_keeps = record {
   frames = no_frames_at;
   room = omega arith;
   reports = record {
-    fit = All-cons (λ report. report.key < 2 ^ 64) (record { key = 7; at = 3 }) [] (omega arith) (All-nil (λ report. report.key < 2 ^ 64));
+    fit = All-cons (λ report. report.key < key_limit small) (record { key = 7; at = 3 }) [] (omega arith) (All-nil (λ report. report.key < key_limit small));
     of_cone = All-cons (λ report. cone_of small report.key ≡ 0) (record { key = 7; at = 3 }) [] of_cone (All-nil (λ report. cone_of small report.key ≡ 0));
     placed = All-cons (λ report. (1 ≤ report.at) × (0 ≤ report.at) × (report.at ≤ 3)) (record { key = 7; at = 3 }) [] (omega arith, omega arith, omega arith)
         (All-nil (λ report. (1 ≤ report.at) × (0 ≤ report.at) × (report.at ≤ 3)));
@@ -156,7 +156,7 @@ sound = record {
         closed = record { within = omega arith; shut = λ one. absurd (omega (arith, one)) };
       };
       journaled = All-cons (IsJournaled written small 0) sevens [] journaled (All-nil (IsJournaled written small 0));
-      fit = All-cons (λ packet. All (λ key. key < 2 ^ 64) (keys_of packet)) sevens [] keys_fit (All-nil (λ packet. All (λ key. key < 2 ^ 64) (keys_of packet)));
+      fit = All-cons (λ packet. All (λ key. key < key_limit small) (keys_of packet)) sevens [] keys_fit (All-nil (λ packet. All (λ key. key < key_limit small) (keys_of packet)));
       within = omega arith;
     };
     logged = ending ∷ [];

@@ -1,6 +1,6 @@
 -- What stands at the gates of a journal that is read anew: the packets of its history in turn, and nothing else.
 use Rattle.lert_spec.specs.declared.item.Item.{Item}
-use Rattle.std.proofs.Common.{◌≡◌, ℕ, ◌+◌, ◌<◌, ◌≤◌, ◌^◌, Bool, true, false, List, [], ◌∷◌, ◌++◌, length, take, drop, map, All, sym, ap, ◌∙◌, subst, inl, inr, ◌⊎◌, arith, length-append, append-nil}
+use Rattle.std.proofs.Common.{◌≡◌, ℕ, ◌+◌, ◌<◌, ◌≤◌, Bool, true, false, List, [], ◌∷◌, ◌++◌, length, take, drop, map, All, sym, ap, ◌∙◌, subst, inl, inr, ◌⊎◌, arith, length-append, append-nil}
 use Rattle.std.proofs.{Common.append_assoc, Math.Seq.get_or-append_seam, lemmas.Bool.false≢true, lemmas.Grind.flat_map-append, lemmas.List.take-append-drop}
 use Rattle.lert_cone.specs.History.{written}
 use Rattle.lert_base.specs.Packet.{keys_of, Packet, events_of}
@@ -8,7 +8,7 @@ use Rattle.lert_gatelog.specs.Gated.{IsOpen, IsClosed, Records, next_gate}
 use Rattle.lert_gatelog.proofs.Deciding.{one_payload, open_or_closed}
 use Rattle.lert_journal.specs.{Journal.{HoldsPacket, LeavesAt}, Payload.{payload_of, packet_in, IsJournaled}}
 use Rattle.lert_journal.proofs.{OneAnswer.{packet_or_left, closed_or_left, one_place_left}, PayloadBack.packet_back}
-use Rattle.lert_spec.specs.declared.numbers.Numbers.{Numbers}
+use Rattle.lert_spec.specs.{declared.numbers.Numbers.Numbers, Edges.key_limit}
 use Rattle.lert_cone.specs.{History.{most_payload, end_of}, Replay.{IsPast, IsNext, MayFollow, ReplayLeavesAt, In_record, Too_few, Past_the_end, Too_many}, Sound.{IsJournal, KeysFit}}
 use Rattle.lert_cone.proofs.SoundLaws.{events_more, end_more}
 
@@ -149,7 +149,7 @@ module _ (s : Numbers) (cone : ℕ) (bytes : List ℕ) (history done : List Pack
           stands = subst (λ (g : ℕ). IsOpen (most_payload s) bytes g (payload_of written packet)) (sym past.gate_is)
               (from_gate (most_payload s) bytes [] done (packet ∷ rest) (end_of history) there).0;
           journaled = at_seam (IsJournaled written s cone) done rest packet (subst (All (IsJournaled written s cone)) is journal.journaled);
-          fits = at_seam (λ (p : Packet). All (λ key. key < 2 ^ 64) (keys_of p)) done rest packet (subst KeysFit is journal.fit);
+          fits = at_seam (λ (p : Packet). All (λ key. key < key_limit s) (keys_of p)) done rest packet (subst (KeysFit s) is journal.fit);
         },
       )
 

@@ -1,11 +1,11 @@
 -- An item through the counts: its totals don't come to the reports, or a report finds no room, or it is counted.
-use Rattle.std.proofs.Common.{◌≡◌, ℕ, ◌+◌, ◌^◌, ◌<◌, ◌-◌, ◌≢◌, true, false, List, [], ◌∷◌, ◌++◌, length, Some, Result, Ok, Err, refl, sym, ap, ◌∙◌, subst, arith}
+use Rattle.std.proofs.Common.{◌≡◌, ℕ, ◌+◌, ◌<◌, ◌-◌, ◌≢◌, true, false, List, [], ◌∷◌, ◌++◌, length, Some, Result, Ok, Err, refl, sym, ap, ◌∙◌, subst, arith}
 use Rattle.std.specs.Result.{IsErrAnd}
 use Rattle.lert_bay.specs.{Files.Files, Kept.Bays}
 use Rattle.lert_gatelog.specs.Kept.{InEach}
 use Rattle.lert_levels.specs.{declared.rows.fault.FlushFault.FlushFault, declared.rows.fault.FlushFault.TheVariants.{Failed as FlushFailed, Malformed}, Flushed.InNamed, rows.Landing.KeepsRest}
 use Rattle.lert_levels.specs.{rows.Loading.OneBreaks, OnDisk.OnDisk, rows.Rows.{AreRows, HoldsBins}, rows.Young.Young}
-use Rattle.lert_spec.specs.{declared.item.Item.Item, declared.numbers.Numbers.Numbers, Items.AreOfVersion, declared.report.Report.Report, Edges.edge, Mix.cone_of}
+use Rattle.lert_spec.specs.{declared.item.Item.Item, declared.numbers.Numbers.Numbers, Items.AreOfVersion, declared.report.Report.Report, Edges.{key_limit, edge}, Mix.cone_of}
 use Rattle.lert_cone.specs.{declared.tally.TakeFault.TakeFault, declared.tally.TakeFault.TheVariants.{Failed, Unsound}, Counts.{GivesTotals, CountsItem}, Due.{Dues, started}, Framed.HoldsSome}
 use Rattle.lert_cone.specs.Tally.{Tallied, AreYoung, IsHeld, take_fault}
 use Rattle.lert_cone.specs.History.{written}
@@ -93,7 +93,7 @@ module _ {B : Type 0} {bays : Bays B} (lawful : IsLawful bays) {t : Tallied} {ls
       levels_after due r) is
       gives))
 
-  module _ (below : item.key < 2 ^ 64) (own : cone_of t.listing.settings item.key ≡ t.listing.cone) (still : t.listing.closed ≡ false)
+  module _ (below : item.key < key_limit t.listing.settings) (own : cone_of t.listing.settings item.key ≡ t.listing.cone) (still : t.listing.closed ≡ false)
       (gives : GivesTotals bays start m tail bay bay_after young young_after (record { settings = ls; version = written; rows = t.rows }) levels_after due (Ok tt)) where
     -- a report finds no room
     pub no_room : due.is_full ≡ true → length due.reports ≡ due.settings.room →

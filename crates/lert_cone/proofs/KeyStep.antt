@@ -207,7 +207,7 @@ module _ (leaves : Files → Type 0) (seen : Files) (history : List Packet) (t a
     next =
         log_at_flush t.listing.settings before.valid t.listing.cone t.listing.events item (oldest_place log.places) t.rows a.rows logged a.due.reports may
         (omega (arith, long, to_listing (λ s cone events closed. length events ≤ capacity s) counted.fits)) moves_here
-        (to_listing (λ s cone events closed. HaveKeys weighed events) counted.keys)
+        (to_listing (λ s cone events closed. HaveKeys s weighed events) counted.keys)
         (to_listing (λ s cone events closed. IsPartOf weighed s cone events) counted.own)
         rows_at rows_are looked few taken.log_of
 

@@ -188,7 +188,7 @@ module _ (s : Numbers) (valid : IsValid s) (cone : ℕ) (kind : LogKind) (n0 : �
 -- a flush adds the record of the rows that it made, and lists the reports that were made up to there
 pub log_at_flush : (s : Numbers) (valid : IsValid s) (cone : ℕ) (events : List Item) (item : Item) (place : JournalPlace) (rows_before rows : List (List BinAt)) (records : List LogRecord)
     (reports : List Report) →
-    MayName s (suc (length events)) place → suc (length events) ≤ capacity s → edge s 0 (suc (length events)) ≢ edge s 0 (length events) → HaveKeys weighed (events ++ item ∷ []) → IsPartOf
+    MayName s (suc (length events)) place → suc (length events) ≤ capacity s → edge s 0 (suc (length events)) ≢ edge s 0 (length events) → HaveKeys s weighed (events ++ item ∷ []) → IsPartOf
     weighed s cone
     (events ++ item ∷ []) →
     IsAt s (suc (length events)) rows → AreRows s rows → reports ≡ look_of weighed s (events ++ item ∷ []) → length reports ≤ s.room → IsLogOf s cone events rows_before false records →
@@ -220,7 +220,7 @@ log_at_flush s valid cone events item place rows_before rows records reports may
 
 -- closing adds a record after all events, with the rows of the last flush, and lists all reports
 pub log_at_close : (s : Numbers) (valid : IsValid s) (cone : ℕ) (events : List Item) (place : JournalPlace) (rows : List (List BinAt)) (records : List LogRecord) (reports : List Report) →
-    MayName s (length events) place → length events ≤ capacity s → HaveKeys weighed events → IsPartOf weighed s cone events → IsAt s (length events) rows → AreRows s rows → reports ≡ closing_of
+    MayName s (length events) place → length events ≤ capacity s → HaveKeys s weighed events → IsPartOf weighed s cone events → IsAt s (length events) rows → AreRows s rows → reports ≡ closing_of
     weighed s events →
     length reports ≤ s.room →
     IsLogOf s cone events rows false records →
@@ -233,7 +233,7 @@ log_at_close s valid cone events place rows records reports may within keys own 
     let next : n < next_flush s (flushes_in records) = subst (λ k. n < next_flush s k) (sym (flushes_are s valid cone events rows records is)) (before_next s valid n) in
     let are : AreReports s cone n reports = subst (AreReports s cone n) (sym reports_are) (closing_are s events valid within cone keys own) in
     let looked : BeginsWith (look_of weighed s (flushed s events)) (look_of weighed s events) =
-    subst (λ xs. BeginsWith (look_of weighed s (flushed s events)) (look_of weighed s xs)) (append-nil events) (flushed_begin s events [] positive (subst (HaveKeys weighed)
+    subst (λ xs. BeginsWith (look_of weighed s (flushed s events)) (look_of weighed s xs)) (append-nil events) (flushed_begin s events [] positive (subst (HaveKeys s weighed)
     (sym (append-nil events)) keys)) in
     let begun : BeginsWith (listed_in records) reports =
     subst (λ rs. BeginsWith rs reports) (sym is.reports_are)

@@ -1,10 +1,11 @@
 -- The reports of a cone as they are made, of which earlier ones begin later ones.
-use Rattle.std.proofs.Common.{ℕ, zero, suc, ◌≡◌, ◌≢◌, ◌+◌, ◌^◌, ◌<◌, ◌≤◌, Bool, cond, eqb, List, [], ◌∷◌, ◌++◌, length, take, drop, get_or, map, filter, All, refl, ap, sym, ◌∙◌, arith, inl, inr}
+use Rattle.std.proofs.Common.{ℕ, zero, suc, ◌≡◌, ◌≢◌, ◌+◌, ◌<◌, ◌≤◌, Bool, cond, eqb, List, [], ◌∷◌, ◌++◌, length, take, drop, get_or, map, filter, All, refl, ap, sym, ◌∙◌, arith, inl, inr}
 use Rattle.std.proofs.{Common.{subst, length-append, append_assoc}, lemmas.Bool.{cases_lt, cases_eq, cases_Bool, eq-eqb}}
 use Rattle.std.proofs.{lemmas.List.{append-nil, length-map, length-take, take-append-le, take-append-drop, get_or-map}, lemmas.List.Elements.{All-nil, All-cons, All-append, All-map, All-weaker}}
 use Rattle.std.proofs.lemmas.List.Sums.{sum_by-cons}
 use Rattle.std.specs.{Prelude.count_by, List.AllPairs, List.Sorted.IsNonDecreasing}
-use Rattle.lert_spec.specs.{declared.numbers.Numbers.Numbers, declared.report.Report.Report, Counts.{weighed, weight_in}, declared.item.Item.Item, Edges.{capacity, lookback}, Limits.IsValid}
+use Rattle.lert_spec.specs.{declared.numbers.Numbers.Numbers, declared.report.Report.Report, Counts.{weighed, weight_in}, declared.item.Item.Item, Limits.IsValid}
+use Rattle.lert_spec.specs.Edges.{key_limit, capacity, lookback}
 use Rattle.lert_spec.specs.{Look.{insert_mixed, mixed_in, is_due_in, with_due_in, look_up_to, look_of, closing_of}, Mix.{mix, cone_of}, Timely.times_listed}
 use Rattle.lert_spec.proofs.{LookLaws.{AreKeys, HaveKeys, AreKeys-mixed_order, AreKeys-filter, look_to-append}, ReportLaws.{insert_before, insert_same, insert_behind}}
 use Rattle.lert_spec.proofs.{TailLaws.{AreOfCone, IsPartOf, HaveKeys-take, HaveKeys-drop}, TimeBound.{timely_closing, timely_so_far}}
@@ -48,7 +49,7 @@ apart key (x ∷ xs) few (suc i) (suc j) d less within same =
 
 -- a report of this cone's keys, at one of the first n positions
 pub record IsReport (s : Numbers) (cone n : ℕ) (report : Report) : Type 0 where
-  pub fits : report.key < 2 ^ 64
+  pub fits : report.key < key_limit s
   pub own : cone_of s report.key ≡ cone
   pub from : 1 ≤ report.at
   pub to : report.at ≤ n
@@ -84,7 +85,7 @@ module _ (s : Numbers) (cone : ℕ) where
         | inr fails ↦ subst (AreOfCone s cone) (sym (ap (λ t. cond t (key ∷ filter test keys) (filter test keys)) fails)) rest
       ]
 
-  keys_each : (at : ℕ) (keys : List ℕ) → 1 ≤ at → AreKeys keys → AreOfCone s cone keys → All (λ key. IsReport s cone at (record { key = key; at = at })) keys
+  keys_each : (at : ℕ) (keys : List ℕ) → 1 ≤ at → AreKeys s keys → AreOfCone s cone keys → All (λ key. IsReport s cone at (record { key = key; at = at })) keys
   keys_each at [] from fit own = All-nil (λ (key : ℕ). IsReport s cone at (record { key = key; at = at }))
   keys_each at (key ∷ keys) from fit own =
       All-cons (λ (k : ℕ). IsReport s cone at (record { key = k; at = at })) key keys
@@ -92,7 +93,7 @@ module _ (s : Numbers) (cone : ℕ) where
       (keys_each at keys from fit.1 own.1)
 
   -- those that a window adds, behind earlier ones
-  due_each : (threshold from to n : ℕ) (events : List Item) (reports : List Report) → n ≤ to → 1 ≤ to → HaveKeys weighed events → IsPartOf weighed s cone events →
+  due_each : (threshold from to n : ℕ) (events : List Item) (reports : List Report) → n ≤ to → 1 ≤ to → HaveKeys s weighed events → IsPartOf weighed s cone events →
       All (IsReport s cone n) reports →
       All (IsReport s cone to) (with_due_in weighed threshold events from to reports)
   due_each threshold from to n events reports later some fit own are =
@@ -101,13 +102,13 @@ module _ (s : Numbers) (cone : ℕ) where
       All-append (IsReport s cone to) reports (map (λ key. record { key = key; at = to }) due)
       (All-weaker (IsReport s cone n) (IsReport s cone to) (λ report is. record { fits = is.fits; own = is.own; from = is.from; to = omega (arith, is.to, later) }) reports are)
       (All-map (IsReport s cone to) (λ (key : ℕ). record { key = key; at = to }) due
-      (keys_each to due some (AreKeys-filter test (mixed_in weighed events) (AreKeys-mixed_order weighed events fit)) (own_filter test (mixed_in weighed events) (own_mixed events own))))
+      (keys_each to due some (AreKeys-filter s test (mixed_in weighed events) (AreKeys-mixed_order s weighed events fit)) (own_filter test (mixed_in weighed events) (own_mixed events own))))
 
-  look_each : (events : List Item) (m : ℕ) → HaveKeys weighed events → IsPartOf weighed s cone events → All (IsReport s cone m) (look_up_to weighed s events m)
+  look_each : (events : List Item) (m : ℕ) → HaveKeys s weighed events → IsPartOf weighed s cone events → All (IsReport s cone m) (look_up_to weighed s events m)
   look_each events zero fit own = All-nil (IsReport s cone 0)
   look_each events (suc m) fit own = due_each s.threshold (lookback s (suc m)) (suc m) m events (look_up_to weighed s events m) (omega arith) (omega arith) fit own (look_each events m fit own)
 
-  closing_each : (events : List Item) → HaveKeys weighed events → IsPartOf weighed s cone events → All (IsReport s cone (length events)) (closing_of weighed s events)
+  closing_each : (events : List Item) → HaveKeys s weighed events → IsPartOf weighed s cone events → All (IsReport s cone (length events)) (closing_of weighed s events)
   closing_each [] fit own = All-nil (IsReport s cone 0)
   closing_each (event ∷ events) fit own =
       let all = event ∷ events in
@@ -143,7 +144,7 @@ module _ (s : Numbers) (events : List Item) (valid : IsValid s) (fits : length e
         | inr heavy ↦ omega (arith, (timely.heavy key heavy).once)
       ]
 
-  module _ (cone : ℕ) (keys : HaveKeys weighed events) (own : IsPartOf weighed s cone events) where
+  module _ (cone : ℕ) (keys : HaveKeys s weighed events) (own : IsPartOf weighed s cone events) where
     pub look_are : AreReports s cone (length events) (look_of weighed s events)
     look_are = record {
       each = look_each s cone events (length events) keys own;
@@ -181,16 +182,16 @@ look_begins s events a (suc n) early =
     ]
 
 -- reports of the first events are the first reports
-pub look_first : (s : Numbers) (events : List Item) (n : ℕ) → 1 ≤ s.threshold → HaveKeys weighed events → n ≤ length events → look_of weighed s (take n events) ≡ look_up_to weighed s events n
+pub look_first : (s : Numbers) (events : List Item) (n : ℕ) → 1 ≤ s.threshold → HaveKeys s weighed events → n ≤ length events → look_of weighed s (take n events) ≡ look_up_to weighed s events n
 look_first s events n positive keys within =
     let first = take n events in
     let long : length first ≡ n = length-take n events ∙ omega (arith, within) in
     ap (look_up_to weighed s first) long
-    ∙ sym (look_to-append weighed s first (drop n events) n positive (HaveKeys-take weighed n events keys) (HaveKeys-drop weighed n events keys) (omega (arith, long)))
+    ∙ sym (look_to-append weighed s first (drop n events) n positive (HaveKeys-take s weighed n events keys) (HaveKeys-drop s weighed n events keys) (omega (arith, long)))
     ∙ ap (λ xs. look_up_to weighed s xs n) (take-append-drop n events)
 
 -- what the log lists begins the reports that are made later
-pub flushed_begin : (s : Numbers) (events more : List Item) → 1 ≤ s.threshold → HaveKeys weighed (events ++ more) → BeginsWith (look_of weighed s (flushed s events)) (look_of weighed s
+pub flushed_begin : (s : Numbers) (events more : List Item) → 1 ≤ s.threshold → HaveKeys s weighed (events ++ more) → BeginsWith (look_of weighed s (flushed s events)) (look_of weighed s
     (events ++ more))
 flushed_begin s events more positive keys =
     let all = events ++ more in

@@ -1,13 +1,13 @@
 -- A packet through the calls that it makes: it isn't appended, or it is, and its items are taken.
 use Rattle.std.specs.{Prelude.IsErr, Result.IsErrAnd}
-use Rattle.std.proofs.Common.{◌≡◌, ℕ, ◌+◌, ◌^◌, ◌<◌, ◌≤◌, List, [], ◌∷◌, ◌++◌, All, length, Result, Ok, Err, OnOk, OnErr, Some, refl, ap, ◌∙◌, subst, inl, inr, arith, sym}
+use Rattle.std.proofs.Common.{◌≡◌, ℕ, ◌+◌, ◌<◌, ◌≤◌, List, [], ◌∷◌, ◌++◌, All, length, Result, Ok, Err, OnOk, OnErr, Some, refl, ap, ◌∙◌, subst, inl, inr, arith, sym}
 use Rattle.lert_cone.specs.History.{written}
 use Rattle.lert_base.specs.Packet.{keys_of, Packet, events_of}
 use Rattle.lert_bay.specs.{Files.{Files, IfTold, Turns}, Kept.{Bays, KeepsBay}}
 use Rattle.lert_gatelog.specs.{Gated.{IsClosed, Log, next_gate}, Kept.{InEach, KeepsOthers, KeepsBefore, IsWhollySettled, OthersStay}}
 use Rattle.lert_io.specs.declared.faulty.Failed.{Failed as Fault}
 use Rattle.lert_journal.specs.{Journal.{HasPackets, HasPacketsOrOneMore}, Payload.payload_of}
-use Rattle.lert_spec.specs.{declared.item.Item.Item, Edges.capacity, Items.keys_in, Mix.cone_of}
+use Rattle.lert_spec.specs.{declared.item.Item.Item, Edges.{key_limit, capacity}, Items.keys_in, Mix.cone_of}
 use Rattle.lert_cone.proofs.KeyLemmas.{of_keys}
 use Rattle.lert_cone.specs.{declared.journal_places.JournalPlace.JournalPlace, declared.tally.TakeFault.TakeFault, declared.tally.TakeFault.TheVariants.Failed, History.most_payload, InStep.IsInStep}
 use Rattle.lert_cone.specs.{JournalPlaces.AreOfRecord, Sound.IsSoundOver, Takes.{Workplace, CanTake, CanTakePacket, IsWholeAt, TakesItems, TakesPacket}, Wrote.{IsShutIfTold, LeavesAlone}}
@@ -33,9 +33,9 @@ AppendsPacket bays packet bay bay_after old new result = record {
 }
 
 module _ {B : Type 0} {bays : Bays B} (lawful : IsLawful bays) {old : Workplace B} {packet : Packet} {journal : Log} (can : CanTakePacket bays packet old journal) {keys : List Item}
-    (keys_are : keys ≡ packet.items) (keys_fit : All (λ key. key < 2 ^ 64) (keys_in keys)) (journal_after : Log) (bay : B) where
-  fit : All (λ key. key < 2 ^ 64) (keys_of packet)
-  fit = subst (λ (items : List Item). All (λ key. key < 2 ^ 64) (keys_in items)) keys_are keys_fit
+    (keys_are : keys ≡ packet.items) (keys_fit : All (λ key. key < key_limit old.counts.listing.settings) (keys_in keys)) (journal_after : Log) (bay : B) where
+  fit : All (λ key. key < key_limit old.counts.listing.settings) (keys_of packet)
+  fit = subst (λ (items : List Item). All (λ key. key < key_limit old.counts.listing.settings) (keys_in items)) keys_are keys_fit
 
   -- whatever comes of the append
   module _ (result : Result (Unit {0}) Fault) (appends : AppendsPacket bays packet old.bay bay journal journal_after result) where

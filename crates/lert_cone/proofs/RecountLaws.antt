@@ -1,9 +1,9 @@
 -- A cone whose items come again up to n0, while its rows are those after n0 events already.
-use Rattle.std.proofs.Common.{ℕ, ◌≡◌, ◌≢◌, ◌+◌, ◌-◌, ◌*◌, ◌%◌, ◌^◌, ◌<◌, ◌≤◌, suc, cond, ltb, Bool, true, false, List, [], ◌∷◌, ◌++◌, length, ap, sym, ◌∙◌, arith, inl, inr, subst, length-append}
+use Rattle.std.proofs.Common.{ℕ, ◌≡◌, ◌≢◌, ◌+◌, ◌-◌, ◌*◌, ◌%◌, ◌<◌, ◌≤◌, suc, cond, ltb, Bool, true, false, List, [], ◌∷◌, ◌++◌, length, ap, sym, ◌∙◌, arith, inl, inr, subst, length-append}
 use Rattle.std.proofs.{Math.Nat.mul-div-le, lemmas.Bool.{cases_eq, cases_lt, eq-eqb, ne_eqb, lt-ltb, le-ltb}, lemmas.Nat.mul-le}
 use Rattle.lert_cone.specs.History.{written}
 use Rattle.lert_spec.specs.{Counts.weighed, declared.item.Item.Item, declared.numbers.Numbers.Numbers}
-use Rattle.lert_spec.specs.{Items.{most_weight, AreOfVersion}, Edges.{span, offset, edge, capacity}, Limits.IsValid, Mix.{cone_of, tail_of}}
+use Rattle.lert_spec.specs.{Items.{most_weight, AreOfVersion}, Edges.{key_limit, span, offset, edge, capacity}, Limits.IsValid, Mix.{cone_of, tail_of}}
 use Rattle.lert_spec.proofs.{LookLaws.HaveKeys, TailLaws.IsPartOf}
 use Rattle.lert_levels.specs.{rows.Ranges.young_bins, rows.Rows.{IsAt, AreRows}, rows.Young.{Young, IsNextPosition, with_event, added}}
 use Rattle.lert_levels.proofs.rows.YoungBins.{young-added, young-none}
@@ -148,7 +148,7 @@ module _ (s : Numbers) (valid : IsValid s) (n0 : ℕ) (events : List Item) (y : 
 -- before the first item above the edge, where none of level 0's came yet
 module _ (t : Tallied) (n0 : ℕ) (valid : IsValid t.listing.settings) (few : length t.listing.events ≤ edge t.listing.settings 0 n0) (fits : n0 ≤ capacity t.listing.settings)
     (young : t.young ≡ record { settings = t.listing.settings; from = 0; to = 0; bins = [] }) (at : IsAt t.listing.settings n0 t.rows) (are : AreRows t.listing.settings t.rows)
-    (keys : HaveKeys weighed t.listing.events) (own : IsPartOf weighed t.listing.settings t.listing.cone t.listing.events) (light : AreOfVersion written t.listing.events)
+    (keys : HaveKeys t.listing.settings weighed t.listing.events) (own : IsPartOf weighed t.listing.settings t.listing.cone t.listing.events) (light : AreOfVersion written t.listing.events)
     (due_settings : t.due.settings ≡ t.listing.settings) (due_cone : t.due.cone ≡ t.listing.cone) where
   within : length t.listing.events ≤ n0
   within = omega (arith, few, mul-div-le (n0 - offset t.listing.settings 0) (span t.listing.settings 0))
@@ -203,8 +203,8 @@ module _ (t : Tallied) (n0 : ℕ) (recounted : IsRecounted t n0) (settings : t.y
       (again_position t.listing.settings recounted.valid n0 t.listing.events t.young (recounted.young before) settings before recounted.n0_fits
       (omega (arith, ap (λ (v : Numbers). edge v 0 n0) settings)))
 
-  module _ (below : item.key < 2 ^ 64) (is_own : cone_of t.listing.settings item.key ≡ t.listing.cone) (some : 1 ≤ item.weight) (most : item.weight ≤ most_weight written) (next : Young)
-      (next_is : next ≡ cond (ltb (edge t.young.settings 0 n0) m) (with_event t.young tail item.weight m) t.young) where
+  module _ (below : item.key < key_limit t.listing.settings) (is_own : cone_of t.listing.settings item.key ≡ t.listing.cone) (some : 1 ≤ item.weight) (most : item.weight ≤ most_weight written)
+      (next : Young) (next_is : next ≡ cond (ltb (edge t.young.settings 0 n0) m) (with_event t.young tail item.weight m) t.young) where
     abbrev more : List Item
     more = t.listing.events ++ item ∷ []
 
@@ -217,7 +217,7 @@ module _ (t : Tallied) (n0 : ℕ) (recounted : IsRecounted t n0) (settings : t.y
 
     pub recounted_more : (after : Tallied) → after ≡ record t { listing = record t.listing { events = more }; young = next } → IsRecounted after n0
     recounted_more after after_is =
-        let keys : HaveKeys weighed more = HaveKeys-push t.listing.events item recounted.keys below in
+        let keys : HaveKeys t.listing.settings weighed more = HaveKeys-push t.listing.settings t.listing.events item recounted.keys below in
         let own : IsPartOf weighed t.listing.settings t.listing.cone more = IsPartOf-push t.listing.settings t.listing.cone t.listing.events item recounted.own is_own in
         let light : AreOfVersion written more = AreOfVersion-push written t.listing.events item recounted.light some most in
         let at : IsAt t.listing.settings n0 t.rows = recounted.rows (omega arith) in

@@ -2,7 +2,7 @@
 use Rattle.lert_spec.specs.declared.item.Item.{Item}
 use Rattle.lert_spec.specs.Items.{AreOfVersion, most_weight}
 use Rattle.std.proofs.lemmas.List.Elements.{All-head, All-append, All-tail}
-use Rattle.std.proofs.Common.{◌≡◌, ℕ, ◌+◌, ◌^◌, ◌<◌, ◌≤◌, List, [], ◌∷◌, ◌++◌, length, take, get_or, Option, Some, None, All, refl, sym, ap, ◌∙◌, subst, arith, length-append, append-nil}
+use Rattle.std.proofs.Common.{◌≡◌, ℕ, ◌+◌, ◌<◌, ◌≤◌, List, [], ◌∷◌, ◌++◌, length, take, get_or, Option, Some, None, All, refl, sym, ap, ◌∙◌, subst, arith, length-append, append-nil}
 use Rattle.std.proofs.{Math.Seq.get_or-append_seam, lemmas.Grind.flat_map-append, lemmas.List.{take-take, take_at, take_all}, lemmas.List.Elements.All-nil, lemmas.Option.{none-some, same_Some}}
 use Rattle.lert_spec.proofs.ItemLaws.{length-keys_in}
 use Rattle.lert_cone.specs.History.{written}
@@ -12,7 +12,7 @@ use Rattle.lert_gatelog.specs.{Gated.{IsClosed, next_gate}, Kept.{InEach, KeepsO
 use Rattle.lert_gatelog.proofs.GatedLaws.{byte_of_part, part_within}
 use Rattle.lert_journal.specs.{Header.{magic, header}, Payload.{payload_of, IsJournaled}}
 use Rattle.lert_journal.proofs.PayloadLaws.{length_payload}
-use Rattle.lert_spec.specs.declared.numbers.Numbers.{Numbers}
+use Rattle.lert_spec.specs.{declared.numbers.Numbers.Numbers, Edges.key_limit}
 use Rattle.lert_cone.specs.{History.end_of, InStep.AreNew, Sound.IsJournal}
 use Rattle.lert_reports.specs.Log.{HasLog, log_header}
 use Rattle.lert_reports.proofs.LogLaws.{records_none}
@@ -105,7 +105,7 @@ module _ (s : Numbers) (cone : ℕ) (leaves_one leaves since : Files → Type 0)
     headed = (begins (header (magic written) s cone) (image 0) long (front image may)).0;
     records = record { records = refl; closed = (begins (header (magic written) s cone) (image 0) long (front image may)).1 };
     journaled = All-nil (IsJournaled written s cone);
-    fit = All-nil (λ packet. All (λ key. key < 2 ^ 64) (keys_of packet));
+    fit = All-nil (λ packet. All (λ key. key < key_limit s) (keys_of packet));
     within = omega arith;
   }
 

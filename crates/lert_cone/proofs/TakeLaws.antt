@@ -4,7 +4,7 @@ use Rattle.std.proofs.{Common.length-append, lemmas.List.{length-take, get_or-ta
 use Rattle.std.specs.{Prelude.{MatchResult, IsErrOf}, Result.IsErrAnd}
 use Rattle.lert_bay.specs.Files.{Files}
 use Rattle.lert_spec.specs.{declared.numbers.Numbers.Numbers, declared.piece.Piece.Piece, declared.report.Report.Report, Bins.tally}
-use Rattle.lert_spec.specs.{Counts.weighed, declared.item.Item.Item, Items.{most_weight, AreOfVersion}, Edges.{edge, capacity, tail_bits}, Limits.IsValid}
+use Rattle.lert_spec.specs.{Counts.weighed, declared.item.Item.Item, Items.{most_weight, AreOfVersion}, Edges.{key_limit, edge, capacity, tail_bits}, Limits.IsValid}
 use Rattle.lert_spec.specs.Look.{look_of, closing_of}
 use Rattle.lert_spec.specs.{Mix.{cone_of, tail_of}, Table.IsTable}
 use Rattle.lert_spec.proofs.TallyLaws.{tally_table}
@@ -141,7 +141,7 @@ module _ {t : Tallied} {ls : Numbers} {item : Item} {tail m : ℕ} {young : Youn
         (subst (λ n. IsAt t.listing.settings n rows) taking.m_is (subst (λ (v : Numbers). IsAt v m rows) taking.levels_are at)) light_now
         (subst (λ (v : Numbers). HoldsBins v written others rows after) taking.levels_are holds))
 
-  module _ (below : item.key < 2 ^ 64) (own : cone_of t.listing.settings item.key ≡ t.listing.cone) (start due : Dues) (start_is : start ≡ started t.due m) where
+  module _ (below : item.key < key_limit t.listing.settings) (own : cone_of t.listing.settings item.key ≡ t.listing.cone) (start due : Dues) (start_is : start ≡ started t.due m) where
     start_settings : start.settings ≡ t.listing.settings
     start_settings = ap (λ (d : Dues). d.settings) start_is ∙ taking.counted.due_settings
 
@@ -156,7 +156,7 @@ module _ {t : Tallied} {ls : Numbers} {item : Item} {tail m : ℕ} {young : Youn
         subst (λ (v : Tallied). IsCounted v) (sym after_is) (record {
           valid = taking.valid;
           fits = omega (arith, all_long, taking.m_is);
-          keys = HaveKeys-push t.listing.events item taking.counted.keys below;
+          keys = HaveKeys-push t.listing.settings t.listing.events item taking.counted.keys below;
           own = IsPartOf-push t.listing.settings t.listing.cone t.listing.events item taking.counted.own own;
           light = light_now;
           from = from ∙ ap₂ (λ (v : Numbers) (p : ℕ). edge v 0 p) taking.levels_are (sym all_long);

@@ -3,7 +3,7 @@ use Rattle.std.proofs.Common.{ℕ, ◌≡◌, ◌+◌, ◌-◌, ◌^◌, ◌<◌
 use Rattle.std.proofs.{Common.length-append, Math.Nat.mul-div-le, Math.Seq.take-length}
 use Rattle.std.proofs.{lemmas.Bool.{cases_eq, eq-eqb, ne_eqb}, lemmas.List.Elements.{All-nil, All-cons, All-append}, lemmas.Slice.between_from_start}
 use Rattle.lert_spec.specs.{declared.numbers.Numbers.Numbers, declared.piece.Piece.Piece, declared.report.Report.Report, Bins.tally, Counts.{weighed, weight_in}, declared.item.Item.Item}
-use Rattle.lert_spec.specs.Edges.{span, offset, edge, depth, lookback, tail_bits}
+use Rattle.lert_spec.specs.Edges.{key_bits, key_limit, span, offset, edge, depth, lookback, tail_bits}
 use Rattle.lert_spec.specs.{Limits.IsValid, Look.{is_listed, look_of, closing_of}, Mix.{cone_of, tail_of}, Table.{count_of, IsTable}}
 use Rattle.lert_spec.proofs.{CountLaws.{count-append, count-push}, EdgeLaws.deepest_reaches, LookLaws.{HaveKeys, look-push, look-push_between}, MixLaws.tail_below}
 use Rattle.lert_spec.proofs.{TailLaws.{IsPartOf, key_with, due_by_tally}, TallyLaws.tally_table, WindowLaws.{count_parts, count_never_falls}}
@@ -26,9 +26,9 @@ young_stays s n valid shallow =
       ))
     ]
 
-module _ (s : Numbers) (cone : ℕ) (events : List Item) (valid : IsValid s) (named : cone < 2 ^ s.cone_bits) (keys : HaveKeys weighed events) (own : IsPartOf weighed s cone events)
+module _ (s : Numbers) (cone : ℕ) (events : List Item) (valid : IsValid s) (named : cone < 2 ^ s.cone_bits) (keys : HaveKeys s weighed events) (own : IsPartOf weighed s cone events)
     (weigh : WeighAll events) where
-  bits : s.cone_bits ≤ 64
+  bits : s.cone_bits ≤ key_bits s
   bits = omega (arith, valid.limits.cone_bits_to)
 
   -- the reports of the end are those of all counts
@@ -39,7 +39,7 @@ module _ (s : Numbers) (cone : ℕ) (events : List Item) (valid : IsValid s) (na
       ap (λ ks. look_of weighed s events ++ map (λ key. record { key = key; at = n }) ks) due
       ∙ ap (λ xs. look_of weighed s events ++ due_reports s cone (look_of weighed s events) n (tally weighed s xs)) (between_from_start events n ∙ take-length events)
 
-  module _ (item : Item) (below : item.key < 2 ^ 64) (mine : cone_of s item.key ≡ cone) (weighs : 1 ≤ item.weight) where
+  module _ (item : Item) (below : item.key < key_limit s) (mine : cone_of s item.key ≡ cone) (weighs : 1 ≤ item.weight) where
     abbrev key : ℕ
     key = item.key
 
@@ -55,8 +55,8 @@ module _ (s : Numbers) (cone : ℕ) (events : List Item) (valid : IsValid s) (na
     abbrev window : ℕ
     window = count_of (tally weighed s (slice_range all (edge s 0 (suc (length events) - 1)) (suc (length events)))) tail
 
-    all_keys : HaveKeys weighed all
-    all_keys = HaveKeys-push events item keys below
+    all_keys : HaveKeys s weighed all
+    all_keys = HaveKeys-push s events item keys below
 
     all_own : IsPartOf weighed s cone all
     all_own = IsPartOf-push s cone events item own mine

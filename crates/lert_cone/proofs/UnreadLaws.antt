@@ -9,7 +9,8 @@ use Rattle.lert_bay.specs.{Files.Files, Settled.part}
 use Rattle.lert_gatelog.specs.Gated.{Records, IsOpen, counted_at}
 use Rattle.lert_journal.specs.Payload.{IsJournaled, packet_in, payload_of}
 use Rattle.lert_journal.proofs.PayloadBack.{packet_back}
-use Rattle.lert_spec.specs.{Counts.weighed, declared.item.Item.Item, declared.numbers.Numbers.Numbers, Items.{keys_in, most_weight, unit, AreOfVersion}, Limits.IsValid, Mix.{cone_of, tail_of}}
+use Rattle.lert_spec.specs.{Counts.weighed, declared.item.Item.Item, declared.numbers.Numbers.Numbers, Edges.{key_bits, key_limit}, Items.{keys_in, most_weight, unit, AreOfVersion}}
+use Rattle.lert_spec.specs.{Limits.IsValid, Mix.{cone_of, tail_of}}
 use Rattle.lert_spec.proofs.{LookLaws.HaveKeys, MixLaws.tail_below, TailLaws.IsPartOf}
 use Rattle.lert_cone.specs.{History.{most_payload, end_of}, Sound.{IsJournal, KeysFit}, Unread.{journal_of, items_from, own_item, unread}}
 use Rattle.lert_cone.proofs.KeyLemmas.{cone-key_with, key_with-tail, key_with_below}
@@ -28,10 +29,10 @@ unfolding unread
 unread_none s cone told = refl
 
 module _ (s : Numbers) (cone : ℕ) (valid : IsValid s) (named : cone < 2 ^ s.cone_bits) where
-  bits : s.cone_bits ≤ 64
+  bits : s.cone_bits ≤ key_bits s
   bits = omega (arith, valid.limits.cone_bits_to)
 
-  own_keys : (items : List Item) → HaveKeys weighed (map (own_item s cone) items)
+  own_keys : (items : List Item) → HaveKeys s weighed (map (own_item s cone) items)
   own_keys [] = tt
   own_keys (item ∷ items) = (key_with_below s cone bits named (tail_of s item.key) (tail_below s item.key), own_keys items)
 
@@ -44,7 +45,7 @@ module _ (s : Numbers) (cone : ℕ) (valid : IsValid s) (named : cone < 2 ^ s.co
   own_weights (item ∷ items) =
       All-cons (λ (i : Item). (1 ≤ i.weight) × (i.weight ≤ most_weight written)) (own_item s cone item) (map (own_item s cone) items) (omega arith, omega arith) (own_weights items)
 
-  pub unread_keys : (n : ℕ) (told : Option Files) → HaveKeys weighed (unread s cone n told)
+  pub unread_keys : (n : ℕ) (told : Option Files) → HaveKeys s weighed (unread s cone n told)
   unfolding unread
   unread_keys n told = own_keys (take n (items_from n (journal_of told) 32 ++ replicate n (unit 0)))
 
@@ -59,7 +60,7 @@ module _ (s : Numbers) (cone : ℕ) (valid : IsValid s) (named : cone < 2 ^ s.co
   -- ---- of the journal of packets
 
   -- items of the cone stay as they are
-  kept : (items : List Item) → All (λ key. key < 2 ^ 64) (keys_in items) → All (λ key. cone_of s key ≡ cone) (keys_in items) → AreOfVersion written items → map (own_item s cone) items ≡ items
+  kept : (items : List Item) → All (λ key. key < key_limit s) (keys_in items) → All (λ key. cone_of s key ≡ cone) (keys_in items) → AreOfVersion written items → map (own_item s cone) items ≡ items
   kept [] fit own light = refl
   kept (item ∷ items) fit own light =
       let keys = keys_in items in
@@ -67,18 +68,18 @@ module _ (s : Numbers) (cone : ℕ) (valid : IsValid s) (named : cone < 2 ^ s.co
       let weight : min (most_weight written) (max 1 item.weight) ≡ item.weight = omega (arith, All-head IsLight item items light) in
       ap₂ (λ (x : Item) xs. x ∷ xs)
       (ap₂ (λ key w. record { key = key; weight = w })
-      (key_with-tail s cone bits named item.key (All-head (λ k. k < 2 ^ 64) item.key keys fit) (All-head (λ k. cone_of s k ≡ cone) item.key keys own)) weight)
-      (kept items (All-tail (λ k. k < 2 ^ 64) item.key keys fit) (All-tail (λ k. cone_of s k ≡ cone) item.key keys own) (All-tail IsLight item items light))
+      (key_with-tail s cone bits named item.key (All-head (λ k. k < key_limit s) item.key keys fit) (All-head (λ k. cone_of s k ≡ cone) item.key keys own)) weight)
+      (kept items (All-tail (λ k. k < key_limit s) item.key keys fit) (All-tail (λ k. cone_of s k ≡ cone) item.key keys own) (All-tail IsLight item items light))
 
   module _ (rest : List Packet) where
-    all_kept : (done : List Packet) → KeysFit (done ++ rest) → All (IsJournaled written s cone) (done ++ rest) → map (own_item s cone) (events_of done) ≡ events_of done
+    all_kept : (done : List Packet) → KeysFit s (done ++ rest) → All (IsJournaled written s cone) (done ++ rest) → map (own_item s cone) (events_of done) ≡ events_of done
     all_kept [] fit journaled = refl
     all_kept (packet ∷ done) fit journaled =
         map-append (own_item s cone) packet.items (events_of done)
         ∙ ap₂ (λ xs ys. xs ++ ys)
-        (kept packet.items (All-head (λ (p : Packet). All (λ key. key < 2 ^ 64) (keys_of p)) packet (done ++ rest) fit)
+        (kept packet.items (All-head (λ (p : Packet). All (λ key. key < key_limit s) (keys_of p)) packet (done ++ rest) fit)
         (All-head (IsJournaled written s cone) packet (done ++ rest) journaled).of_cone (All-head (IsJournaled written s cone) packet (done ++ rest) journaled).weighed)
-        (all_kept done (All-tail (λ (p : Packet). All (λ key. key < 2 ^ 64) (keys_of p)) packet (done ++ rest) fit) (All-tail (IsJournaled written s cone) packet (done ++ rest) journaled))
+        (all_kept done (All-tail (λ (p : Packet). All (λ key. key < key_limit s) (keys_of p)) packet (done ++ rest) fit) (All-tail (IsJournaled written s cone) packet (done ++ rest) journaled))
 
     few : (done : List Packet) → All (IsJournaled written s cone) (done ++ rest) → length done ≤ length (events_of done)
     few [] journaled = omega arith
@@ -91,7 +92,7 @@ module _ (s : Numbers) (cone : ℕ) (valid : IsValid s) (named : cone < 2 ^ s.co
 
     module _ (most : ℕ) (bytes : List ℕ) (end : ℕ) where
       -- a record's payload is read back as its packet
-      packet_there : (packet : Packet) (gate : ℕ) → IsOpen most bytes gate (payload_of written packet) → IsJournaled written s cone packet → All (λ key. key < 2 ^ 64) (keys_of packet) →
+      packet_there : (packet : Packet) (gate : ℕ) → IsOpen most bytes gate (payload_of written packet) → IsJournaled written s cone packet → All (λ key. key < key_limit s) (keys_of packet) →
           packet_in written (part bytes (gate + 5) (gate + 5 + counted_at bytes gate)) ≡ packet
       packet_there packet gate stands journaled fit =
           ap (λ n. packet_in written (part bytes (gate + 5) (gate + 5 + n))) stands.counted
@@ -99,16 +100,16 @@ module _ (s : Numbers) (cone : ℕ) (valid : IsValid s) (named : cone < 2 ^ s.co
           ∙ packet_back written packet (omega (arith, journaled.by_most)) (omega (arith, journaled.trace_most)) fit journaled.weighed)
 
       -- as many records as there are packets, or more, begin with their keys
-      begun : (done : List Packet) (n gate : ℕ) → length done ≤ n → Records most bytes gate (map (payload_of written) (done ++ rest)) end → KeysFit (done ++ rest) →
+      begun : (done : List Packet) (n gate : ℕ) → length done ≤ n → Records most bytes gate (map (payload_of written) (done ++ rest)) end → KeysFit s (done ++ rest) →
           All (IsJournaled written s cone) (done ++ rest) → (more : List Item) × (items_from n bytes gate ≡ events_of done ++ more)
       begun [] n gate enough records fit journaled = (items_from n bytes gate, refl)
       begun (packet ∷ done) zero gate enough records fit journaled = absurd (omega (arith, enough))
       begun (packet ∷ done) (suc n) gate enough records fit journaled =
-          let is_keys : All (λ key. key < 2 ^ 64) (keys_of packet) = All-head (λ (p : Packet). All (λ key. key < 2 ^ 64) (keys_of p)) packet (done ++ rest) fit in
+          let is_keys : All (λ key. key < key_limit s) (keys_of packet) = All-head (λ (p : Packet). All (λ key. key < key_limit s) (keys_of p)) packet (done ++ rest) fit in
           let first = packet_there packet gate records.0 (All-head (IsJournaled written s cone) packet (done ++ rest) journaled) is_keys in
           let next : gate + 5 + counted_at bytes gate ≡ gate + 5 + length (payload_of written packet) = ap (λ n. gate + 5 + n) records.0.counted in
           let behind = begun done n (gate + 5 + length (payload_of written packet)) (omega (arith, enough)) records.1
-          (All-tail (λ (p : Packet). All (λ key. key < 2 ^ 64) (keys_of p)) packet (done ++ rest) fit) (All-tail (IsJournaled written s cone) packet (done ++ rest) journaled) in (
+          (All-tail (λ (p : Packet). All (λ key. key < key_limit s) (keys_of p)) packet (done ++ rest) fit) (All-tail (IsJournaled written s cone) packet (done ++ rest) journaled) in (
             behind.0,
             ap₂ (λ (p : Packet) items. p.items ++ items) first (ap (items_from n bytes) next ∙ behind.1) ∙ sym (append_assoc packet.items (events_of done) behind.0),
           )
@@ -127,7 +128,7 @@ module _ (s : Numbers) (cone : ℕ) (valid : IsValid s) (named : cone < 2 ^ s.co
   unfolding unread
   unread_is history done rest seen told journal is told_is =
       let n = length (events_of done) in
-      let fit : KeysFit (done ++ rest) = subst KeysFit is journal.fit in
+      let fit : KeysFit s (done ++ rest) = subst (KeysFit s) is journal.fit in
       let journaled : All (IsJournaled written s cone) (done ++ rest) = subst (All (IsJournaled written s cone)) is journal.journaled in
       let records : Records (most_payload s) (seen 0) 32 (map (payload_of written) (done ++ rest)) (end_of history) =
       subst (λ (h : List Packet). Records (most_payload s) (seen 0) 32 (map (payload_of written) h) (end_of history)) is journal.records.records in

@@ -19,6 +19,6 @@ pub record AreListed (s : Numbers) (cone : ℕ) (events : List Item) (closed : B
   pub valid : IsValid s
   pub named : cone < 2 ^ s.cone_bits
   pub fits : length events ≤ capacity s
-  pub keys : HaveKeys weighed events
+  pub keys : HaveKeys s weighed events
   pub own : IsPartOf weighed s cone events
   pub reports_are : reports ≡ reports_of (record { settings = s; cone = cone; events = events; closed = closed })

@@ -1,5 +1,5 @@
 -- What the files of a cone hold for a list of packets, and what a bay keeps of that.
-use Rattle.std.specs.Prelude.{◌≡◌, ℕ, ◌-◌, ◌^◌, ◌<◌, ◌≤◌, Bool, true, List, [], ◌∷◌, ◌++◌, length, take, All, Option, Some, slice_index_or, if◌then◌else◌}
+use Rattle.std.specs.Prelude.{◌≡◌, ℕ, ◌-◌, ◌<◌, ◌≤◌, Bool, true, List, [], ◌∷◌, ◌++◌, length, take, All, Option, Some, slice_index_or, if◌then◌else◌}
 use Rattle.std.proofs.Common.{◌⊎◌}
 use Rattle.lert_base.specs.Packet.{keys_of, Packet, events_of}
 use Rattle.lert_bay.specs.{Files.{Files, IfTold}, Kept.Bays, Settled.part, declared.bay.TheConstants.{JOURNAL, LOG, FRAMES}}
@@ -7,15 +7,15 @@ use Rattle.lert_frames.specs.Frame.{HoldsFrame}
 use Rattle.lert_gatelog.specs.Kept.{IsWhollySettled}
 use Rattle.lert_journal.specs.{Header.{magic, header}, Journal.HasPackets, Payload.IsJournaled}
 use Rattle.lert_reports.specs.{Log.{HasLog, listed_in, last_n0, last_directory, is_closed}, LogText.LogRecord}
-use Rattle.lert_spec.specs.{Counts.weighed, declared.item.Item.Item, declared.numbers.Numbers.Numbers, Bins.{Bin, bins_of}, Edges.capacity, Look.{look_of, closing_of}}
+use Rattle.lert_spec.specs.{Counts.weighed, declared.item.Item.Item, declared.numbers.Numbers.Numbers, Bins.{Bin, bins_of}, Edges.{key_limit, capacity}, Look.{look_of, closing_of}}
 use Rattle.lert_cone.specs.{Framed.last_flush, History.{most_payload, end_of}, JournalPlaces.{NamesRecord, last_place}}
 use Rattle.lert_cone.specs.History.{written}
 
 -- ---- the journal
 
--- keys of 64 bits
-abbrev pub KeysFit : List Packet → Type 0
-KeysFit history = All (λ packet. All (λ key. key < 2 ^ 64) (keys_of packet)) history
+-- keys below the limit
+abbrev pub KeysFit : Numbers → List Packet → Type 0
+KeysFit s history = All (λ packet. All (λ key. key < key_limit s) (keys_of packet)) history
 
 -- the bytes are the journal of a list of packets: the header of the cone, and open records of these packets, each of which
 -- a journal may hold, and which together have no more items than a cone takes
@@ -23,7 +23,7 @@ pub record IsJournal (s : Numbers) (cone : ℕ) (history : List Packet) (bytes :
   pub headed : part bytes 0 32 ≡ header (magic written) s cone
   pub records : HasPackets written (most_payload s) bytes 32 history (end_of history)
   pub journaled : All (IsJournaled written s cone) history
-  pub fit : KeysFit history
+  pub fit : KeysFit s history
   pub within : length (events_of history) ≤ capacity s
 
 -- all packets but the last

@@ -42,7 +42,7 @@ pub record AreYoung (s : Numbers) (events : List Item) (from : ℕ) (bins : List
 pub record IsCounted (tally : Tallied) : Type 0 where
   pub valid : IsValid tally.listing.settings
   pub fits : length tally.listing.events ≤ capacity tally.listing.settings
-  pub keys : HaveKeys weighed tally.listing.events
+  pub keys : HaveKeys tally.listing.settings weighed tally.listing.events
   pub own : IsPartOf weighed tally.listing.settings tally.listing.cone tally.listing.events
   pub light : AreOfVersion written tally.listing.events
   pub from : tally.young.from ≡ edge tally.listing.settings 0 (length tally.listing.events)
@@ -67,7 +67,7 @@ pub record IsRecounted (tally : Tallied) (n0 : ℕ) : Type 0 where
   pub valid : IsValid tally.listing.settings
   pub fits : length tally.listing.events ≤ capacity tally.listing.settings
   pub n0_fits : n0 ≤ capacity tally.listing.settings
-  pub keys : HaveKeys weighed tally.listing.events
+  pub keys : HaveKeys tally.listing.settings weighed tally.listing.events
   pub own : IsPartOf weighed tally.listing.settings tally.listing.cone tally.listing.events
   pub light : AreOfVersion written tally.listing.events
   pub are : AreRows tally.listing.settings tally.rows

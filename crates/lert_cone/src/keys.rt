@@ -1,6 +1,7 @@
 //! The items of a packet and the end of a cone, each with the record that the log gets behind it.
 
-ghost use Rattle.std.specs.Prelude.{◌≡◌, ℕ, ◌+◌, ◌^◌, ◌≤◌, ◌<◌, [], ◌∷◌, ◌++◌, length, All};
+ghost use Rattle.std.specs.Prelude.{◌≡◌, ℕ, ◌+◌, ◌≤◌, ◌<◌, [], ◌∷◌, ◌++◌, length, All};
+ghost use Rattle.lert_spec.specs.Edges.{key_limit};
 ghost use Rattle.lert_spec.specs.Items.{AreOfVersion};
 ghost use Rattle.lert_cone.specs.History.{written};
 ghost use Rattle.lert_base.specs.Entries.{packet_of};
@@ -74,7 +75,7 @@ fn take_item<B: Bay, T: CountTable>(
     item: Item,
     buffer: &mut [u8],
 ) -> Result<(), TakeFault>
-    requires below { item.key < 2 ^ 64 }
+    requires below { item.key < key_limit tally.old.listing.settings }
     requires can { CanTake B.Bay (item ∷ []) (record { bay = bay.old; counts = tally.old; log = log.old; room = length buffer.old }) }
     ensures { TakesItems B.Bay place (item ∷ []) (record { bay = bay.old; counts = tally.old; log = log.old; room = length buffer.old })
         (record { bay = bay.new; counts = tally.new; log = log.new; room = length buffer.new }) result }

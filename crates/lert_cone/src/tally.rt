@@ -2,7 +2,7 @@
 
 ghost use Rattle.std.specs.Prelude.{◌≡◌, ◌≢◌, ℕ, ◌-◌, ◌^◌, ◌<◌, ◌≤◌, false, [], All, length, replicate, IsTrue, IsFalse};
 ghost use Rattle.lert_bay.specs.Files.{Files};
-ghost use Rattle.lert_spec.specs.Edges.{edge, capacity};
+ghost use Rattle.lert_spec.specs.Edges.{key_limit, edge, capacity};
 ghost use Rattle.lert_spec.specs.Mix.{cone_of};
 ghost use Rattle.lert_spec.specs.Counts.{weighed};
 ghost use Rattle.lert_spec.specs.Items.{most_weight, AreOfVersion};
@@ -147,7 +147,7 @@ impl<B: Bay, T: CountTable> Tally<B, T> {
         requires are { AreRows settings.now levels.rows }
         requires store { store.settings ≡ settings.now }
         requires own { All (λ report. cone_of settings.now report.key ≡ cone) store.reports }
-        requires keys { HaveKeys weighed unread }
+        requires keys { HaveKeys settings.now weighed unread }
         requires keys_own { IsPartOf weighed settings.now cone unread }
         requires light { AreOfVersion written unread }
         requires within { length unread ≤ capacity settings.now }
@@ -226,7 +226,7 @@ impl<B: Bay, T: CountTable> Tally<B, T> {
     pub fn take(&mut self, bay: &mut B, item: Item) -> Result<(), TakeFault>
         requires still { self.old.listing.closed ≡ false }
         requires own { cone_of self.old.listing.settings item.key ≡ self.old.listing.cone }
-        requires below { item.key < 2 ^ 64 }
+        requires below { item.key < key_limit self.old.listing.settings }
         requires some { 1 ≤ item.weight }
         requires light { item.weight ≤ most_weight written }
         requires fits { length self.old.listing.events < capacity self.old.listing.settings }

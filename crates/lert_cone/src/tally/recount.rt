@@ -2,7 +2,7 @@
 
 ghost use Rattle.std.specs.Prelude.{◌≡◌, ◌+◌, ◌-◌, ◌^◌, ◌<◌, ◌≤◌, nat_lt, [], ◌∷◌, ◌++◌, All, length, if◌then◌else◌};
 ghost use Rattle.lert_levels.specs.rows.Young.{IsNextPosition, with_event};
-ghost use Rattle.lert_spec.specs.Edges.{edge, capacity, tail_bits};
+ghost use Rattle.lert_spec.specs.Edges.{key_limit, edge, capacity, tail_bits};
 ghost use Rattle.lert_spec.specs.Mix.{cone_of};
 ghost use Rattle.lert_spec.specs.Items.{most_weight, AreOfVersion};
 ghost use Rattle.lert_cone.specs.History.{written};
@@ -41,7 +41,7 @@ impl<B: Bay, T: CountTable> Tally<B, T> {
     fn recount_item(&mut self, n0: u64, from: u64, item: Item)
         requires from { from ≡ edge self.old.listing.settings 0 n0 }
         requires own { cone_of self.old.listing.settings item.key ≡ self.old.listing.cone }
-        requires below { item.key < 2 ^ 64 }
+        requires below { item.key < key_limit self.old.listing.settings }
         requires some { 1 ≤ item.weight }
         requires light { item.weight ≤ most_weight written }
         requires within { length self.old.listing.events < n0 }

@@ -11,7 +11,7 @@ use Rattle.lert_cone.proofs.{ReadCosts.{ended_cost, found_cost, journal_up_to, s
 use Rattle.lert_bay.proofs.KeptLaws.{IsLawful, reading_as}
 use Rattle.lert_gatelog.specs.{declared.fault.LogFault.LogFault, declared.fault.LogFault.TheVariants.{Failed, Malformed}, Gated.{IsClosed, IsOpen, Log}}
 use Rattle.lert_journal.specs.{Journal.{HoldsPacket, LeavesAt}, Payload.{IsJournaled, payload_of}}
-use Rattle.lert_spec.specs.{declared.numbers.Numbers.Numbers, Edges.capacity}
+use Rattle.lert_spec.specs.{declared.numbers.Numbers.Numbers, Edges.{key_limit, capacity}}
 use Rattle.lert_cone.specs.{History.most_payload, Replay.{In_record, MayFollow, Past_the_end, Too_few, Too_many}}
 use Rattle.lert_cone.proofs.packets.read_packet.Given as given
 use Rattle.lert_cone.proofs.packets.read_packet.Goals as goal
@@ -29,7 +29,7 @@ lawful g = record {
 
 -- what was read is a packet that stands in the journal
 held_at : (s : Numbers) (cone most file gate : ℕ) (seen : Files) (packet : Packet) → file ≡ 0 → most ≡ most_payload s → IsOpen most (seen file) gate (payload_of written packet) →
-    IsJournaled written s cone packet → All (λ key. key < 2 ^ 64) (keys_of packet) →
+    IsJournaled written s cone packet → All (λ key. key < key_limit s) (keys_of packet) →
     HoldsPacket written s cone (most_payload s) (seen 0) gate packet
 held_at s cone most file gate seen packet file_is most_is opened journaled fits = record {
   stands = subst (λ (m : ℕ). IsOpen m (seen 0) gate (payload_of written packet)) most_is (subst (λ (f : ℕ). IsOpen most (seen f) gate (payload_of written packet)) file_is opened);

@@ -1,5 +1,5 @@
 use Rattle.std.proofs.{Common.{arith, ap, sym, ◌∙◌, ◌≡◌, ◌<◌, ◌≤◌, ◌^◌, true}, lemmas.Bool.false≢true}
-use Rattle.lert_spec.specs.Edges.{tail_bits}
+use Rattle.lert_spec.specs.Edges.{key_bits, tail_bits}
 use Rattle.lert_spec.specs.Look.{is_listed}
 use Rattle.lert_spec.proofs.TailLaws.{key_with}
 use Rattle.lert_cone.proofs.{DueLaws.passes_listed, KeyLemmas.key_with_is}
@@ -13,7 +13,7 @@ returns-clause-value g c = rw (← c.self.view_is) (λ below.
 
 pub returns-clause-passes : goal.returns-clause-passes
 returns-clause-passes g c = rw (← c.self.view_is) (λ listed count.
-    let bits : c.self.inside.settings.cone_bits ≤ 64 = omega (arith, c.self.invariant.valid.limits.cone_bits_to) in
+    let bits : c.self.inside.settings.cone_bits ≤ key_bits c.self.inside.settings = omega (arith, c.self.invariant.valid.limits.cone_bits_to) in
     let below : c.args.tail < 2 ^ tail_bits c.self.inside.settings = rw (← c.self.view_is) at c.is_tail.ensures.tail.0 c.if-not-is_tail.false in
     let key_is = key_with_is c.self.inside.settings c.self.inside.cone bits c.self.invariant.named c.args.tail below c.key_of-key.result c.key_of-key.ensures.only in
     let there : is_listed (key_with c.self.inside.settings c.self.inside.cone c.args.tail) c.self.inside.store.reports ≡ true =

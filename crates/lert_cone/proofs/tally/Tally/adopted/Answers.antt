@@ -17,6 +17,7 @@ pub returns-clause-recounted : goal.returns-clause-recounted
 returns-clause-recounted g c = λ n0 fits at few.
     let valid = subst IsValid c.numbers-valid.ensures.value c.numbers-valid.ensures.valid in
     let is : c.args.unread ≡ c.args.unread ++ c.new-2.result = sym (ap (λ (keys : List Item). c.args.unread ++ keys) c.new-2.ensures ∙ append-nil c.args.unread) in
-    recounted_none _ n0 valid (subst (λ (keys : List Item). length keys ≤ edge c.args.settings.now 0 n0) is few) fits c.requires.zero at c.requires.are (subst (HaveKeys weighed) is c.requires.keys)
+    recounted_none _ n0 valid (subst (λ (keys : List Item). length keys ≤ edge c.args.settings.now 0 n0) is few) fits c.requires.zero at c.requires.are
+    (subst (HaveKeys c.args.settings.now weighed) is c.requires.keys)
     (subst (IsPartOf weighed c.args.settings.now c.args.cone) is c.requires.keys_own) (subst (AreOfVersion written) is c.requires.light) (ap (λ (d : Dues). d.settings) c.new.ensures)
     (ap (λ (d : Dues). d.cone) c.new.ensures)

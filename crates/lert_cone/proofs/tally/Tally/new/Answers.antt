@@ -16,7 +16,7 @@ adopted-requires-clause-are g c =
     subst (λ (rows : List (List BinAt)). AreRows c.args.settings.now rows) (sym (ap (λ (v : OnDisk). v.rows) c.requires.levels)) (AreRows-none c.args.settings.now)
 
 pub adopted-requires-clause-keys : goal.adopted-requires-clause-keys
-adopted-requires-clause-keys g c = subst (HaveKeys weighed) (sym c.requires.unread) tt
+adopted-requires-clause-keys g c = subst (HaveKeys c.args.settings.now weighed) (sym c.requires.unread) tt
 
 pub adopted-requires-clause-keys_own : goal.adopted-requires-clause-keys_own
 adopted-requires-clause-keys_own g c = subst (IsPartOf weighed c.args.settings.now c.args.cone) (sym c.requires.unread) tt

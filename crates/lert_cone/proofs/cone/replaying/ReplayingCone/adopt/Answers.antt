@@ -29,7 +29,7 @@ at-log-requires g c =
 
 pub adopted-tally-requires-clause-keys : goal.adopted-tally-requires-clause-keys
 adopted-tally-requires-clause-keys g c =
-    subst (HaveKeys weighed) (sym c.of-unread.ensures)
+    subst (HaveKeys c.args.room.settings weighed) (sym c.of-unread.ensures)
     (unread_keys c.args.room.settings c.args.cone c.requires.room.valid c.requires.named (c.args.last.first - 1) (g.B.Bay.files c.args.bay))
 
 pub adopted-tally-requires-clause-keys_own : goal.adopted-tally-requires-clause-keys_own
