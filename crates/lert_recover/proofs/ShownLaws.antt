@@ -1,5 +1,5 @@
 -- The reports of a cone that is reopened, of which those that were shown before are the first.
-use Rattle.std.proofs.Common.{◌≡◌, ℕ, ◌^◌, ◌<◌, ◌≤◌, Bool, true, false, Option, Some, Result, Ok, Err, List, [], ◌∷◌, ◌++◌, length, All, length-append, ap, sym, ◌∙◌, refl, subst, arith}
+use Rattle.std.proofs.Common.{◌≡◌, ℕ, ◌<◌, ◌≤◌, Bool, true, false, Option, Some, Result, Ok, Err, List, [], ◌∷◌, ◌++◌, length, All, length-append, ap, sym, ◌∙◌, refl, subst, arith}
 use Rattle.std.proofs.{lemmas.List.Concat.flat_map-append, lemmas.List.Elements.{All-head, All-tail}, lemmas.Option.same_Some}
 use Rattle.std.specs.Prelude.{IfOk, MatchResult, if◌then◌else◌}
 use Rattle.lert_base.specs.Packet.{Packet, events_of, keys_of}
@@ -7,29 +7,30 @@ use Rattle.lert_bay.specs.Files.{Files}
 use Rattle.lert_cone.specs.{declared.state.ConeState.TheVariants.{Finished, Running}, Sound.{IsSound, KeysFit}, Stands.{Standing, StandsFor, WasSound, is_broken}}
 use Rattle.lert_cone.proofs.MadeReports.{BeginsWith, closing_begins, look_begins}
 use Rattle.lert_reports.specs.Log.{is_closed}
-use Rattle.lert_spec.specs.{Counts.weighed, declared.{item.Item.Item, numbers.Numbers.Numbers, report.Report.Report}, Items.keys_in, Limits.IsValid, Look.{closing_of, look_of, look_up_to}}
+use Rattle.lert_spec.specs.{Counts.weighed, declared.{item.Item.Item, numbers.Numbers.Numbers, report.Report.Report}, Edges.key_limit, Items.keys_in, Limits.IsValid}
+use Rattle.lert_spec.specs.Look.{closing_of, look_of, look_up_to}
 use Rattle.lert_spec.proofs.LookLaws.{HaveKeys, look_to-append}
 use Rattle.lert_recover.specs.{Replayed.IsJournalSame, Shown.reports_for}
 use Rattle.lert_recover.proofs.MomentLaws.{sound_as}
 
--- ---- keys of 64 bits
+-- ---- keys below the limit
 
-keys_joined : (items others : List Item) → All (λ key. key < 2 ^ 64) (keys_in items) → HaveKeys weighed others → HaveKeys weighed (items ++ others)
-keys_joined [] others fit rest = rest
-keys_joined (item ∷ items) others fit rest = (
-  All-head (λ key. key < 2 ^ 64) item.key (keys_in items) fit,
-  keys_joined items others (All-tail (λ key. key < 2 ^ 64) item.key (keys_in items) fit) rest,
+keys_joined : (s : Numbers) (items others : List Item) → All (λ key. key < key_limit s) (keys_in items) → HaveKeys s weighed others → HaveKeys s weighed (items ++ others)
+keys_joined s [] others fit rest = rest
+keys_joined s (item ∷ items) others fit rest = (
+  All-head (λ key. key < key_limit s) item.key (keys_in items) fit,
+  keys_joined s items others (All-tail (λ key. key < key_limit s) item.key (keys_in items) fit) rest,
 )
 
-have_keys : (history : List Packet) → KeysFit history → HaveKeys weighed (events_of history)
-have_keys [] fit = tt
-have_keys (packet ∷ rest) fit =
-    keys_joined packet.items (events_of rest) (All-head (λ (p : Packet). All (λ key. key < 2 ^ 64) (keys_of p)) packet rest fit)
-    (have_keys rest (All-tail (λ (p : Packet). All (λ key. key < 2 ^ 64) (keys_of p)) packet rest fit))
+have_keys : (s : Numbers) (history : List Packet) → KeysFit s history → HaveKeys s weighed (events_of history)
+have_keys s [] fit = tt
+have_keys s (packet ∷ rest) fit =
+    keys_joined s packet.items (events_of rest) (All-head (λ (p : Packet). All (λ key. key < key_limit s) (keys_of p)) packet rest fit)
+    (have_keys s rest (All-tail (λ (p : Packet). All (λ key. key < key_limit s) (keys_of p)) packet rest fit))
 
-keys_split : (items others : List Item) → HaveKeys weighed (items ++ others) → HaveKeys weighed items × HaveKeys weighed others
-keys_split [] others fit = (tt, fit)
-keys_split (item ∷ items) others fit = (let behind = keys_split items others fit.1 in ((fit.0, behind.0), behind.1))
+keys_split : (s : Numbers) (items others : List Item) → HaveKeys s weighed (items ++ others) → HaveKeys s weighed items × HaveKeys s weighed others
+keys_split s [] others fit = (tt, fit)
+keys_split s (item ∷ items) others fit = (let behind = keys_split s items others fit.1 in ((fit.0, behind.0), behind.1))
 
 -- ---- the reports of the first events are the first reports
 
@@ -38,10 +39,10 @@ begins_either : (s : Numbers) (events : List Item) (front : List Report) (closed
 begins_either s events front true begun = closing_begins s events front begun
 begins_either s events front false begun = begun
 
-first_shown : (s : Numbers) (first more : List Item) (closed : Bool) → 1 ≤ s.threshold → HaveKeys weighed (first ++ more) →
+first_shown : (s : Numbers) (first more : List Item) (closed : Bool) → 1 ≤ s.threshold → HaveKeys s weighed (first ++ more) →
     BeginsWith (look_of weighed s first) (if closed then closing_of weighed s (first ++ more) else look_of weighed s (first ++ more))
 first_shown s first more closed positive fit =
-    let parts = keys_split first more fit in
+    let parts = keys_split s first more fit in
     let all = first ++ more in
     let same : look_up_to weighed s all (length first) ≡ look_of weighed s first = look_to-append weighed s first more (length first) positive parts.0 parts.1 (omega arith) in
     begins_either s all (look_of weighed s first) closed
@@ -51,7 +52,7 @@ pub shown_in : (s : Numbers) (cone : ℕ) (seen : Files) (history more : List Pa
     reports ≡ reports_for s (history ++ more) closed → (rest : List Report) × (reports ≡ look_of weighed s (events_of history) ++ rest)
 shown_in s cone seen history more closed reports valid sound is =
     let joined : events_of (history ++ more) ≡ events_of history ++ events_of more = flat_map-append (λ (p : Packet). p.items) history more in
-    let fit : HaveKeys weighed (events_of history ++ events_of more) = subst (HaveKeys weighed) joined (have_keys (history ++ more) sound.journal.fit) in
+    let fit : HaveKeys s weighed (events_of history ++ events_of more) = subst (HaveKeys s weighed) joined (have_keys s (history ++ more) sound.journal.fit) in
     let begun = first_shown s (events_of history) (events_of more) closed valid.limits.threshold_from fit in
     (begun.more, is ∙ (ap (λ (events : List Item). if closed then closing_of weighed s events else look_of weighed s events) joined ∙ begun.is))
 

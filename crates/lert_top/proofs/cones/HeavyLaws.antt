@@ -2,7 +2,7 @@
 use Rattle.std.proofs.{Common.{◌≡◌, ◌≢◌, ℕ, ◌+◌, ◌*◌, ◌/◌, ◌^◌, ◌<◌, ◌≤◌, zero, suc, Bool, cond, leb, List, [], ◌∷◌, length, get_or, lit<, ap, sym, ◌∙◌, inl, inr, arith, refl}, Math.Nat.mod-lt}
 use Rattle.std.proofs.{lemmas.Bool.{cases_lt, cases_eq, lt-leb, le-leb}, lemmas.Bool.Decides.nat_tests, lemmas.Nat.{xor_lt, shr_le, shr_below}}
 use Rattle.std.specs.Prelude.{Contains}
-use Rattle.lert_spec.specs.Edges.{tail_bits}
+use Rattle.lert_spec.specs.Edges.{key_bits, tail_bits}
 use Rattle.lert_spec.specs.{declared.numbers.Numbers.Numbers, Counts.{count, distinct, heavy, insert_key, plain}, Mix.{cone_of, folded, mix, scaled}}
 use Rattle.lert_spec.proofs.{CountLaws.count-whole, ReportLaws.{times, times-cons_other, times-cons_same, times-filter}}
 
@@ -115,5 +115,5 @@ pub mix_any : (key : ℕ) → mix key < 2 ^ 64
 unfolding mix
 mix_any key = folded_below _ (scaled_below 0xc4ceb9fe1a85ec53 _)
 
-pub cone_any : (s : Numbers) (key : ℕ) → s.cone_bits ≤ 64 → cone_of s key < 2 ^ s.cone_bits
-cone_any s key within = shr_below (mix key) s.cone_bits (tail_bits s) (let bits : s.cone_bits + (tail_bits s) ≡ 64 = omega (arith, within) in rw bits (mix_any key))
+pub cone_any : (s : Numbers) (key : ℕ) → s.cone_bits ≤ key_bits s → cone_of s key < 2 ^ s.cone_bits
+cone_any s key within = shr_below (mix key) s.cone_bits (tail_bits s) (let bits : s.cone_bits + tail_bits s ≡ key_bits s = omega (arith, within) in rw bits (mix_any key))
