@@ -1,44 +1,42 @@
 -- What a cone answers to a packet in the middle of which it breaks off.
-use Rattle.std.proofs.{Common.{Result, ◌≡◌, ℕ, ◌+◌, ◌≤◌, length, Option, Some, Err, refl, sym, ap, ◌∙◌, subst, arith}, lemmas.Bool.false≢true}
-use Rattle.lert_base.specs.{Packet.Packet, declared.cone_fault.ConeFault.ConeFault, declared.cone_fault.ConeFault.TheVariants.CapacityFull}
+use Rattle.std.proofs.Common.{Result, ◌≡◌, ℕ, ◌≤◌, Option, Some, Err, refl, sym, ap, subst}
+use Rattle.lert_base.specs.{Packet.Packet, declared.cone_fault.ConeFault.ConeFault}
 use Rattle.lert_gatelog.specs.Gated.{Log}
-use Rattle.lert_spec.specs.Edges.{capacity}
 use Rattle.lert_reports.specs.declared.log_point.LogPoint.{LogPoint}
-use Rattle.lert_cone.specs.{declared.state.ConeState.ConeState, declared.state.ConeState.TheVariants.Running, declared.tally.TakeFault.TakeFault, Listing.Listing, Record.LogPlace}
+use Rattle.lert_cone.specs.{declared.state.ConeState.ConeState, declared.tally.TakeFault.TakeFault, Listing.Listing, Record.LogPlace}
 use Rattle.lert_cone.specs.declared.acked.Acked.{Acked}
-use Rattle.lert_cone.specs.{Sound.IsSoundOver, Stands.{Standing, IsSameCone, is_refusal, broken_by, cone_fault}, Takes.{TakesPacket, work_at}, Tally.Tallied}
+use Rattle.lert_cone.specs.{Refuses.PassesTest, Sound.IsSoundOver, Stands.{Standing, IsSameCone, broken_by, cone_fault}, Takes.{TakesPacket, work_at}, Tally.Tallied}
 use Rattle.lert_bay.specs.Kept.{Bays}
 use Rattle.lert_bay.proofs.KeptLaws.{IsLawful}
 use Rattle.lert_cone.proofs.StandLaws.{cone_at}
-use Rattle.lert_cone.proofs.{FaultLaws.no_refusal, Admits.Admits, Stepping.breaks}
+use Rattle.lert_cone.proofs.{FaultLaws.no_refusal, Admits.Admits, RefusesLaws.{broke_full, broke_heavy, broke_old}, Stepping.breaks}
 
 module _ {B : Type 0} {bays : Bays B} (lawful : IsLawful bays) (packet : Packet) where
-  module _ {bay bay_after : B} {tally after : Tallied} {room room_after : ℕ} {state : ConeState} {journal journal_after : Log} {log log_after : LogPlace} (made : B) (events : ℕ)
-      (over : Option Packet) (last : LogPoint) (running : state ≡ Running) (within : events + length packet.items ≤ capacity tally.listing.settings) where
+  module _ {bay bay_after : B} {tally after : Tallied} {room room_after more : ℕ} {state : ConeState} {journal journal_after : Log} {log log_after : LogPlace} (made : B) (events weight : ℕ)
+      (over : Option Packet) (last : LogPoint) (passed : PassesTest (cone_at bay made tally events weight state over journal.gate log last) packet.items more) where
     -- in the middle
     pub broken_off : {state_after : ConeState} {over_after : Option Packet} {fault : TakeFault} {seen : Standing B} {given : Result Acked ConeFault} → state_after ≡ broken_by fault →
-        over_after ≡ Some packet → bays.faults made ≤ bays.faults bay → cone_at bay made tally events state over journal.gate log last ≡ seen → given ≡ Err (cone_fault fault) →
+        over_after ≡ Some packet → bays.faults made ≤ bays.faults bay → cone_at bay made tally events weight state over journal.gate log last ≡ seen → given ≡ Err (cone_fault fault) →
         TakesPacket bays packet (work_at bay tally log room) (work_at bay_after after log_after room_after) journal journal_after (Err fault) →
-        Admits bays packet seen (cone_at bay_after made after events state_after over_after journal_after.gate log_after last) given
+        Admits bays packet seen (cone_at bay_after made after events weight state_after over_after journal_after.gate log_after last) given
     broken_off {state_after = state_after} {over_after = over_after} {fault = fault} {given = given} state_is over_is risen view_is given_is did =
-        let same : IsSameCone (cone_at bay made tally events state over journal.gate log last)
-        (cone_at bay_after made after events state_after over_after journal_after.gate log_after last) =
+        let same : IsSameCone (cone_at bay made tally events weight state over journal.gate log last)
+        (cone_at bay_after made after events weight state_after over_after journal_after.gate log_after last) =
         record { settings = ap (λ (l : Listing). l.settings) did.listing; cone = ap (λ (l : Listing). l.cone) did.listing; made = refl; last = refl } in
-        subst (λ (v : Standing B). Admits bays packet v (cone_at bay_after made after events state_after over_after journal_after.gate log_after last) given) view_is
-        (subst (λ (r : Result Acked ConeFault). Admits bays packet (cone_at bay made tally events state over journal.gate log last)
-        (cone_at bay_after made after events state_after over_after journal_after.gate log_after last) r) (sym given_is) (record {
+        subst (λ (v : Standing B). Admits bays packet v (cone_at bay_after made after events weight state_after over_after journal_after.gate log_after last) given) view_is
+        (subst (λ (r : Result Acked ConeFault). Admits bays packet (cone_at bay made tally events weight state over journal.gate log last)
+        (cone_at bay_after made after events weight state_after over_after journal_after.gate log_after last) r) (sym given_is) (record {
           stands_for = tt;
           answers = tt;
           acked = tt;
           taken = tt;
           in_time_so_far = tt;
-          step = breaks lawful same running did.seen state_is refl refl risen did.kept did.now did.sound
+          step = breaks lawful same passed.running did.seen state_is refl refl risen did.kept did.now did.sound
               (λ seen told h whole image may. subst (λ (o : Option Packet). IsSoundOver tally.listing.settings tally.listing.cone h o image) (sym over_is)
               (did.each_moment seen told h whole image may)) did.shows;
-          broke = λ _ i. record (cone_at bay_after made after events state_after (over_is i) journal_after.gate log_after last) { listing = did.listing i };
-          full = λ n len. (
-            (λ given. absurd (let inner : cone_fault fault ≡ CapacityFull n len = cc in false≢true (sym (no_refusal fault) ∙ ap is_refusal inner))),
-            (λ why. absurd (omega (arith, why.1, why.2, why.3, within))),
-          );
+          broke = λ _ i. record (cone_at bay_after made after events weight state_after (over_is i) journal_after.gate log_after last) { listing = did.listing i };
+          full = broke_full (cone_at bay made tally events weight state over journal.gate log last) packet.items _ passed (cone_fault fault) (no_refusal fault);
+          weight_full = broke_heavy (cone_at bay made tally events weight state over journal.gate log last) packet.items _ passed (cone_fault fault) (no_refusal fault);
+          old_journal = broke_old (cone_at bay made tally events weight state over journal.gate log last) packet.items _ passed (cone_fault fault) (no_refusal fault);
           each_moment = λ still sound seen told h stands image may. did.each_moment seen told h (stands.whole still sound seen told) image may;
         }))

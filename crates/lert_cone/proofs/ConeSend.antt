@@ -151,7 +151,7 @@ module _ (B T C : RattleType) (g : bay.Ghosts B.Denot) (h : faulty.Ghosts B.Deno
                 search (sendable, crosses) depth 20,
                 (
                   search (sendable, crosses) depth 20,
-                  (search sendable, (search (sendable, crosses) depth 20, (search (sendable, crosses) depth 20, tt))),
+                  (search sendable, (search sendable, (search (sendable, crosses) depth 20, (search (sendable, crosses) depth 20, tt)))),
                 ),
               ),
             ),

@@ -1,7 +1,8 @@
 -- What `admit` is under a lock: how it answers and refuses by the cone's terms.
-use Rattle.std.proofs.Common.{◌≡◌, true, List, length, Some, Result, Ok, Err, sym, ap, refl, ◌∙◌, inl, inr, ◌⊎◌, arith}
+use Rattle.std.proofs.Common.{◌≡◌, true, List, Some, Result, Ok, Err, sym, ap, refl, ◌∙◌, inl, inr, ◌⊎◌, arith}
 use Rattle.std.specs.Prelude.{IfOk, IfErr, IsTrue}
-use Rattle.lert_base.specs.{Packet.{Packet, events_of}, declared.cone_fault.ConeFault.ConeFault, declared.cone_fault.ConeFault.TheVariants.{Closed, Broken, CapacityFull, BayFailed, Unsound}}
+use Rattle.lert_base.specs.{Packet.Packet, declared.cone_fault.ConeFault.ConeFault}
+use Rattle.lert_base.specs.declared.cone_fault.ConeFault.TheVariants.{Closed, Broken, CapacityFull, WeightFull, OldJournal, BayFailed, Unsound}
 use Rattle.lert_bay.specs.{Files.Turns, Kept.Bays}
 use Rattle.lert_cone.specs.{declared.acked.Acked.Acked, declared.state.ConeState.ConeState, declared.state.ConeState.TheVariants.{Running, Finished, BrokenByBay, BrokenByRead}}
 use Rattle.lert_cone.specs.{Locked.{AnswersUnder, RefusesUnder, is_stopped}, Stands.{Standing, StandsFor, Answers, is_broken, terms_of}, Wrote.Anything}
@@ -45,9 +46,24 @@ module _ {B : Type 0} (bays : Bays B) (packet : Packet) (old new : Standing B) w
   refuses_under (Err Broken) did = λ h stands. inr (unchanged (did.step.unchanged refl) (stopped_if old.state (did.step.broken.0 refl)))
   refuses_under (Err (CapacityFull n len)) did = λ h stands.
       let why = (did.full n len).0 refl in
-      let count : n ≡ length (events_of h) = why.1 ∙ sym stands.counted in
       inl (
-        record { fault_is = λ i. CapacityFull (count i) (why.2 i); too_many = omega (arith, why.3, count, why.2) },
+        (why.1 ∙ sym stands.counted, why.2, omega (arith, why.1, why.2, why.3, stands.counted)),
+        ap (λ (v : Standing B). is_stopped v.state) (did.step.unchanged refl),
+        ap (λ (v : Standing B). v.over) (did.step.unchanged refl),
+      )
+  refuses_under (Err (WeightFull weight more)) did = λ h stands.
+      let why = (did.weight_full weight more).0 refl in
+      let weighs = stands.weighed (ap is_broken why.0) in
+      inl (
+        (why.1 ∙ sym weighs, why.2, omega (arith, why.3, stands.counted), omega (arith, why.1, why.2, why.4, weighs)),
+        ap (λ (v : Standing B). is_stopped v.state) (did.step.unchanged refl),
+        ap (λ (v : Standing B). v.over) (did.step.unchanged refl),
+      )
+  refuses_under (Err (OldJournal place)) did = λ h stands.
+      let why = (did.old_journal place).0 refl in
+      let weighs = stands.weighed (ap is_broken why.0) in
+      inl (
+        (omega (arith, why.1, stands.counted), omega (arith, why.2, weighs), why.3, why.4),
         ap (λ (v : Standing B). is_stopped v.state) (did.step.unchanged refl),
         ap (λ (v : Standing B). v.over) (did.step.unchanged refl),
       )

@@ -33,6 +33,7 @@ pub mod NextFlush
 pub mod PacketTaken
 pub mod ReadCosts
 pub mod Refusals
+pub mod RefusesLaws
 pub mod RecordLaws
 pub mod ReplayLaws
 pub mod ReplayCalls
@@ -52,5 +53,6 @@ pub mod TextLaws
 pub mod TimeLaws
 pub mod TotalLaws
 pub mod UnreadLaws
+pub mod WeighLaws
 pub mod WroteLaws
 pub mod ConeSend

@@ -2,6 +2,7 @@
 -- lists it stands for at the end.
 use Rattle.std.proofs.{Common.{◌≡◌, ℕ, ◌+◌, ◌*◌, ◌^◌, ◌<◌, ◌≤◌, Bool, true, false, cond, List, length, Option, Some, None, All, refl, sym, ap, ◌∙◌, subst, arith}, lemmas.Bool.false≢true}
 use Rattle.lert_spec.proofs.ItemLaws.{length-keys_in}
+use Rattle.lert_spec.specs.Counts.{weighed, weight_of}
 use Rattle.lert_cone.specs.History.{written}
 use Rattle.lert_base.specs.Packet.{Packet, events_of}
 use Rattle.lert_bay.specs.{Files.{Files, IfTold, Turns}, Images.KeepsImages}
@@ -19,7 +20,8 @@ use Rattle.lert_cone.specs.{declared.tally.TakeFault.TheVariants.{Failed as Take
 use Rattle.lert_cone.specs.{Replay.{IsOnWay, IsPast, IsNext, ReplayLeavesAt}, Replaying.{Replaying, IsReplaying, readied}}
 use Rattle.lert_cone.specs.{Replays.{Replays, IsThere, WhyRefused, LeavesBehind, of_take_fault, of_log_fault}, Room.room_of, Stands.{StandsFor, IsCone, WereSoundAs, is_broken, is_finished}}
 use Rattle.lert_cone.specs.{Tally.{Tallied, IsRecounted}, Wrote.{Anything, IsShutIfTold, LeavesFile}}
-use Rattle.lert_cone.proofs.{FaultLaws.turns_on, GateLaws.is_next, ReplayLaws.{journal_on_way, whole_on_way}, SoundLaws.turns_back, WroteLaws.{settled_through, torn_behind}}
+use Rattle.lert_cone.proofs.{FaultLaws.turns_on, GateLaws.is_next, ReplayLaws.{journal_on_way, whole_on_way}, SoundLaws.turns_back}
+use Rattle.lert_cone.proofs.{WeighLaws.{few_light, weigh_units}, WroteLaws.{settled_through, torn_behind}}
 
 -- ---- calls that read alone
 
@@ -162,7 +164,7 @@ module _ {B : Type 0} {files : B → Option Files} {leaves : B → Files → Typ
       }
       → IsShutIfTold (files cone.bay) (leaves cone.bay) 0 end → tally.listing ≡ cone.listing → IsReplaying files leaves faults mark cone tally journal room keys_room
       → IsCone files leaves faults mark (record (readied cone) { state = state; gate = journal_after.gate }) tally journal_after room keys_room
-  ready_cone {cone = cone} {state = state} none state_is enough gate_is journal_is shut listing_is replaying =
+  ready_cone {cone = cone} {tally = tally} {state = state} none state_is enough gate_is journal_is shut listing_is replaying =
       let was = replaying.taking none in
       let whole : is_broken state ≡ false = ap is_broken state_is ∙ ends_whole cone.last.closed in
       record {
@@ -171,6 +173,7 @@ module _ {B : Type 0} {files : B → Option Files} {leaves : B → Files → Typ
         roomy = replaying.roomy;
         keys_roomy = replaying.keys_roomy;
         within = replaying.within;
+        light = few_light cone.listing.settings cone.events replaying.within;
         valid = replaying.valid;
         never_falls = replaying.never_falls;
         marked = replaying.marked;
@@ -178,6 +181,7 @@ module _ {B : Type 0} {files : B → Option Files} {leaves : B → Files → Typ
         by_bay = λ never. absurd (false≢true (sym whole ∙ ap is_broken never));
         none_over = λ _. refl;
         counted = λ _. was.counted;
+        weight_is = λ _. subst (λ (l : Listing). weight_of weighed l.events ≡ length l.events) listing_is (weigh_units tally.listing.events was.recounted.light) ∙ was.counted;
         tallied = λ _. was.recounted.behind (subst (λ (l : Listing). cone.last.n0 ≤ length l.events) (sym listing_is) enough);
         closed = λ _. was.closed ∙ sym (ap is_finished state_is ∙ ends_finished cone.last.closed);
         near = λ _. omega (arith, was.near, gate_is, ap (λ (j : Log). j.gate) journal_is);
@@ -191,16 +195,17 @@ module _ {B : Type 0} {files : B → Option Files} {leaves : B → Files → Typ
       (history : List Packet)
       → state ≡ cond last.closed Finished Running → gate_after ≡ gate → IsRecounted tally last.n0 → last.n0 ≤ length tally.listing.events → IsValid tally.listing.settings →
       events ≤ capacity tally.listing.settings
-      → All (λ packet. 0 < length packet.items) history → length (events_of history) ≡ events → IfTold (files bay) (leaves bay)
+      → All (λ packet. 0 < length packet.items) history → length (events_of history) ≡ events → weight_of weighed (events_of history) ≡ events → IfTold (files bay) (leaves bay)
       → (WereSoundAs files tally.listing.settings tally.listing.cone made
       → IfTold (files bay) (λ _. Replays files leaves (seen_as bay made tally events stopped gate log last) history history))
       → StandsFor files leaves faults (record (readied (seen_as bay made tally events stopped gate log last)) { state = state; gate = gate_after }) history
-  ready_stands bay made tally events gate gate_after log last stopped state history state_is gate_is recounted enough valid within some counted read replays =
+  ready_stands bay made tally events gate gate_after log last stopped state history state_is gate_is recounted enough valid within some counted weighs read replays =
       let whole : is_broken state ≡ false = ap is_broken state_is ∙ ends_whole last.closed in
       record {
         some = some;
         counted = counted;
         within = within;
+        weighed = λ _. weighs;
         valid = valid;
         whole = λ _ sound seen told.
             let all = replays sound seen told in

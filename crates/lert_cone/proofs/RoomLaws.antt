@@ -1,8 +1,9 @@
 -- Reports are few: each is of a key of its own, and each of these keys reaches the threshold.
 use Rattle.std.proofs.{Common.{◌≡◌, ◌≢◌, ℕ, ◌+◌, ◌*◌, ◌≤◌, suc, cond, eqb, not, List, [], ◌∷◌, length, filter, refl, ap, sym, ◌∙◌, arith, inl, inr, sum_by}, Math.Nat.{mul-suc, mul-le-mul_left}}
-use Rattle.std.proofs.{lemmas.Bool.{cases_lt, cases_eq, eq-eqb, ne_eqb}, lemmas.List.Elements.{All-head, All-tail}, lemmas.List.Sums.{sum_by-cons}}
+use Rattle.std.proofs.{lemmas.Bool.{cases_lt, cases_eq, eq-eqb, ne_eqb}, lemmas.List.Sums.{sum_by-cons}}
 use Rattle.lert_spec.specs.{declared.item.Item.Item, declared.numbers.Numbers.Numbers, declared.report.Report.Report, Counts.{weighed, weight_for, weight_in, weight_of}, Edges.capacity}
 use Rattle.lert_spec.specs.{Items.AreOfVersion, Limits.IsValid, Look.{look_of, closing_of}, Timely.{IsReportedOnTimeIn, times_listed}}
+use Rattle.lert_cone.proofs.WeighLaws.{weigh_units}
 use Rattle.lert_spec.proofs.{CountLaws.count-whole, TimeBound.{timely_closing, timely_so_far}}
 
 -- what a key weighs among items
@@ -70,16 +71,9 @@ under-others key other (event ∷ events) differs =
       )
     ]
 
--- what each weighs 1 weighs as many as they are
-pub weight_units : (events : List Item) → AreOfVersion 1 events → weight_of weighed events ≤ length events
-weight_units [] are = omega arith
-weight_units (event ∷ events) are =
-    let P : Item → Type 0 = λ item. (1 ≤ item.weight) × (item.weight ≤ 1) in
-    omega (arith, All-head P event events are, weight_units events (All-tail P event events are), sum_by-cons (λ (item : Item). item.weight) event events)
-
 -- what weighs 1 is within the capacity by its number
 pub few_weigh : (s : Numbers) (events : List Item) → length events ≤ capacity s → AreOfVersion 1 events → weight_of weighed events ≤ capacity s
-few_weigh s events fits light = omega (arith, fits, weight_units events light)
+few_weigh s events fits light = omega (arith, fits, weigh_units events light)
 
 listed_same : (key : ℕ) (report : Report) (reports : List Report) → report.key ≡ key → times_listed key (report ∷ reports) ≡ 1 + times_listed key reports
 listed_same key report reports same =

@@ -1,5 +1,5 @@
 -- Which lists a cone stands for: when it is made, through an append and the items behind it, and when it is finished.
-use Rattle.lert_spec.specs.Counts.{weighed}
+use Rattle.lert_spec.specs.Counts.{weighed, weight_of}
 use Rattle.lert_spec.specs.declared.item.Item.{Item}
 use Rattle.std.proofs.{Common.{◌≡◌, ℕ, ◌+◌, ◌*◌, ◌<◌, ◌≤◌, true, false, List, [], ◌++◌, length, Option, None, All, cond, refl, sym, ap, ◌∙◌, subst, arith, length-append}, lemmas.Bool.false≢true}
 use Rattle.std.proofs.lemmas.List.Elements.{All-nil}
@@ -15,23 +15,24 @@ use Rattle.lert_journal.proofs.PayloadLaws.{length_payload}
 use Rattle.lert_levels.specs.declared.rows.bin_at.BinAt.{BinAt}
 use Rattle.lert_levels.proofs.LaterLaws.{HoldsBins-none}
 use Rattle.lert_reports.specs.{Log.most_record, declared.log_point.LogPoint.LogPoint}
-use Rattle.lert_spec.specs.{declared.numbers.Numbers.Numbers, declared.report.Report.Report, Edges.capacity, Limits.IsValid, Look.{look_of, closing_of}}
+use Rattle.lert_spec.specs.{declared.numbers.Numbers.Numbers, declared.report.Report.Report, Edges.{capacity, weight_room}, Limits.IsValid, Look.{look_of, closing_of}}
 use Rattle.lert_cone.specs.{declared.state.ConeState.ConeState, declared.state.ConeState.TheVariants.{Running, Finished, BrokenByBay, BrokenByRead}, History.most_payload}
 use Rattle.lert_cone.specs.{InStep.{IsInStep, IsLogging, AreNew}, Listing.{Listing, reports_of}, JournalPlaces.places_at_start, Record.LogPlace, Room.room_of, Sound.{IsSound, IsSoundOver, IsKept}}
 use Rattle.lert_cone.specs.{Stands.{Standing, StandsFor, IsCone, IsSameCone, IsWhole, WasSound, is_broken, is_finished}, Tally.{Tallied, IsCounted}, Wrote.{Anything, IsShutIfTold}}
-use Rattle.lert_cone.proofs.{LogLaws.log_none, JournalPlaceLaws.{places_none, names_none}, AppendLaws.whole_of, FaultLaws.{turns_as, turns_on}}
+use Rattle.lert_cone.proofs.{LogLaws.log_none, JournalPlaceLaws.{places_none, names_none}, AppendLaws.whole_of, FaultLaws.{turns_as, turns_on}, WeighLaws.weigh_more}
 
 -- ---- a cone
 
 -- what it is seen as
-abbrev pub cone_at : {B : Type 0} → B → B → Tallied → ℕ → ConeState → Option Packet → ℕ → LogPlace → LogPoint → Standing B
-cone_at bay made tally events state over gate log last = record {
+abbrev pub cone_at : {B : Type 0} → B → B → Tallied → ℕ → ℕ → ConeState → Option Packet → ℕ → LogPlace → LogPoint → Standing B
+cone_at bay made tally events weight state over gate log last = record {
   bay = bay;
   made = made;
   listing = tally.listing;
   rows = tally.rows;
   reports = tally.due.reports;
   events = events;
+  weight = weight;
   state = state;
   over = over;
   gate = gate;
@@ -92,11 +93,12 @@ module _ {B : Type 0} (files : B → Option Files) (leaves : B → Files → Typ
   } → gate ≡ 32
       → log ≡ record { gate = 8; most = most_record s; named = 0; places = places_at_start s } → tally.rows ≡ replicate s.levels [] → tally.due.reports ≡ [] → IsCounted tally
       → IfTold (files bay) (λ seen. AreNew s cone (leaves bay) seen) → IfTold (files bay) (leaves bay)
-      → StandsFor files leaves faults (cone_at bay made tally 0 Running None gate log last) []
+      → StandsFor files leaves faults (cone_at bay made tally 0 0 Running None gate log last) []
   new_stands bay made s cone tally gate log last valid is gate_is log_is rows_are none counted new as_read = record {
     some = All-nil (λ packet. 0 < length packet.items);
     counted = refl;
     within = omega arith;
+    weighed = λ _. refl;
     valid = subst (λ (l : Listing). IsValid l.settings) (sym is) valid;
     whole = λ _ _. new_whole bay s cone tally gate log is gate_is log_is rows_are none counted new as_read;
     broken = λ never. absurd (false≢true never);
@@ -123,13 +125,14 @@ module _ {B : Type 0} (files : B → Option Files) (leaves : B → Files → Typ
       → IsCounted tally → journal ≡ record { file = 0; gate = 32; most = most_payload s } → log ≡ record { gate = 8; most = most_record s; named = 0; places = places_at_start s } → room ≡ room_of s →
       keys_room ≡ 4 * s.packet → made ≡ bay
       → IfTold (files bay) (λ seen. AreNew s cone (leaves bay) seen)
-      → IsCone files leaves faults mark (cone_at bay made tally 0 Running None journal.gate log last) tally journal room keys_room
+      → IsCone files leaves faults mark (cone_at bay made tally 0 0 Running None journal.gate log last) tally journal room keys_room
   new_cone mark bay made s cone tally journal log last room keys_room valid is counted journal_is log_is room_is keys_room_is made_is new = record {
     file = ap (λ (j : Log). j.file) journal_is;
     most = ap (λ (j : Log). j.most) journal_is ∙ ap (λ (l : Listing). most_payload l.settings) (sym is);
     roomy = room_is ∙ ap (λ (l : Listing). room_of l.settings) (sym is);
     keys_roomy = keys_room_is ∙ ap (λ (l : Listing). 4 * l.settings.packet) (sym is);
     within = omega arith;
+    light = omega arith;
     valid = subst (λ (l : Listing). IsValid l.settings) (sym is) valid;
     never_falls = omega (arith, ap faults made_is);
     marked = ap mark (sym made_is);
@@ -137,6 +140,7 @@ module _ {B : Type 0} (files : B → Option Files) (leaves : B → Files → Typ
     by_bay = λ never. absurd (false≢true (ap is_broken never));
     none_over = λ _. refl;
     counted = λ _. ap (λ (l : Listing). length l.events) is;
+    weight_is = λ _. ap (λ (l : Listing). weight_of weighed l.events) is;
     tallied = λ _. counted;
     closed = λ _. ap (λ (l : Listing). l.closed) is;
     near = λ _. omega (arith, ap (λ (j : Log). j.gate) journal_is);
@@ -168,13 +172,15 @@ module _ {B : Type 0} {files : B → Option Files} {leaves : B → Files → Typ
   -- one in another state that isn't broken, or with a packet more
   pub stands_whole : {old new : Standing B} {history more : List Packet} → IsSameCone old new → is_broken new.state ≡ false → new.over ≡ None
       → All (λ packet. 0 < length packet.items) more → length (events_of more) ≡ new.events → new.events ≤ capacity old.listing.settings
+      → weight_of weighed (events_of more) ≡ new.weight
       → (WasSound files old → IfTold (files new.bay) (λ seen. IsWhole (leaves new.bay) seen new.listing new.rows new.reports new.gate new.log more)) →
       StandsFor files leaves faults old history
       → StandsFor files leaves faults new more
-  stands_whole {new = new} same still none_over some counted within whole stands = record {
+  stands_whole {new = new} same still none_over some counted within weighs whole stands = record {
     some = some;
     counted = counted;
     within = subst (λ (s : Numbers). new.events ≤ capacity s) (sym same.settings) within;
+    weighed = λ _. weighs;
     valid = subst IsValid (sym same.settings) stands.valid;
     whole = λ _ sound. whole (was_before files same sound);
     broken = λ never. absurd (false≢true (sym still ∙ never));
@@ -193,6 +199,7 @@ module _ {B : Type 0} {files : B → Option Files} {leaves : B → Files → Typ
     some = stands.some;
     counted = stands.counted ∙ sym events_are;
     within = subst (λ (s : Numbers). new.events ≤ capacity s) (sym same.settings) (omega (arith, events_are, stands.within));
+    weighed = λ never. absurd (false≢true (sym never ∙ broken));
     valid = subst IsValid (sym same.settings) stands.valid;
     whole = λ never. absurd (false≢true (sym never ∙ broken));
     broken = λ _ sound. kept (was_before files same sound);
@@ -202,50 +209,55 @@ module _ {B : Type 0} {files : B → Option Files} {leaves : B → Files → Typ
   }
 
   -- a packet more, and its items
-  pub more_cone : {mark : B → ℕ} {bay made last : B} {tally after : Tallied} {events events_after room room_after keys_room : ℕ} {state : ConeState} {over : Option Packet}
+  pub more_cone : {mark : B → ℕ} {bay made last : B} {tally after : Tallied} {events events_after weight weight_after room room_after keys_room : ℕ} {state : ConeState} {over : Option Packet}
       {journal journal_after : Log} {log log_after : LogPlace} {point : LogPoint} (packet : Packet)
       → state ≡ Running → after.listing ≡ record tally.listing { events = tally.listing.events ++ packet.items } → IsCounted after → events_after ≡ events + length packet.items
       → journal_after ≡ record journal { gate = next_gate journal.gate (payload_of written packet) } → room_after ≡ room → 0 < length packet.items →
-      events + length packet.items ≤ capacity tally.listing.settings
+      events + length packet.items ≤ capacity tally.listing.settings → weight_after ≡ weight + weight_of weighed packet.items → weight_after ≤ weight_room tally.listing.settings
       → faults bay ≤ faults last → Turns Anything (files bay) (files last) → mark last ≡ mark bay → IsShutIfTold (files last) (leaves last) 0 journal_after.gate
       → IsLogging after log_after room_after →
       IsShutIfTold (files last) (leaves last) 1 log_after.gate
-      → IsCone files leaves faults mark (cone_at bay made tally events state over journal.gate log point) tally journal room keys_room
-      → IsCone files leaves faults mark (cone_at last made after events_after state over journal_after.gate log_after point) after journal_after room_after keys_room
-  more_cone {tally = tally} {events_after = events_after} packet running is counted events_is journal_is room_is some fits falls turns marked shut logging log_shut cone = record {
-    file = ap (λ (j : Log). j.file) journal_is ∙ cone.file;
-    most = ap (λ (j : Log). j.most) journal_is ∙ cone.most ∙ ap (λ (l : Listing). most_payload l.settings) (sym is);
-    roomy = room_is ∙ (cone.roomy ∙ ap (λ (l : Listing). room_of l.settings) (sym is));
-    keys_roomy = cone.keys_roomy ∙ ap (λ (l : Listing). 4 * l.settings.packet) (sym is);
-    within = subst (λ (l : Listing). events_after ≤ capacity l.settings) (sym is) (omega (arith, events_is, fits));
-    valid = subst (λ (l : Listing). IsValid l.settings) (sym is) cone.valid;
-    never_falls = omega (arith, cone.never_falls, falls);
-    marked = marked ∙ cone.marked;
-    tells = turns_on cone.tells turns;
-    by_bay = λ never. absurd (false≢true (sym (ap is_broken running) ∙ ap is_broken never));
-    none_over = cone.none_over;
-    counted = λ still. omega (arith, ap (λ (l : Listing). length l.events) is, length-append tally.listing.events packet.items, cone.counted still, events_is);
-    tallied = λ _. counted;
-    closed = λ still. ap (λ (l : Listing). l.closed) is ∙ cone.closed still;
-    near = λ still. omega (arith, cone.near still, ap (λ (j : Log). j.gate) journal_is, length_payload written packet, length-keys_in packet.items, events_is, some);
-    shut = λ _. shut;
-    logging = λ _. logging;
-    log_shut = λ _. log_shut;
-  }
+      → IsCone files leaves faults mark (cone_at bay made tally events weight state over journal.gate log point) tally journal room keys_room
+      → IsCone files leaves faults mark (cone_at last made after events_after weight_after state over journal_after.gate log_after point) after journal_after room_after keys_room
+  more_cone {tally = tally} {events_after = events_after} {weight_after = weight_after} packet running is counted events_is journal_is room_is some fits weight_is light falls
+      turns marked shut logging log_shut cone = record {
+        file = ap (λ (j : Log). j.file) journal_is ∙ cone.file;
+        most = ap (λ (j : Log). j.most) journal_is ∙ cone.most ∙ ap (λ (l : Listing). most_payload l.settings) (sym is);
+        roomy = room_is ∙ (cone.roomy ∙ ap (λ (l : Listing). room_of l.settings) (sym is));
+        keys_roomy = cone.keys_roomy ∙ ap (λ (l : Listing). 4 * l.settings.packet) (sym is);
+        within = subst (λ (l : Listing). events_after ≤ capacity l.settings) (sym is) (omega (arith, events_is, fits));
+        light = subst (λ (l : Listing). weight_after ≤ weight_room l.settings) (sym is) light;
+        valid = subst (λ (l : Listing). IsValid l.settings) (sym is) cone.valid;
+        never_falls = omega (arith, cone.never_falls, falls);
+        marked = marked ∙ cone.marked;
+        tells = turns_on cone.tells turns;
+        by_bay = λ never. absurd (false≢true (sym (ap is_broken running) ∙ ap is_broken never));
+        none_over = cone.none_over;
+        counted = λ still. omega (arith, ap (λ (l : Listing). length l.events) is, length-append tally.listing.events packet.items, cone.counted still, events_is);
+        weight_is = λ still. ap (λ (l : Listing). weight_of weighed l.events) is ∙ weigh_more tally.listing.events packet.items
+            ∙ ap (λ w. w + weight_of weighed packet.items) (cone.weight_is still) ∙ sym weight_is;
+        tallied = λ _. counted;
+        closed = λ still. ap (λ (l : Listing). l.closed) is ∙ cone.closed still;
+        near = λ still. omega (arith, cone.near still, ap (λ (j : Log). j.gate) journal_is, length_payload written packet, length-keys_in packet.items, events_is, some);
+        shut = λ _. shut;
+        logging = λ _. logging;
+        log_shut = λ _. log_shut;
+      }
 
   -- the end
-  pub ended_cone : {mark : B → ℕ} {bay made last : B} {tally after : Tallied} {events room room_after keys_room : ℕ} {state ended : ConeState} {over : Option Packet} {journal : Log}
+  pub ended_cone : {mark : B → ℕ} {bay made last : B} {tally after : Tallied} {events weight room room_after keys_room : ℕ} {state ended : ConeState} {over : Option Packet} {journal : Log}
       {log log_after : LogPlace} {point : LogPoint}
       → state ≡ Running → ended ≡ Finished → after.listing ≡ record tally.listing { closed = true } → IsCounted after → room_after ≡ room → faults bay ≤ faults last
       → Turns Anything (files bay) (files last) → mark last ≡ mark bay
-      → IsCone files leaves faults mark (cone_at bay made tally events state over journal.gate log point) tally journal room keys_room
-      → IsCone files leaves faults mark (cone_at last made after events ended over journal.gate log_after point) after journal room_after keys_room
-  ended_cone {events = events} running finished is counted room_is falls turns marked cone = record {
+      → IsCone files leaves faults mark (cone_at bay made tally events weight state over journal.gate log point) tally journal room keys_room
+      → IsCone files leaves faults mark (cone_at last made after events weight ended over journal.gate log_after point) after journal room_after keys_room
+  ended_cone {events = events} {weight = weight} running finished is counted room_is falls turns marked cone = record {
     file = cone.file;
     most = cone.most ∙ ap (λ (l : Listing). most_payload l.settings) (sym is);
     roomy = room_is ∙ cone.roomy ∙ ap (λ (l : Listing). room_of l.settings) (sym is);
     keys_roomy = cone.keys_roomy ∙ ap (λ (l : Listing). 4 * l.settings.packet) (sym is);
     within = subst (λ (l : Listing). events ≤ capacity l.settings) (sym is) cone.within;
+    light = subst (λ (l : Listing). weight ≤ weight_room l.settings) (sym is) cone.light;
     valid = subst (λ (l : Listing). IsValid l.settings) (sym is) cone.valid;
     never_falls = omega (arith, cone.never_falls, falls);
     marked = marked ∙ cone.marked;
@@ -253,6 +265,7 @@ module _ {B : Type 0} {files : B → Option Files} {leaves : B → Files → Typ
     by_bay = λ never. absurd (false≢true (sym (ap is_broken finished) ∙ ap is_broken never));
     none_over = λ _. cone.none_over (ap is_broken running);
     counted = λ _. ap (λ (l : Listing). length l.events) is ∙ cone.counted (ap is_broken running);
+    weight_is = λ _. ap (λ (l : Listing). weight_of weighed l.events) is ∙ cone.weight_is (ap is_broken running);
     tallied = λ _. counted;
     closed = λ _. ap (λ (l : Listing). l.closed) is ∙ sym (ap is_finished finished);
     near = λ _. cone.near (ap is_broken running);
@@ -264,19 +277,20 @@ module _ {B : Type 0} {files : B → Option Files} {leaves : B → Files → Typ
   -- one that broke off
   pub broken_cone : {mark : B → ℕ} {old new : Standing B} {tally after : Tallied} {journal journal_after : Log} {room room_after keys_room keys_room_after : ℕ}
       → is_broken new.state ≡ true →
-      new.listing.settings ≡ old.listing.settings → new.events ≡ old.events → new.made ≡ old.made
+      new.listing.settings ≡ old.listing.settings → new.events ≡ old.events → new.weight ≡ old.weight → new.made ≡ old.made
       → journal_after.file ≡ journal.file → journal_after.most ≡ journal.most → room_after ≡ room → keys_room_after ≡ keys_room → faults old.bay ≤ faults new.bay
       → Turns Anything (files old.bay) (files new.bay) → mark new.bay ≡ mark old.bay →
       (new.state ≡ BrokenByBay →
       HasRisen (faults new.made) (faults new.bay))
       → IsCone files leaves faults mark old tally journal room keys_room → IsCone files leaves faults mark new after journal_after room_after keys_room_after
-  broken_cone {mark = mark} {old = old} {new = new} broken same events_are made_is file_is most_is room_is keys_room_is falls turns marked by_bay cone =
+  broken_cone {mark = mark} {old = old} {new = new} broken same events_are weight_are made_is file_is most_is room_is keys_room_is falls turns marked by_bay cone =
       record {
         file = file_is ∙ cone.file;
         most = most_is ∙ cone.most ∙ ap most_payload (sym same);
         roomy = room_is ∙ cone.roomy ∙ ap room_of (sym same);
         keys_roomy = keys_room_is ∙ cone.keys_roomy ∙ ap (λ (s : Numbers). 4 * s.packet) (sym same);
         within = subst (λ (s : Numbers). new.events ≤ capacity s) (sym same) (omega (arith, events_are, cone.within));
+        light = subst (λ (s : Numbers). new.weight ≤ weight_room s) (sym same) (omega (arith, weight_are, cone.light));
         valid = subst IsValid (sym same) cone.valid;
         never_falls = omega (arith, ap faults made_is, cone.never_falls, falls);
         marked = marked ∙ cone.marked ∙ ap mark (sym made_is);
@@ -284,6 +298,7 @@ module _ {B : Type 0} {files : B → Option Files} {leaves : B → Files → Typ
         by_bay = by_bay;
         none_over = λ still. absurd (false≢true (sym still ∙ broken));
         counted = λ still. absurd (false≢true (sym still ∙ broken));
+        weight_is = λ still. absurd (false≢true (sym still ∙ broken));
         tallied = λ still. absurd (false≢true (sym still ∙ broken));
         closed = λ still. absurd (false≢true (sym still ∙ broken));
         near = λ still. absurd (false≢true (sym still ∙ broken));

@@ -1,7 +1,7 @@
 -- What a test of a cone's state answers: whether the cone is finished, and whether it is broken.
-use Rattle.std.proofs.{Common.{◌≡◌, ◌∙◌, ℕ, true, false, Ok, Err, IsErrOf, ap, sym, refl}, lemmas.Bool.false≢true}
+use Rattle.std.proofs.{Common.{◌≡◌, ◌∙◌, true, false, Ok, Err, IsErrOf, ap, sym, refl}, lemmas.Bool.false≢true}
 use Rattle.std.specs.Prelude.{◌↔◌}
-use Rattle.lert_base.specs.{declared.cone_fault.ConeFault.ConeFault, declared.cone_fault.ConeFault.TheVariants.{Broken, CapacityFull, Closed}}
+use Rattle.lert_base.specs.{declared.cone_fault.ConeFault.ConeFault, declared.cone_fault.ConeFault.TheVariants.{Broken, Closed}}
 use Rattle.lert_cone.specs.{declared.state.ConeState.ConeState, declared.state.ConeState.TheVariants.{Finished, Running}, Stands.{is_broken, is_finished, is_refusal}}
 use Rattle.lert_cone.proofs.Refusals.{no_fault, one_fault}
 
@@ -25,9 +25,6 @@ ended_closed state is = ((λ _. is), (λ _. refl))
 pub ended_broken : (state : ConeState) → state ≡ Finished → ◌↔◌ (Answer Closed Broken) (is_broken state ≡ true)
 ended_broken state is = ((λ same. absurd (closed_not_broken same)), (λ broken. absurd (false≢true (sym (ap is_broken is) ∙ broken))))
 
-pub ended_full : (n len : ℕ) → Answer Closed (CapacityFull n len) → ⊥
-ended_full n len same = (let never : ⊥ = cc in never)
-
 -- one that is broken, or replays
 broken_not_closed : Answer Broken Closed → ⊥
 broken_not_closed same = (let never : ⊥ = cc in never)
@@ -37,9 +34,6 @@ broken_closed state broken = ((λ same. absurd (broken_not_closed same)), (λ en
 
 pub broken_broken : (state : ConeState) → is_broken state ≡ true → ◌↔◌ (Answer Broken Broken) (is_broken state ≡ true)
 broken_broken state broken = ((λ _. broken), (λ _. refl))
-
-pub broken_full : (n len : ℕ) → Answer Broken (CapacityFull n len) → ⊥
-broken_full n len same = (let never : ⊥ = cc in never)
 
 -- one that took packets, and breaks in the middle of a call
 refused_not : {T : Type 0} (x y : ConeFault) → is_refusal x ≡ false → is_refusal y ≡ true → IsErrOf {T = T} {E = ConeFault} (Err x) y → ⊥

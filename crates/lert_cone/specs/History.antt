@@ -7,6 +7,10 @@ use Rattle.lert_spec.specs.declared.numbers.Numbers.{Numbers}
 abbrev pub written : ℕ
 written = 1
 
+-- the version of the packets that are handed in: an item weighs 1 to 255, also where the cone's files are of an older version
+abbrev pub most_version : ℕ
+most_version = 2
+
 -- the greatest payload of a journal: four times as many items as a packet of the settings has
 abbrev pub most_payload : Numbers → ℕ
 most_payload s = 8 + 32 * s.packet

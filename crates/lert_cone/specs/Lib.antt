@@ -11,6 +11,7 @@ pub mod Logged
 pub mod JournalPlaces
 pub mod Reads
 pub mod Record
+pub mod Refuses
 pub mod Replay
 pub mod Replaying
 pub mod Replays

@@ -23,7 +23,8 @@ pub record Replaying (B : Type 0) : Type 0 where
   pub log : LogPlace
   pub last : LogPoint
 
--- the cone that it is once its packets are all taken: finished where the log's last record is a closing one
+-- the cone that it is once its packets are all taken: finished where the log's last record is a closing one. Each item weighs 1 in
+-- files of its version
 abbrev pub readied : {B : Type 0} → Replaying B → Standing B
 readied cone = record {
   bay = cone.bay;
@@ -32,6 +33,7 @@ readied cone = record {
   rows = cone.rows;
   reports = cone.reports;
   events = cone.events;
+  weight = cone.events;
   state = if cone.last.closed then Finished else Running;
   over = None;
   gate = cone.gate;

@@ -1,16 +1,16 @@
 -- What a cone is seen as, and which lists of packets it stands for.
-use Rattle.lert_spec.specs.Counts.{weighed}
+use Rattle.lert_spec.specs.Counts.{weighed, weight_of}
 use Rattle.std.specs.{Prelude.{◌≡◌, ℕ, ◌+◌, ◌*◌, ◌^◌, ◌<◌, ◌≤◌, Bool, true, false, List, [], ◌∷◌, ◌++◌, length, All, Option, None, option_map}, declared.snapshot.Snapshot.Snapshot}
 use Rattle.lert_base.specs.{declared.entry.Entry.Entry, Entries.packet_of, Packet.{Packet, events_of}, declared.cone_fault.ConeFault.ConeFault}
-use Rattle.lert_base.specs.declared.cone_fault.ConeFault.TheVariants.{Closed, Broken, CapacityFull, BayFailed, Unsound}
+use Rattle.lert_base.specs.declared.cone_fault.ConeFault.TheVariants.{Closed, Broken, CapacityFull, WeightFull, OldJournal, BayFailed, Unsound}
 use Rattle.lert_bay.specs.{Files.{Files, IfTold, Turns}, declared.bay.TheConstants.{JOURNAL, LOG}}
 use Rattle.lert_gatelog.specs.Gated.{Log}
 use Rattle.lert_io.specs.Fault.{HasRisen}
 use Rattle.lert_levels.specs.declared.rows.bin_at.BinAt.{BinAt}
-use Rattle.lert_spec.specs.{declared.numbers.Numbers.Numbers, declared.report.Report.Report, Edges.capacity, Limits.IsValid, Look.look_of}
+use Rattle.lert_spec.specs.{declared.numbers.Numbers.Numbers, declared.report.Report.Report, Edges.{capacity, weight_room}, Limits.IsValid, Look.look_of}
 use Rattle.lert_cone.specs.{declared.state.ConeState.ConeState, declared.state.ConeState.TheVariants.{Running, Finished, BrokenByBay, BrokenByRead}, declared.acked.Acked.Acked}
-use Rattle.lert_cone.specs.{History.{most_payload, end_of}, InStep.{IsInStep, IsLogging}, Listing.Listing, Record.LogPlace, Room.room_of, Sound.{IsSound, IsSoundAs, IsSoundOver, IsKept, IsKeptWhole}}
-use Rattle.lert_cone.specs.{Tally.{Tallied, IsCounted}, Wrote.{Anything, IsShutIfTold}, declared.tally.TakeFault.TakeFault}
+use Rattle.lert_cone.specs.{History.{most_payload, end_of, written}, InStep.{IsInStep, IsLogging}, Listing.Listing, Record.LogPlace, Room.room_of}
+use Rattle.lert_cone.specs.{Sound.{IsSound, IsSoundAs, IsSoundOver, IsKept, IsKeptWhole}, Tally.{Tallied, IsCounted}, Wrote.{Anything, IsShutIfTold}, declared.tally.TakeFault.TakeFault}
 use Rattle.lert_cone.specs.declared.tally.TakeFault.TheVariants.{Failed as TakeFailed, Unsound as TakeUnsound}
 use Rattle.lert_reports.specs.declared.log_point.LogPoint.{LogPoint}
 
@@ -32,6 +32,8 @@ abbrev pub is_refusal : ConeFault → Bool
 is_refusal Closed = true
 is_refusal Broken = true
 is_refusal (CapacityFull n len) = true
+is_refusal (WeightFull weight more) = true
+is_refusal (OldJournal place) = true
 is_refusal BayFailed = false
 is_refusal (Unsound file at) = false
 
@@ -49,7 +51,7 @@ abbrev pub over_of : Option (Snapshot Entry) → Option Packet
 over_of over = option_map (λ kept. packet_of kept.value) over
 
 -- a cone: its bay now and as it was when the cone was made, its items, the rows of its levels, its reports, how many items it
--- acknowledged, its state, the packet that a broken call left over, the journal's gate, its log, and what the log's last
+-- acknowledged and what these weigh, its state, the packet that a broken call left over, the journal's gate, its log, and what the log's last
 -- record said when the cone was made
 pub record Standing (B : Type 0) : Type 0 where
   pub bay : B
@@ -58,6 +60,7 @@ pub record Standing (B : Type 0) : Type 0 where
   pub rows : List (List BinAt)
   pub reports : List Report
   pub events : ℕ
+  pub weight : ℕ
   pub state : ConeState
   pub over : Option Packet
   pub gate : ℕ
@@ -71,11 +74,17 @@ pub record IsSameCone {B : Type 0} (old new : Standing B) : Type 0 where
   pub made : new.made ≡ old.made
   pub last : new.last ≡ old.last
 
--- What a cone shows of itself under a lock, and no packet changes: its settings, its number, its bay as it was when the cone was
--- made, off which it is read whether that told its files, whether the cone is finished, and that bay's count of faults and its mark
+-- the version of its files
+abbrev pub version_of : {B : Type 0} → Standing B → ℕ
+version_of cone = written
+
+-- What a cone shows of itself under a lock, and no packet changes: its settings, its number, the version of its files, its bay as it
+-- was when the cone was made, off which it is read whether that told its files, whether the cone is finished, and that bay's count of
+-- faults and its mark
 pub record Terms (B : Type 0) : Type 0 where
   pub settings : Numbers
   pub cone : ℕ
+  pub version : ℕ
   pub made : B
   pub finished : Bool
   pub faults : ℕ
@@ -85,6 +94,7 @@ abbrev pub terms_of : {B : Type 0} → (B → ℕ) → (B → ℕ) → Standing 
 terms_of faults mark cone = record {
   settings = cone.listing.settings;
   cone = cone.listing.cone;
+  version = version_of cone;
   made = cone.made;
   finished = is_finished cone.state;
   faults = faults cone.made;
@@ -115,7 +125,7 @@ pub record IsWhole (leaves : Files → Type 0) (seen : Files) (listing : Listing
     pub in_step : IsInStep leaves seen history listing rows reports log
 
 -- A cone stands for a list of packets. Each has an item, and together they have as many as the cone acknowledged, which are
--- no more than it takes. Where its bay tells its files, they are sound for the list; of a broken cone for
+-- no more than it takes, and weigh as much; of a broken cone's weight nothing is said. Where its bay tells its files, they are sound for the list; of a broken cone for
 -- the list or for the list and the packet that was left over. It is broken by its bay only where the bay's count of faults
 -- rose since the cone was made, and by a read only where the bay doesn't tell its files. Where the bay told files that were
 -- sound for no list when the cone was made, nothing is said of them, as of files that aren't told.
@@ -123,6 +133,7 @@ pub record StandsFor {B : Type 0} (files : B → Option Files) (leaves : B → F
   pub some : All (λ packet. 0 < length packet.items) history
   pub counted : length (events_of history) ≡ cone.events
   pub within : cone.events ≤ capacity cone.listing.settings
+  pub weighed : is_broken cone.state ≡ false → weight_of weighed (events_of history) ≡ cone.weight
   pub valid : IsValid cone.listing.settings
   pub whole : is_broken cone.state ≡ false → WasSound files cone → IfTold (files cone.bay)
       (λ seen. IsWhole (leaves cone.bay) seen cone.listing cone.rows cone.reports cone.gate cone.log history)
@@ -134,7 +145,7 @@ pub record StandsFor {B : Type 0} (files : B → Option Files) (leaves : B → F
 
 -- what is so of every cone, of its journal's place and of the rooms of its buffer and of its list of keys. Its bay is the one
 -- that it was made with, which tells its files exactly where it did then. A cone that isn't broken has nothing left over, its
--- counts are those of its items, and an item takes at most 21 bytes of its journal. The gates of a running one are closed in
+-- counts are those of its items, and an item takes at most 21 bytes of its journal. It weighs no more than it may. The gates of a running one are closed in
 -- every image, and the journal and the log are settled
 pub record IsCone {B : Type 0} (files : B → Option Files) (leaves : B → Files → Type 0) (faults mark : B → ℕ) (cone : Standing B) (tally : Tallied) (journal : Log) (room keys_room : ℕ)
     : Type 0 where
@@ -143,6 +154,7 @@ pub record IsCone {B : Type 0} (files : B → Option Files) (leaves : B → File
   pub roomy : room ≡ room_of cone.listing.settings
   pub keys_roomy : keys_room ≡ 4 * cone.listing.settings.packet
   pub within : cone.events ≤ capacity cone.listing.settings
+  pub light : cone.weight ≤ weight_room cone.listing.settings
   pub valid : IsValid cone.listing.settings
   pub never_falls : faults cone.made ≤ faults cone.bay
   pub marked : mark cone.bay ≡ mark cone.made
@@ -150,6 +162,7 @@ pub record IsCone {B : Type 0} (files : B → Option Files) (leaves : B → File
   pub by_bay : cone.state ≡ BrokenByBay → HasRisen (faults cone.made) (faults cone.bay)
   pub none_over : is_broken cone.state ≡ false → cone.over ≡ None
   pub counted : is_broken cone.state ≡ false → length cone.listing.events ≡ cone.events
+  pub weight_is : is_broken cone.state ≡ false → weight_of weighed cone.listing.events ≡ cone.weight
   pub tallied : is_broken cone.state ≡ false → IsCounted tally
   pub closed : is_broken cone.state ≡ false → cone.listing.closed ≡ is_finished cone.state
   pub near : is_broken cone.state ≡ false → cone.gate ≤ 2 ^ 62 + 21 * cone.events

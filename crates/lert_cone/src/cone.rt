@@ -1,9 +1,9 @@
 //! A cone over its files.
 
 ghost use Rattle.std.specs.Prelude.{◌≡◌, ℕ, ◌+◌, ◌<◌, ◌≤◌, ◌^◌, ◌↔◌, ◌++◌, [], ◌∷◌, true, false, List, length, replicate, Some, None, Err, IfOk, IfErr, MatchResult, OnOk, OnErr, IsErrOf};
-ghost use Rattle.lert_spec.specs.Counts.{weighed};
+ghost use Rattle.lert_spec.specs.Counts.{weighed, weight_of};
 ghost use Rattle.lert_spec.specs.Items.{keys_in};
-ghost use Rattle.lert_cone.specs.History.{written};
+ghost use Rattle.lert_cone.specs.History.{most_version, written};
 ghost use Rattle.lert_base.specs.Entries.{packet_of};
 ghost use Rattle.lert_base.specs.Packet.{Packet, events_of};
 ghost use Rattle.lert_bay.specs.Files.{Files, IfTold, Turns};
@@ -14,14 +14,15 @@ ghost use Rattle.lert_gatelog.specs.Gated.{next_gate};
 ghost use Rattle.lert_reports.specs.Log.{most_record};
 ghost use Rattle.lert_io.specs.Fault.{HasRisen};
 ghost use Rattle.lert_journal.specs.Payload.{IsJournaled, payload_of};
-ghost use Rattle.lert_spec.specs.Edges.{capacity};
+ghost use Rattle.lert_spec.specs.Edges.{capacity, weight_room};
 ghost use Rattle.lert_spec.specs.Timely.{IsTimelySoFarIn};
 ghost use Rattle.lert_cone.specs.History.{most_payload};
 ghost use Rattle.lert_cone.specs.InStep.{AreNew};
 ghost use Rattle.lert_cone.specs.JournalPlaces.{places_at_start};
 ghost use Rattle.lert_cone.specs.Room.{IsRoom};
 ghost use Rattle.lert_cone.specs.Sound.{AreEmpty, FramesStay, IsSoundOver};
-ghost use Rattle.lert_cone.specs.Stands.{StandsFor, WasSound, Answers, is_broken, is_finished, is_refusal, broken_by};
+ghost use Rattle.lert_cone.specs.Stands.{StandsFor, WasSound, Answers, is_broken, is_finished, is_refusal, broken_by, version_of};
+ghost use Rattle.lert_cone.specs.Refuses.{first_weighed};
 ghost use Rattle.lert_cone.specs.Steps.{StepsCone};
 ghost use Rattle.lert_cone.specs.Wrote.{Anything};
 
@@ -42,6 +43,7 @@ use std::snapshot::Snapshot;
 
 mod end;
 mod held;
+mod refusing;
 mod replaying;
 mod terms;
 
@@ -63,6 +65,7 @@ pub struct Cone<B: Bay, T: CountTable> {
     entry: Entry,
     buffer: Vec<u8>,
     events: u64,
+    weight: u64,
     state: ConeState,
     over: Option<Snapshot<Entry>>,
 }
@@ -80,6 +83,7 @@ impl<B: Bay, T: CountTable> Model for Cone<B, T> {
       rows = c.tally.rows;
       reports = c.tally.due.reports;
       events = c.events;
+      weight = c.weight;
       state = c.state;
       over = over_of c.over;
       gate = c.journal.gate;
@@ -94,6 +98,7 @@ impl<B: Bay, T: CountTable> Model for Cone<B, T> {
       rows = c.tally.rows;
       reports = c.tally.due.reports;
       events = c.events;
+      weight = c.weight;
       state = c.state;
       over = over_of c.over;
       gate = c.journal.gate;
@@ -120,6 +125,7 @@ impl<B: Bay, T: CountTable> Cone<B, T> {
           rows = replicate room.settings.levels [];
           reports = [];
           events = 0;
+          weight = 0;
           state = ConeState.Running;
           over = None;
           gate = 32;
@@ -153,6 +159,7 @@ impl<B: Bay, T: CountTable> Cone<B, T> {
                     entry,
                     buffer,
                     events: 0,
+                    weight: 0,
                     state: ConeState::Running,
                     over: None,
                 })
@@ -161,12 +168,14 @@ impl<B: Bay, T: CountTable> Cone<B, T> {
         }
     }
 
-    /// Takes the packet of an entry: appends it to the journal, and then takes its items, one after another. At a flush position
+    /// Takes the packet of an entry, whose items weigh 1 to 255 each: appends it to the journal, and then takes its items, one after another. At a flush position
     /// the log gets a record. Ok comes when the packet is on the disk and its items are counted. No clause tells in which order
     /// journal and memory take a packet without a flush, since memory is lost with the machine. What it says of its refusals, of
-    /// a fault in the middle and of the bay is what each call says that steps a cone on: `StepsCone`.
+    /// a fault in the middle and of the bay is what each call says that steps a cone on: `StepsCone`. It refuses before its first
+    /// step, tested in this order: `Closed` or `Broken`, `CapacityFull`, `WeightFull`, and `OldJournal`, where its files are of
+    /// version 1 and an item weighs another amount than 1.
     pub fn admit(&mut self, entry: &Entry) -> Result<Acked, ConeFault>
-        requires fits { IsJournaled written self.old.listing.settings self.old.listing.cone (packet_of entry.now) }
+        requires fits { IsJournaled most_version self.old.listing.settings self.old.listing.cone (packet_of entry.now) }
 
         // Ok makes the list into the list and the packet.
         ensures stands_for { OnOk result ((h : List Packet) → StandsFor B.files B.leaves B.faults self.old h →
@@ -184,6 +193,7 @@ impl<B: Bay, T: CountTable> Cone<B, T> {
           rows = self.new.rows;
           reports = self.new.reports;
           events = self.old.events + length entry.now.keys.items;
+          weight = self.old.weight + weight_of weighed entry.now.keys.items;
           gate = next_gate self.old.gate (payload_of written (packet_of entry.now));
           log = self.new.log;
         }) }
@@ -211,15 +221,27 @@ impl<B: Bay, T: CountTable> Cone<B, T> {
             ((self.old.state ≡ ConeState.Running) × (n ≡ self.old.events) × (len ≡ length entry.now.keys.items)
             × (capacity self.old.listing.settings < n + len)) }
 
+        // WeightFull comes exactly where a running cone has a place for them, and doesn't take so much weight.
+        ensures weight_full { (weight more : ℕ) → (result ≡ Err (ConeFault.WeightFull weight more)) ↔
+            ((self.old.state ≡ ConeState.Running) × (weight ≡ self.old.weight) × (more ≡ weight_of weighed entry.now.keys.items)
+            × (self.old.events + length entry.now.keys.items ≤ capacity self.old.listing.settings)
+            × (weight_room self.old.listing.settings < weight + more)) }
+
+        // OldJournal comes exactly where it takes so much, and its files can't say what an item weighs: it names the first such one.
+        ensures old_journal { (place : ℕ) → (result ≡ Err (ConeFault.OldJournal place)) ↔
+            ((self.old.state ≡ ConeState.Running)
+            × (self.old.events + length entry.now.keys.items ≤ capacity self.old.listing.settings)
+            × (self.old.weight + weight_of weighed entry.now.keys.items ≤ weight_room self.old.listing.settings)
+            × (version_of self.old ≡ 1) × (first_weighed entry.now.keys.items ≡ Some place)) }
+
         // In each image of each moment of the call the files are sound for the list, or for the list and the packet.
         ensures each_moment { is_broken self.old.state ≡ false → WasSound B.files self.old → IfTold (B.files self.old.bay) (λ _. (h : List Packet) →
             StandsFor B.files B.leaves B.faults self.old h → (image : Files) →
             B.left_since self.new.bay (B.moment self.old.bay) image →
             IsSoundOver self.old.listing.settings self.old.listing.cone h (Some (packet_of entry.now)) image) }
     {
-        let len = entry.keys.len() as u64;
         // The tests first: a packet that is refused leaves cone and files as they were.
-        self.test(len)?;
+        let more = self.test(entry)?;
         if let Err(fault) = take_packet(
             &mut self.tally,
             &mut self.log,
@@ -234,7 +256,8 @@ impl<B: Bay, T: CountTable> Cone<B, T> {
         }
         // Acknowledged only here: the packet is on the disk and its items are counted.
         let from = self.events + 1;
-        self.events += len;
+        self.events += entry.keys.len() as u64;
+        self.weight += more;
         Ok(Acked {
             from,
             to: self.events,
@@ -249,6 +272,16 @@ impl<B: Bay, T: CountTable> Cone<B, T> {
         ensures memory { is_broken self.now.state ≡ false → result ≡ length self.now.listing.events }
     {
         self.events
+    }
+
+    /// What these items weigh together: from 0 to the threshold for each key that it has room to report, which is below 2^54. Of a
+    /// broken cone it says no more.
+    pub fn weight(&self) -> u64
+        ensures value { result ≡ self.now.weight }
+        ensures within { result ≤ weight_room self.now.listing.settings }
+        ensures memory { is_broken self.now.state ≡ false → result ≡ weight_of weighed self.now.listing.events }
+    {
+        self.weight
     }
 
     /// What it may still do. It is broken by its bay only where the bay's count rose since the cone was made. The bay is
@@ -269,44 +302,6 @@ impl<B: Bay, T: CountTable> Cone<B, T> {
     {
         let Cone { bay, .. } = self;
         bay
-    }
-
-    // The tests of a packet of so many items, in their order.
-    fn test(&self, len: u64) -> Result<(), ConeFault>
-        requires { len < 2 ^ 32 }
-        ensures ok { OnOk result ((self.now.state ≡ ConeState.Running) × (self.now.events + len ≤ capacity self.now.listing.settings)) }
-        ensures closed { (result ≡ Err ConeFault.Closed) ↔ (self.now.state ≡ ConeState.Finished) }
-        ensures broken { (result ≡ Err ConeFault.Broken) ↔ (is_broken self.now.state ≡ true) }
-        ensures full { (n more : ℕ) → (result ≡ Err (ConeFault.CapacityFull n more)) ↔
-            ((self.now.state ≡ ConeState.Running) × (n ≡ self.now.events) × (more ≡ len)
-            × (capacity self.now.listing.settings < n + more)) }
-        ensures refusal { IfErr result (λ fault. is_refusal fault ≡ true) }
-    {
-        self.test_state()?;
-        let capacity = self.tally.settings().capacity();
-        if self.events + len > capacity {
-            return Err(ConeFault::CapacityFull {
-                n: self.events,
-                len,
-            });
-        }
-        Ok(())
-    }
-
-    // The tests of any call.
-    fn test_state(&self) -> Result<(), ConeFault>
-        ensures ok { OnOk result (self.now.state ≡ ConeState.Running) }
-        ensures closed { (result ≡ Err ConeFault.Closed) ↔ (self.now.state ≡ ConeState.Finished) }
-        ensures broken { (result ≡ Err ConeFault.Broken) ↔ (is_broken self.now.state ≡ true) }
-        ensures refusal { IfErr result (λ fault. is_refusal fault ≡ true) }
-        ensures never_full { (n len : ℕ) → result ≡ Err (ConeFault.CapacityFull n len) → ⊥ }
-    {
-        match self.state {
-            ConeState::Running => Ok(()),
-            ConeState::Finished => Err(ConeFault::Closed),
-            ConeState::BrokenByBay => Err(ConeFault::Broken),
-            ConeState::BrokenByRead { .. } => Err(ConeFault::Broken),
-        }
     }
 }
 

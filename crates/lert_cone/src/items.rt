@@ -1,7 +1,10 @@
 //! The items of an entry, as a cone takes them.
 
-ghost use Rattle.std.specs.Prelude.{◌≡◌, ◌==◌, ◌^◌, ◌<◌, ◌≤◌, All, length, take, drop, slice_index_or};
+ghost use Rattle.std.specs.Prelude.{◌≡◌, ◌==◌, ◌*◌, ◌^◌, ◌<◌, ◌≤◌, All, IfSome, not, sum_by, length, take, drop, slice_index_or};
+ghost use Rattle.lert_cone.specs.Refuses.{first_weighed};
+ghost use Rattle.lert_spec.specs.Counts.{weighed, weight_of};
 ghost use Rattle.lert_spec.specs.Items.{keys_in};
+ghost use Rattle.std.specs.List.{position_from};
 ghost use Rattle.lert_spec.specs.declared.item.Item.{Item};
 
 use lert_base::{Entry, Item};
@@ -52,6 +55,28 @@ impl<'a> Items<'a> {
         self.len() == 0
     }
 
+    /// What they weigh together.
+    pub fn weight(&self) -> u64
+        requires few { length self.now < 2 ^ 32 }
+        ensures value { result ≡ weight_of weighed self.now }
+        ensures most { result ≤ 255 * length self.now }
+    {
+        // A name, so that the proof knows what it has.
+        let weights = self.weights;
+        sum_of(weights)
+    }
+
+    /// The number, from 1, of the first one whose weight isn't 1.
+    pub fn first_weighed(&self) -> Option<u64>
+        ensures { result ≡ first_weighed self.now }
+    {
+        let weights = self.weights;
+        match first_other(weights) {
+            Some(place) => Some(place as u64 + 1),
+            None => None,
+        }
+    }
+
     /// The one with this number, from 0.
     pub fn at(&self, number: usize) -> Item
         requires { number < length self.now }
@@ -83,4 +108,29 @@ impl<'a> Items<'a> {
             },
         )
     }
+}
+
+// The sum of some weights.
+fn sum_of(weights: &[u8]) -> u64
+    requires few { length weights.now < 2 ^ 32 }
+    ensures value { result ≡ sum_by (λ weight. weight) weights.now }
+    ensures most { result ≤ 255 * length weights.now }
+{
+    added(weights)
+}
+
+// So of weights whose sum is known to fit.
+fn added(weights: &[u8]) -> u64
+    requires { sum_by (λ weight. weight) weights.now < 2 ^ 64 }
+    ensures { result ≡ sum_by (λ weight. weight) weights.now }
+{
+    weights.iter().map(|weight| *weight as u64).sum()
+}
+
+// Which of them, from 0, is the first that isn't 1.
+fn first_other(weights: &[u8]) -> Option<usize>
+    ensures within { IfSome result (λ place. place < length weights.now) }
+    ensures first { result ≡ position_from (λ weight. not (weight == 1)) 0 weights.now }
+{
+    weights.iter().position(|weight| *weight != 1)
 }

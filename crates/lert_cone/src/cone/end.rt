@@ -53,6 +53,8 @@ impl<B: Bay, T: CountTable> Cone<B, T> {
           log = self.new.log;
         }) }
         ensures never_full { (n len : ℕ) → result ≡ Err (ConeFault.CapacityFull n len) → ⊥ }
+        ensures never_heavy { (weight more : ℕ) → result ≡ Err (ConeFault.WeightFull weight more) → ⊥ }
+        ensures never_old { (place : ℕ) → result ≡ Err (ConeFault.OldJournal place) → ⊥ }
 
         // Where the bay tells its files, Ok comes only where each frame that the levels name was in its format to the end.
         ensures whole { IfTold (B.files self.old.bay) (λ seen. OnOk result (rows_left self.old.listing.settings written (seen FRAMES) self.old.rows ≡ None)) }

@@ -1,7 +1,7 @@
 //! A cone as the state that a lock holds.
 
 ghost use Rattle.std.specs.Prelude.{◌≡◌};
-ghost use Rattle.lert_cone.specs.History.{written};
+ghost use Rattle.lert_cone.specs.History.{most_version};
 ghost use Rattle.lert_journal.specs.Payload.{IsJournaled};
 ghost use Rattle.lert_cone.specs.Locked.{AnswersUnder, RefusesUnder, is_stopped};
 ghost use Rattle.lert_cone.specs.Stands.{StandsFor, terms_of};
@@ -31,7 +31,7 @@ impl<B: Bay, T: CountTable> Held for Cone<B, T> {
 
     ghost refuses = { λ terms h packet fault. RefusesUnder terms h packet fault };
 
-    ghost fits = { λ terms packet. IsJournaled written terms.settings terms.cone packet };
+    ghost fits = { λ terms packet. IsJournaled most_version terms.settings terms.cone packet };
 
     /// `admit`.
     fn apply(&mut self, entry: &Entry) -> Result<Acked, ConeFault> {

@@ -11,6 +11,7 @@ ghost use Rattle.lert_levels.specs.Flushed.{InNamed};
 ghost use Rattle.lert_reports.specs.Log.{HasLog, most_record};
 ghost use Rattle.lert_reports.specs.LogText.{LogRecord};
 ghost use Rattle.lert_spec.specs.Edges.{capacity};
+ghost use Rattle.lert_spec.specs.Counts.{weighed, weight_of};
 ghost use Rattle.lert_cone.specs.Framed.{HoldsSome};
 ghost use Rattle.lert_cone.specs.KeepsLog.{IsHeadOf, KeepsLogOf, head_of};
 ghost use Rattle.lert_cone.specs.JournalPlaces.{places_from};
@@ -284,9 +285,11 @@ impl<B: Bay, T: CountTable> ReplayingCone<B, T> {
         requires gate { self.gate ≡ end }
         requires shut { IsShutIfTold (B.files self.bay) (B.leaves self.bay) JOURNAL end }
         ensures value { result ≡ readied self }
+        ensures weighs { weight_of weighed result.listing.events ≡ result.weight }
 
-        // It stands for a list whose items it has as many of, where it is behind its packets, if the files were sound for one.
+        // It stands for a list that has as many items of the same weight, where it is behind its packets, if the files were sound for one.
         ensures stands_for { (h : List Packet) → All (λ packet. 0 < length packet.items) h → length (events_of h) ≡ self.events →
+            weight_of weighed (events_of h) ≡ result.weight →
             (WasSound B.files result → IfTold (B.files self.bay) (λ _. Replays B.files B.leaves self h h)) →
             StandsFor B.files B.leaves B.faults result h }
     {
@@ -313,6 +316,8 @@ impl<B: Bay, T: CountTable> ReplayingCone<B, T> {
             entry,
             buffer,
             events,
+            // Each item weighs 1 in files of its version.
+            weight: events,
             state,
             over: None,
         }

@@ -4,19 +4,21 @@ ghost use Rattle.std.specs.Prelude.{◌≡◌};
 ghost use Rattle.lert_cone.specs.Stands.{is_finished, terms_of};
 
 use crate::cone::Cone;
+use crate::headers::WRITTEN;
 use crate::state::ConeState;
 use lert_base::{CountTable, Numbers};
 use lert_bay::Bay;
 use std::marker::Model;
 use std::snapshot::Snapshot;
 
-/// What no packet changes of a cone: its numbers, its own number, its bay as it was when the cone was made, and whether the cone is
-/// finished. The bay is for contracts alone, and has no bytes: it tells whether it told its files, and its count of faults and its
+/// What no packet changes of a cone: its numbers, its own number, the version of its files, its bay as it was when the cone was
+/// made, and whether the cone is finished. In files of version 1 each item weighs 1. The bay is for contracts alone, and has no bytes: it tells whether it told its files, and its count of faults and its
 /// mark then are seen among the terms.
 #[derive(Drop)]
 pub struct ConeTerms<B: Bay> {
     pub numbers: Numbers,
     pub cone: u32,
+    pub version: u8,
     pub made: Snapshot<Snapshot<B>>,
     pub finished: bool,
 }
@@ -29,6 +31,7 @@ impl<B: Bay> Model for ConeTerms<B> {
     ghost view = { λ t. record {
       settings = t.numbers;
       cone = t.cone;
+      version = t.version;
       made = t.made.value.value;
       finished = t.finished;
       faults = B.faults t.made.value.value;
@@ -44,6 +47,7 @@ impl<B: Bay, T: CountTable> Cone<B, T> {
         ConeTerms {
             numbers: self.tally.settings().numbers(),
             cone: self.tally.cone(),
+            version: WRITTEN,
             made: Snapshot::of(&self.made),
             finished: is_finished(self.state),
         }

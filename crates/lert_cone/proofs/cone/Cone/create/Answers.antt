@@ -42,6 +42,7 @@ returns-in-Ok-clause-made g c =
       rows = c.into_parts-tally.ensures.rows i;
       reports = c.into_parts-tally.ensures.none i;
       events = 0;
+      weight = 0;
       state = ConeState.Running;
       over = None;
       gate = (c.in-Ok.ensures.journal i).gate;

@@ -9,7 +9,7 @@ use Rattle.lert_cone.proofs.FaultLaws.{any_turn, by_bay_of, is_broken_by, no_ref
 use Rattle.lert_cone.proofs.{Refusals.{no_fault, one_fault}, TimeLaws.timely}
 use Rattle.lert_bay.proofs.KeptLaws.{IsLawful}
 use Rattle.lert_spec.specs.{declared.numbers.Numbers.Numbers, Look.closing_of, Timely.IsTimelyIn}
-use Rattle.lert_cone.specs.{declared.state.ConeState.TheVariants.{Running, Finished}, InStep.IsLogging, Listing.Listing, Sound.{IsKept, IsSound, IsSoundAs}}
+use Rattle.lert_cone.specs.{declared.state.ConeState.TheVariants.{Running, Finished}, InStep.IsLogging, Listing.Listing, Refuses.IsStoppedBy, Sound.{IsKept, IsSound, IsSoundAs}}
 use Rattle.lert_cone.specs.Stands.{Standing, StandsFor, over_of, is_broken, is_finished, is_refusal}
 use Rattle.lert_reports.specs.Stored.{Stored}
 use Rattle.lert_io.proofs.Rising.{risen_since}
@@ -45,7 +45,8 @@ pub returns-in_err-test_state : goal.returns-in_err-test_state
 returns-in_err-test_state g c =
     let p = err_from_is_err_and c.from_residual.result c.from_residual.ensures.1 in
     let refusal = rw c.in_err-test_state.was at c.test_state.ensures.refusal in
-    let never_full = rw c.in_err-test_state.was at c.test_state.ensures.never_full in
+    let why = rw c.in_err-test_state.was at c.test_state.ensures.why in
+    let state = c.args.self.now.state in
     rw (p.1, p.2) (record {
       stands_for = tt;
       answers = tt;
@@ -54,7 +55,9 @@ returns-in_err-test_state g c =
       in_time = tt;
       step = refuses (lawful g) c.in_err-test_state.was c.test_state.ensures.closed c.test_state.ensures.broken refusal;
       broke = λ never. absurd (false≢true (sym never ∙ refusal));
-      never_full = λ n len same. never_full n len (ap Err (one_fault same));
+      never_full = λ n len same. subst (IsStoppedBy state) (one_fault same) why;
+      never_heavy = λ weight more same. subst (IsStoppedBy state) (one_fault same) why;
+      never_old = λ place same. subst (IsStoppedBy state) (one_fault same) why;
       each_moment = λ still sound seen told h stands image may.
           ((stands.whole still sound seen told).files.kept.images image (g.met.B.Bay.only_now c.args.self.now.bay image may)).sound;
       whole = λ seen told. tt;
@@ -65,7 +68,7 @@ returns-in_err-test_state g c =
 pub invariant_of-self : goal.invariant_of-self
 invariant_of-self g c =
     let len_is : c.self.inside.buffer.len ≡ length c.self.inside.buffer.items = omega (arith, c.self.inside.buffer.ok) in
-    broken_cone (ap is_broken c.broken_by-self-inside.ensures ∙ is_broken_by c.in-Err.fault) (ap (λ (l : Listing). l.settings) c.finish.ensures.listing) refl refl refl refl
+    broken_cone (ap is_broken c.broken_by-self-inside.ensures ∙ is_broken_by c.in-Err.fault) (ap (λ (l : Listing). l.settings) c.finish.ensures.listing) refl refl refl refl refl
     (sym (length_refill c.self.inside.buffer.len c.self.inside.buffer.items c.finish.new.buffer len_is) ∙ len_is) refl c.finish.ensures.keeps.kept.never_falls
     (any_turn c.finish.ensures.keeps.journal.seen) c.finish.ensures.keeps.kept.mark
     (λ same. risen_since (g.B.Faulty.faults c.self.inside.made.value) (g.B.Faulty.faults c.self.inside.bay) (g.B.Faulty.faults c.finish.new.bay) c.self.invariant.never_falls
@@ -90,9 +93,11 @@ returns-in-Err g c =
         last = refl;
       }) running (any_turn did.keeps.journal.seen) c.broken_by-self-inside.ensures (ap Err c.from.ensures) refl c.self.invariant.never_falls did.keeps.kept did.keeps.journal.now
           (λ seen told h whole. did.sound seen told h whole.in_step) (λ seen told h whole image may. inl (did.each_moment seen told h whole.keys whole.in_step image may)) did.keeps.shows;
-      broke = λ _ i. record (cone_at c.finish.new.bay c.self.inside.made.value c.finish.new.tally c.self.inside.events c.broken_by-self-inside.result (over_of c.self.inside.over)
+      broke = λ _ i. record (cone_at c.finish.new.bay c.self.inside.made.value c.finish.new.tally c.self.inside.events c.self.inside.weight c.broken_by-self-inside.result (over_of c.self.inside.over)
           c.self.inside.journal.gate c.finish.new.log c.self.inside.last) { listing = c.finish.ensures.listing i; rows = c.finish.ensures.rows i };
       never_full = λ n len same. false≢true (sym (no_refusal c.in-Err.fault) ∙ ap is_refusal (sym c.from.ensures ∙ one_fault same));
+      never_heavy = λ weight more same. false≢true (sym (no_refusal c.in-Err.fault) ∙ ap is_refusal (sym c.from.ensures ∙ one_fault same));
+      never_old = λ place same. false≢true (sym (no_refusal c.in-Err.fault) ∙ ap is_refusal (sym c.from.ensures ∙ one_fault same));
       whole = λ seen told. tt;
       each_moment = λ still sound seen told h stands image may.
           let whole = stands.whole still sound seen told in
@@ -118,8 +123,8 @@ ended : (g : given.Over) (c : After-len g) → c.finish.new.tally.listing ≡ re
 ended g c = c.finish.ensures.listing ∙ ap (λ closed. record c.self.inside.tally.listing { closed = closed }) c.in_default.ensures.closed
 
 stands_then : (g : given.Over) (c : After-len g) (h : List Packet) → StandsFor g.B.Bay.files g.B.Bay.leaves g.B.Faulty.faults (cone_at c.self.inside.bay c.self.inside.made.value
-    c.self.inside.tally c.self.inside.events c.self.inside.state (over_of c.self.inside.over) c.self.inside.journal.gate c.self.inside.log c.self.inside.last) h →
-    StandsFor g.B.Bay.files g.B.Bay.leaves g.B.Faulty.faults (cone_at c.finish.new.bay c.self.inside.made.value c.finish.new.tally c.self.inside.events Finished
+    c.self.inside.tally c.self.inside.events c.self.inside.weight c.self.inside.state (over_of c.self.inside.over) c.self.inside.journal.gate c.self.inside.log c.self.inside.last) h →
+    StandsFor g.B.Bay.files g.B.Bay.leaves g.B.Faulty.faults (cone_at c.finish.new.bay c.self.inside.made.value c.finish.new.tally c.self.inside.events c.self.inside.weight Finished
     (over_of c.self.inside.over) c.self.inside.journal.gate c.finish.new.log c.self.inside.last) h
 stands_then g c h stands =
     let running = was_running g c in
@@ -129,7 +134,7 @@ stands_then g c h stands =
       cone = ap (λ (l : Listing). l.cone) is;
       made = refl;
       last = refl;
-    }) refl (stands.none_over (ap is_broken running)) stands.some stands.counted stands.within
+    }) refl (stands.none_over (ap is_broken running)) stands.some stands.counted stands.within (stands.weighed (ap is_broken running))
     (λ sound seen told.
     let was = turns_back c.finish.ensures.keeps.journal.seen seen told in
     let whole = stands.whole (ap is_broken running) sound was.0 was.1 in
@@ -154,8 +159,8 @@ returns g c =
           ∙ reports_finished c.finish.new.tally.listing (events_of h) c.in_default.ensures.closed (ap (λ (l : Listing). l.events) is ∙ whole.keys))
           ∙ ap (λ (l : Listing). length (closing_of weighed l.settings (events_of h))) is;
       reports = c.len.ensures.count ∙ ap length (ap (λ (v : Stored). v.reports) c.store.ensures);
-      finished = λ i. record (cone_at c.finish.new.bay c.self.inside.made.value c.finish.new.tally c.self.inside.events Finished (over_of c.self.inside.over) c.self.inside.journal.gate
-          c.finish.new.log c.self.inside.last) { listing = is i; rows = c.finish.ensures.rows i };
+      finished = λ i. record (cone_at c.finish.new.bay c.self.inside.made.value c.finish.new.tally c.self.inside.events c.self.inside.weight Finished (over_of c.self.inside.over)
+          c.self.inside.journal.gate c.finish.new.log c.self.inside.last) { listing = is i; rows = c.finish.ensures.rows i };
       in_time = λ h stands sound seen told.
           let after = turned.told seen told in
           subst (λ (settings : Numbers). IsTimelyIn weighed settings.threshold settings.bins (events_of h) c.finish.new.tally.due.reports) (ap (λ (l : Listing). l.settings) is)
@@ -166,6 +171,8 @@ returns g c =
           c.finish.ensures.keeps.kept;
       broke = tt;
       never_full = λ n len same. no_fault same;
+      never_heavy = λ weight more same. no_fault same;
+      never_old = λ place same. no_fault same;
       whole = c.in_default.ensures.whole;
       each_moment = λ still sound seen told h stands image may.
           let whole = stands.whole still sound seen told in
