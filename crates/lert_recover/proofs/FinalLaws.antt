@@ -11,7 +11,7 @@ use Rattle.lert_gatelog.specs.Gated.{IsClosed}
 use Rattle.lert_levels.specs.declared.rows.bin_at.BinAt.{BinAt}
 use Rattle.lert_reports.specs.{Log.{is_closed, last_first, last_n0, last_offset, HasLog}, LogText.LogRecord}
 use Rattle.lert_reports.proofs.LogOnce.{one_log}
-use Rattle.lert_spec.specs.{declared.item.Item.Item, declared.numbers.Numbers.Numbers, Limits.IsValid}
+use Rattle.lert_spec.specs.{declared.item.Item.Item, declared.numbers.Numbers.Numbers, Counts.{weighed, weight_of}, Limits.IsValid}
 use Rattle.lert_files.specs.{declared.fault.ReopenFault.ReopenFault, declared.fault.ReopenFault.TheVariants.{Failed, Malformed, OtherSettings}, Headed.HasOther, Opened.AreOpened}
 use Rattle.lert_recover.specs.Replayed.{AreInFormat, FirstLeaves, Before_records, In_records, HasReplayed, JournalEnds, JournalLeavesAt}
 use Rattle.lert_recover.specs.Reopened.{IsReadOn, IsReopened, IsReopenRefused, Of_call, Of_place, Of_header, Of_sight, IsUnsoundAt}
@@ -211,19 +211,21 @@ module _ (s : Numbers) (cone : ℕ) (valid : IsValid s) (named : cone < 2 ^ s.co
     }
 
     -- of files that are sound for a list
-    module _ (told_in : Option Files) (told_is : told_in ≡ Some seen) (counts : K → ℕ) (stands_in : K → List Packet → Type 0) (finishes : K → Bool → Type 0)
+    module _ (told_in : Option Files) (told_is : told_in ≡ Some seen) (counts weighs : K → ℕ) (stands_in : K → List Packet → Type 0) (finishes : K → Bool → Type 0)
         (history : List Packet) (sound : IsSound s cone history seen) where
       some_keys : All (λ packet. 0 < length packet.items) history
       some_keys k d within = some_keys_of s cone _ (sound.journal.journaled k d within)
 
       pub sound_told : (result : Result K E) → Told result → IfErr result (λ refused. (h : List Packet) → IsSound s cone h seen → IsOutside (fault_in refused)) →
-          IfOk result (λ now. (h : List Packet) → All (λ packet. 0 < length packet.items) h → length (events_of h) ≡ counts now →
+          IfOk result (λ now. (h : List Packet) → All (λ packet. 0 < length packet.items) h →
+          (length (events_of h) ≡ counts now) × (weight_of weighed (events_of h) ≡ weighs now) →
           ((now_seen : Files) → told_in ≡ Some now_seen → (other : List Packet) → IsSound s cone other now_seen → IsSound s cone h now_seen) → stands_in now h) →
-          IfOk result (λ now. counts now ≡ length (events_in now)) → IfOk result (λ now. finishes now (closed_in now)) →
+          IfOk result (λ now. counts now ≡ length (events_in now)) → IfOk result (λ now. weighs now ≡ weight_of weighed (events_in now)) → IfOk result (λ now. finishes now (closed_in now)) →
           MatchResult result (λ now. stands_in now history × finishes now (is_closed sound.logged)) (λ refused. IsOutside (fault_in refused))
-      sound_told (Ok now) told fails stands counted finished = (
-        stands history some_keys (ap length (sym (reopened_events (closed_in now) (events_in now) (gate_in now) told history sound)) ∙ sym counted)
-            (λ now_seen now_told other is. subst (IsSound s cone history) (same_Some seen now_seen (sym told_is ∙ now_told)) sound),
-        subst (finishes now) (reopened_closed (closed_in now) (events_in now) (gate_in now) told history sound) finished,
-      )
-      sound_told (Err refused) told fails stands counted finished = fails history sound
+      sound_told (Ok now) told fails stands counted weight finished =
+          let events_are = sym (reopened_events (closed_in now) (events_in now) (gate_in now) told history sound) in (
+            stands history some_keys (ap length events_are ∙ sym counted, ap (weight_of weighed) events_are ∙ sym weight)
+                (λ now_seen now_told other is. subst (IsSound s cone history) (same_Some seen now_seen (sym told_is ∙ now_told)) sound),
+            subst (finishes now) (reopened_closed (closed_in now) (events_in now) (gate_in now) told history sound) finished,
+          )
+      sound_told (Err refused) told fails stands counted weight finished = fails history sound

@@ -24,7 +24,7 @@ ghost use Rattle.lert_reports.specs.LogText.{LogRecord};
 ghost use Rattle.lert_recover.specs.Shown.{reports_for};
 ghost use Rattle.lert_recover.specs.Unharmed.{IsUnharmed, KeepsLogFrom};
 ghost use Rattle.lert_spec.specs.declared.report.Report.{Report};
-ghost use Rattle.lert_spec.specs.Counts.{weighed};
+ghost use Rattle.lert_spec.specs.Counts.{weighed, weight_of};
 ghost use Rattle.lert_spec.specs.Edges.{capacity};
 ghost use Rattle.lert_spec.specs.Limits.{IsValid};
 ghost use Rattle.lert_spec.specs.Look.{look_of};
@@ -75,8 +75,10 @@ pub fn reopen<B: Bay, T: CountTable>(
     ensures shown { IfTold (B.files bay) (λ seen. (h more : List Packet) → IsSound room.settings cone (h ++ more) seen →
         IfOk result (λ now. (rest : List Report) × (now.reports ≡ look_of weighed room.settings (events_of h) ++ rest))) }
 
-    // Told or not, it stands for each list of as many events. Where the files were told and sound for a list, that is such a list.
-    ensures stands { IfOk result (λ now. (h : List Packet) → All (λ packet. 0 < length packet.items) h → length (events_of h) ≡ now.events →
+    // Told or not, it stands for each list of as many events of the same weight. Where the files were told and sound for a list, that
+    // is such a list.
+    ensures stands { IfOk result (λ now. (h : List Packet) → All (λ packet. 0 < length packet.items) h →
+        (length (events_of h) ≡ now.events) × (weight_of weighed (events_of h) ≡ now.weight) →
         IfTold (B.files bay) (λ seen. (other : List Packet) → IsSound room.settings cone other seen → IsSound room.settings cone h seen) →
         StandsFor B.files B.leaves B.faults now h) }
 
@@ -130,6 +132,7 @@ pub fn reopen<B: Bay, T: CountTable>(
     // Told or not, what it is.
     ensures own { IfOk result (λ now. (now.listing.settings ≡ room.settings) × (now.listing.cone ≡ cone) × (now.events ≡ length now.listing.events)
         × (now.state ≡ if now.listing.closed then ConeState.Finished else ConeState.Running)) }
+    ensures weight { IfOk result (λ now. now.weight ≡ weight_of weighed now.listing.events) }
     ensures made { IfOk result (λ now. (B.files now.made ≡ B.files bay) × (B.faults bay ≤ B.faults now.made) × (B.mark now.made ≡ B.mark bay)) }
     ensures reads { MatchResult result (λ now. IsJournalSame (B.files bay) (B.files now.bay)) (λ refused. IsJournalSame (B.files bay) (B.files refused.bay)) }
     ensures kept { MatchResult result (λ now. CallsBay B.Bay bay now.bay ⊥) (λ refused. CallsBay B.Bay bay refused.bay (refused.fault ≡ ReopenFault.Failed)) }
@@ -153,7 +156,8 @@ fn reopen_in_order<B: Bay, T: CountTable>(
     ensures bounded { IfTold (B.files bay) (λ seen. (h : List Packet) → IsSound room.settings cone h seen → MatchResult result
         (λ now. B.handed_out now.bay JOURNAL ≤ B.handed_out bay JOURNAL + most_read room.settings)
         (λ refused. B.handed_out refused.bay JOURNAL ≤ B.handed_out bay JOURNAL + most_read room.settings)) }
-    ensures stands { IfOk result (λ now. (h : List Packet) → All (λ packet. 0 < length packet.items) h → length (events_of h) ≡ now.events →
+    ensures stands { IfOk result (λ now. (h : List Packet) → All (λ packet. 0 < length packet.items) h →
+        (length (events_of h) ≡ now.events) × (weight_of weighed (events_of h) ≡ now.weight) →
         IfTold (B.files bay) (λ seen. (other : List Packet) → IsSound room.settings cone other seen → IsSound room.settings cone h seen) →
         StandsFor B.files B.leaves B.faults now h) }
     ensures stays_sound { IfTold (B.files bay) (λ seen. (h : List Packet) → IsSound room.settings cone h seen →
@@ -164,6 +168,7 @@ fn reopen_in_order<B: Bay, T: CountTable>(
     ensures unharmed { MatchResult result (λ now. IsUnharmed B.Bay room.settings cone bay now.bay) (λ refused. IsUnharmed B.Bay room.settings cone bay refused.bay) }
     ensures own { IfOk result (λ now. (now.listing.settings ≡ room.settings) × (now.listing.cone ≡ cone) × (now.events ≡ length now.listing.events)
         × (now.state ≡ if now.listing.closed then ConeState.Finished else ConeState.Running)) }
+    ensures weight { IfOk result (λ now. now.weight ≡ weight_of weighed now.listing.events) }
     ensures made { IfOk result (λ now. (B.files now.made ≡ B.files bay) × (B.faults bay ≤ B.faults now.made) × (B.mark now.made ≡ B.mark bay)) }
     ensures reads { MatchResult result (λ now. IsJournalSame (B.files bay) (B.files now.bay)) (λ refused. IsJournalSame (B.files bay) (B.files refused.bay)) }
     ensures kept { MatchResult result (λ now. CallsBay B.Bay bay now.bay ⊥) (λ refused. CallsBay B.Bay bay refused.bay (refused.fault ≡ ReopenFault.Failed)) }
@@ -208,10 +213,12 @@ fn replay_journal<B: Bay, T: CountTable>(
         (λ refused. IsStopped cone.listing.settings cone.listing.cone cone.last.n0 cone.last.closed (seen JOURNAL) (length cone.listing.events) last.now.offset refused.fault)) }
     ensures fails { IfTold (B.files cone.bay) (λ _. IfErr result (λ refused. (h : List Packet) → ReplaysSome B.files B.leaves cone h →
         refused.fault ≡ ReopenFault.Failed)) }
-    ensures stands { IfOk result (λ now. (h : List Packet) → All (λ packet. 0 < length packet.items) h → length (events_of h) ≡ now.events →
+    ensures stands { IfOk result (λ now. (h : List Packet) → All (λ packet. 0 < length packet.items) h →
+        (length (events_of h) ≡ now.events) × (weight_of weighed (events_of h) ≡ now.weight) →
         (WereSoundAs B.files cone.listing.settings cone.listing.cone cone.made → IfTold (B.files cone.bay) (λ _. ReplaysSome B.files B.leaves cone h)) → StandsFor B.files B.leaves B.faults now h) }
     ensures passed { IfOk result (λ now. cone.last.n0 ≤ length now.listing.events) }
     ensures counted { IfOk result (λ now. now.events ≡ length now.listing.events) }
+    ensures weight { IfOk result (λ now. now.weight ≡ weight_of weighed now.listing.events) }
     ensures state { IfOk result (λ now. (now.listing.closed ≡ cone.listing.closed) × (now.state ≡ if cone.last.closed then ConeState.Finished else ConeState.Running)) }
     ensures same_cone { IfOk result (λ now. IsSameCone (readied cone) now) }
     ensures reads { MatchResult result (λ now. IsJournalSame (B.files cone.bay) (B.files now.bay)) (λ refused. IsJournalSame (B.files cone.bay) (B.files refused.bay)) }

@@ -62,11 +62,12 @@ returns-clause-sound_opens g c seen told h sound =
     sound_told c.args.room.settings c.args.cone c.requires.room.valid c.requires.named c.ranges.cone.fits seen
     (λ (now : Standing g.row.B.Denot). now.listing.closed) (λ (now : Standing g.row.B.Denot). now.listing.events) (λ (now : Standing g.row.B.Denot). now.gate)
     (λ (refused : ReopenRefused g.row.B.Denot). refused.fault)
-    (g.B.Bay.files c.args.bay) told (λ (now : Standing g.row.B.Denot). now.events)
+    (g.B.Bay.files c.args.bay) told (λ (now : Standing g.row.B.Denot). now.events) (λ (now : Standing g.row.B.Denot). now.weight)
     (λ (now : Standing g.row.B.Denot) h. StandsFor g.B.Bay.files g.B.Bay.leaves g.B.Faulty.faults now h)
     (λ (now : Standing g.row.B.Denot) (closed : Bool). now.state ≡ if closed then Finished else Running)
     h sound c.reopen_in_order.result (c.reopen_in_order.ensures.told seen told) (c.reopen_in_order.ensures.fails seen told) c.reopen_in_order.ensures.stands
     (ok_on own counted c.reopen_in_order.result (λ now is. is.2) c.reopen_in_order.ensures.own)
+    c.reopen_in_order.ensures.weight
     (ok_on own finished c.reopen_in_order.result (λ now is. is.3) c.reopen_in_order.ensures.own)
 
 pub returns-clause-reports : goal.returns-clause-reports

@@ -13,7 +13,7 @@ use Rattle.lert_recover.specs.{declared.recovery.ReopenRefused.ReopenRefused, Re
 use Rattle.lert_files.proofs.QuietLaws.{quiet_as}
 use Rattle.lert_levels.specs.{OnDisk.OnDisk, rows.Rows.directory_text}
 use Rattle.lert_reports.specs.{Log.{last_first, last_n0}, Stored.Stored}
-use Rattle.lert_spec.specs.{declared.numbers.Numbers.Numbers, Limits.IsValid}
+use Rattle.lert_spec.specs.{declared.numbers.Numbers.Numbers, Counts.{weighed, weight_of}, Limits.IsValid}
 use Rattle.lert_recover.proofs.{BayLaws.{bay_before, made_of, own_of, quiet_before}, LoggedLaws.logs_in, MomentLaws.{stays_made, stays_quiet}, ReplayingLaws.journal_same}
 use Rattle.lert_recover.proofs.ReopenLaws.{fails_on, frames_settled, journal_settled, last_of, log_shut, ok_on, read_before, refused_before, reopened_of, sound_opened, stands_on}
 use Rattle.lert_recover.proofs.{SomeEvents.some_events, UnharmedLaws.{unharmed_opened, unharmed_quiet}}
@@ -124,6 +124,7 @@ returns-in-Err g c =
           c.in-Err.ensures.passes seen told sound.logged sound.log_end there.rows there.opened;
       stands = tt;
       own = tt;
+      weight = tt;
       made = tt;
       reads = journal_same (g.B.Bay.files c.args.bay) (g.B.Bay.files c.read_files.new.bay) read.quiet.seen;
       kept = calls_as (bays g) (lawful g) c.args.bay c.read_files.new.bay _ _ (λ is. ap Err is) read.quiet.kept;
@@ -215,10 +216,12 @@ returns-in-Ok g c =
           c.adopt-begun.ensures.replays seen after opened.0 opened.2.log
           (last_of s cone end.n0 end.offset end.first end.closed c.read_files.new.store.reports c.read_files.new.levels.rows opened.0 opened.1 opened.2.named)
           h (same seen before first.0 own) in
-          stands_on (λ h. All (λ (packet : Packet). 0 < length packet.items) h) (λ h (now : Standing g.row.B.Denot). length (events_of h) ≡ now.events)
+          stands_on (λ h. All (λ (packet : Packet). 0 < length packet.items) h)
+          (λ h (now : Standing g.row.B.Denot). (length (events_of h) ≡ now.events) × (weight_of weighed (events_of h) ≡ now.weight))
           (λ h. WereSoundAs files start.listing.settings start.listing.cone start.made → (seen : Files) → files start.bay ≡ Some seen → ReplaysSome files leaves start h)
           (λ h. (seen : Files) → files c.args.bay ≡ Some seen → (other : List Packet) → IsSound s cone other seen → IsSound s cone h seen)
           (λ (now : Standing g.row.B.Denot) h. StandsFor files leaves g.B.Faulty.faults now h) c.replay_journal.result on_way c.replay_journal.ensures.stands;
+      weight = replayed.weight;
       own = own_of start s cone (ap (λ (k : Replaying g.row.B.Denot). k.listing.settings) made) (ap (λ (k : Replaying g.row.B.Denot). k.listing.cone) made)
           (ap (λ (k : Replaying g.row.B.Denot). k.listing.closed) made ∙ sym (ap (λ (k : Replaying g.row.B.Denot). k.last.closed) made)) result replayed.same_cone replayed.counted
           replayed.state;

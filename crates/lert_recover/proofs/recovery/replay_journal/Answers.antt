@@ -84,12 +84,13 @@ returns-in-Ok g c =
           let files = g.B.Bay.files in
           let start = c.args.cone in
           let end = c.replay_all.new.cone in
-          c.ready.ensures.stands_for h some (count ∙ ap (λ (k : Standing g.row.B.Denot). k.events) c.ready.ensures.value)
+          c.ready.ensures.stands_for h some (count.0 ∙ ap (λ (k : Standing g.row.B.Denot). k.events) c.ready.ensures.value) count.1
           (λ was now told.
           let back = turns_back c.replay_all.ensures.journal now told in
           c.in-Ok.ensures.replays back.0 back.1 h (begun (was_before files start end c.replay_all.ensures.same_cone (subst (WasSound files) c.ready.ensures.value was)) back.0 back.1));
       passed = omega (arith, all.passed, count_is);
       counted = ap (λ (k : Standing g.row.B.Denot). k.events) value ∙ (all.counted ∙ sym count_is);
+      weight = sym c.ready.ensures.weighs;
       state = (
         ap (λ (k : Standing g.row.B.Denot). k.listing.closed) value ∙ all.closed,
         ap (λ (k : Standing g.row.B.Denot). k.state) value ∙ ap (λ (last : LogPoint). if last.closed then Finished else Running) all.same_cone.last,
@@ -147,6 +148,7 @@ returns-in-Err g c =
       stands = tt;
       passed = tt;
       counted = tt;
+      weight = tt;
       state = tt;
       same_cone = tt;
       reads = journal_on all.journal (journal_same (files end.bay) (files last) behind.seen);
