@@ -12,8 +12,8 @@ use std::marker::Model;
 use std::snapshot::Snapshot;
 
 /// What no packet changes of a cone: its numbers, its own number, the version of its files, its bay as it was when the cone was
-/// made, and whether the cone is finished. In files of version 1 each item weighs 1. The bay is for contracts alone, and has no bytes: it tells whether it told its files, and its count of faults and its
-/// mark then are seen among the terms.
+/// made, and whether the cone is finished. In files of version 1 each item weighs 1. The bay is for contracts alone, and has no
+/// bytes: it tells whether it told its files, and its count of faults and its mark then are seen among the terms.
 #[derive(Drop)]
 pub struct ConeTerms<B: Bay> {
     pub numbers: Numbers,
