@@ -12,8 +12,8 @@ use Rattle.lert_worker.specs.declared.end.WorkerEnd.TheVariants as end
 use Rattle.lert_ingest.specs.{Back.{IsBack, IsFullAt}, Crews.IsReadOf, Faults.{earliest, end_fault, fault_at, fault_of, full_fault, state_fault}, Stops.AreWeaving}
 use Rattle.lert_ingest.specs.Traces.{AllFit, AreKeysOf, AreReadToEnd, AreTracesLater}
 use Rattle.lert_ingest.specs.declared.status.Status.TheVariants as status
-use Rattle.lert_ingest.proofs.{BayLaws.slice_get-some, Crewed.{Crewed, first_fault}, Crew.was_turned, FaultOrder.{all_none, of_two_none}, Holding.{is_weaving, weaving_fits}}
-use Rattle.lert_ingest.proofs.{Judging.{IsCone, cone_at, shared, traces}, Told.{all_whole, are_keys, named, there_is}}
+use Rattle.lert_ingest.proofs.{BayLaws.slice_get-some, Crewed.{Crewed, first_fault}, Crew.was_turned, FaultOrder.{all_none, of_two_none}, Holding.{is_weaving, over_capacity, weaving_fits}}
+use Rattle.lert_ingest.proofs.{Judging.{IsCone, begun, cone_at, shared, traces}, Told.{all_whole, are_keys, named, there_is}}
 
 module _ {S B : Type 0} (crew : Crewed S B) where
   open crew.read use {remaining, s_faults, s_mark, workers, some, opened, laters, shares, reads, was, readings, places, stopped, ends, run}
@@ -84,7 +84,9 @@ module _ {S B : Type 0} (crew : Crewed S B) where
             by_refusal : (c.closed.state ≢ state.Running) ⊎ IsFullAt s c.back.history e.0 f → ⊥
             by_refusal (inl broke) = broke (all_run cone c.first c.closed c.first_is c.closed_is)
             by_refusal (inr full) = none-some (status.CapacityFull cone (length (events_of full.past)) (length e.0.items))
-                (sym (no_end_fault by below) ∙ (ap end_fault is ∙ ap (full_fault cone) full.fault_is))
+                (sym (no_end_fault by below) ∙ (ap end_fault is ∙ ap (full_fault cone)
+                (over_capacity files leaves b_faults b_mark s workers some cone (traces crew) shares reads stopped ends (shared crew) (added cone) (turned cone) c.left c.first c.closed
+                c.back (begun crew) by below e.0 f has full).0))
 
     at_ends : (by place : ℕ) (now : Reading S) → by < workers → slice_get (readings by) place ≡ Some now → IsAtEnd remaining now
     at_ends by place now below is = (subst (Stopped remaining (shares by) (was by) (readings by) (places by) (stopped by)) (all_ran by below) (run.stop by below)) place now is

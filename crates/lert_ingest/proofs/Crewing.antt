@@ -1,6 +1,6 @@
 -- What a crew did, by the runs of its workers.
-use Rattle.std.proofs.Common.{◌≡◌, ℕ, ◌+◌, ◌^◌, ◌<◌, Bool, cond, eqb, List, [], ◌∷◌, ◌++◌, length, map, filter, Option, Some, None, slice_get, refl, ap, sym, ◌∙◌, subst, arith, length-append}
-use Rattle.std.proofs.{lemmas.Bool.eq-eqb, lemmas.List.{get_or-append-add, length-map}, lemmas.List.Elements.{All-head, All-tail, All-nil, All-cons, All-weaker}}
+use Rattle.std.proofs.Common.{◌≡◌, ℕ, ◌+◌, ◌^◌, ◌<◌, Bool, cond, eqb, List, [], ◌∷◌, length, map, filter, Option, Some, None, slice_get, refl, ap, sym, ◌∙◌, subst, arith}
+use Rattle.std.proofs.{lemmas.Bool.eq-eqb, lemmas.List.length-map, lemmas.List.Elements.{All-head, All-tail, All-nil, All-cons, All-weaker}}
 use Rattle.std.proofs.lemmas.Option.{same_Some, slice_get_within}
 use Rattle.std.specs.Prelude.{All}
 use Rattle.lert_base.specs.{declared.held.Held.{Ghosts as HeldOf}, Packet.{Packet, own}, declared.cone_fault.ConeFault.ConeFault}
@@ -14,7 +14,7 @@ use Rattle.lert_trace.specs.Reader.{Reading}
 use Rattle.lert_worker.specs.{Brings.IsOwn, Ends.{Stopped, WasRead}, Ran.{HasRun, RanIn, Working}, declared.end.WorkerEnd.TheVariants.Cone}
 use Rattle.lert_ingest.specs.{Back.AreSeen, Bays.IsLater, Cones.AreNew, Crew.{EachShows, Shows}, Crews.{AreLeftBy, AreReadBy, IsReadOf, fresh_reader}, Faults.end_of}
 use Rattle.lert_ingest.specs.{Ingest.{AreReady, IsReady, firsts_of}, Shares.{IsShare, LeftIn}, Sharing.WereTaken}
-use Rattle.lert_ingest.proofs.{Crew.{left_in, part_first}, Ended.{IsConeHeld, is_back}, Told.{IsListOf, list_of}}
+use Rattle.lert_ingest.proofs.{Crew.{left_in, part_first}, Ended.{IsConeHeld, is_back}, PartLaws.All-behind, Told.{IsListOf, list_of}}
 
 -- a filter that all pass
 filter_all : {A : Type 0} (number : A → ℕ) (xs : List A) (n : ℕ) → All (λ x. number x ≡ n) xs → filter (λ x. eqb (number x) n) xs ≡ xs
@@ -26,9 +26,6 @@ filter_all number (x ∷ xs) n all =
 map_back : {A C : Type 0} (P : C → Type 0) (f : A → C) (xs : List A) → All P (map f xs) → All (λ x. P (f x)) xs
 map_back P f [] all = All-nil (λ x. P (f x))
 map_back P f (x ∷ xs) all = All-cons (λ y. P (f y)) x xs (All-head P (f x) (map f xs) all) (map_back P f xs (All-tail P (f x) (map f xs) all))
-
-All-behind : {X : Type 0} (P : X → Type 0) (xs ys : List X) → All P (xs ++ ys) → All P ys
-All-behind P xs ys all = λ k d below. subst P (get_or-append-add xs ys k d) (all (length xs + k) d (omega (arith, below, length-append xs ys)))
 
 -- what a run of a worker may be told by
 pub record Choice : Type 0 where

@@ -1,13 +1,14 @@
 -- A cone that came back from its lock, by its lock's history.
-use Rattle.std.proofs.{Common.{◌≡◌, ◌≢◌, ◌⊎◌, ℕ, ◌+◌, ◌<◌, Bool, false, eqb, List, [], ◌++◌, length, get_or, Option, Some, None, refl, ap, sym, ◌∙◌, subst, inl, inr}, lemmas.Bool.eq-eqb}
+use Rattle.std.proofs.{Common.{◌≡◌, ◌≢◌, ◌⊎◌, ℕ, ◌<◌, Bool, false, eqb, List, [], ◌++◌, length, get_or, Option, Some, None, refl, ap, sym, ◌∙◌, subst, inl, inr}, lemmas.Bool.eq-eqb}
 use Rattle.std.proofs.{lemmas.List.Elements.Contains-get_or, lemmas.Option.{none-some, same_Some}}
 use Rattle.std.specs.Prelude.{Contains, IsTrue}
-use Rattle.lert_base.specs.{declared.held.Held.{Ghosts as HeldOf}, Packet.{Packet, events_of, own}, declared.cone_fault.ConeFault.ConeFault, declared.cone_fault.ConeFault.TheVariants.CapacityFull}
+use Rattle.lert_base.specs.{declared.held.Held.{Ghosts as HeldOf}, Packet.{Packet, events_of, own}, declared.cone_fault.ConeFault.ConeFault}
 use Rattle.lert_bay.specs.Files.{Files}
-use Rattle.lert_cone.specs.{Listing.Listing, Stands.{Standing, StandsFor, Terms, WereSound, is_broken, is_finished, terms_of}, declared.state.ConeState.TheVariants.Running}
+use Rattle.lert_cone.specs.{Listing.Listing, Locked.RefusesUnder, Refuses.IsRefused, declared.state.ConeState.TheVariants.Running}
+use Rattle.lert_cone.specs.Stands.{Standing, StandsFor, Terms, WereSound, is_broken, is_finished, terms_of}
 use Rattle.lert_conelock.proofs.Contained.{Contains-filter, Contains-filter_back}
 use Rattle.lert_conelock.specs.{Prefix.IsPrefix, Sight.{Closed, LockSight, Sight, own_refused}}
-use Rattle.lert_spec.specs.{declared.numbers.Numbers.Numbers, Edges.capacity}
+use Rattle.lert_spec.specs.{declared.numbers.Numbers.Numbers, Counts.{weighed, weight_of}}
 use Rattle.lert_ingest.specs.{Back.{IsBack, IsFullAt}, Bays.IsLater, Cones.IsNew}
 
 -- what a cone is under a lock
@@ -17,8 +18,7 @@ pub record IsConeHeld {B R : Type 0} (files : B → Option Files) (leaves : B �
   pub stood : (cone : Standing B) (history : List Packet) → StandsFor files leaves faults cone history → held.stands_for cone history
   pub stopped_is : (cone : Standing B) → IsTrue (held.stopped cone) → cone.state ≢ Running
   pub over_is : (cone : Standing B) → held.over cone ≡ cone.over
-  pub refuses : (terms : Terms B) (history : List Packet) (packet : Packet) (fault : ConeFault) → held.refuses terms history packet fault →
-      (fault ≡ CapacityFull (length (events_of history)) (length packet.items)) × (capacity terms.settings < length (events_of history) + length packet.items)
+  pub refuses : (terms : Terms B) (history : List Packet) (packet : Packet) (fault : ConeFault) → held.refuses terms history packet fault → RefusesUnder terms history packet fault
 
 module _ {B R : Type 0} (files : B → Option Files) (leaves : B → Files → Type 0) (faults mark : B → ℕ) (held : HeldOf (Standing B) (Terms B) R ConeFault)
     (is_held : IsConeHeld files leaves faults mark held) (s : Numbers) (workers number : ℕ) (added : ℕ → List Packet) (turned : ℕ → List (Packet × ConeFault)) (first closed : Standing B)
@@ -34,7 +34,7 @@ module _ {B R : Type 0} (files : B → Option Files) (leaves : B → Files → T
 
   -- those of a cone that takes packets
   abbrev running : Numbers → ℕ → Bool → Terms B
-  running t n finished = record { settings = t; cone = n; made = first.made; finished = finished; faults = faults first.made; mark = mark first.made }
+  running t n finished = record (terms_of faults mark first) { settings = t; cone = n; finished = finished }
 
   first_terms : terms_of faults mark first ≡ running s number false
   first_terms = ap (λ (l : Listing). running l.settings l.cone (is_finished first.state)) new.listing_is ∙ ap (running s number) (ap is_finished new.state_is)
@@ -82,8 +82,9 @@ module _ {B R : Type 0} (files : B → Option Files) (leaves : B → Files → T
           inr (record {
             past = rule.0;
             begins = rule.1;
-            fault_is = why.0;
-            over = subst (λ (t : Terms B). capacity t.settings < length (events_of rule.0) + length e.items) terms why.1;
+            version = (held.terms lock.first).version;
+            refused = subst (λ (t : Numbers). IsRefused t (held.terms lock.first).version (length (events_of rule.0)) (weight_of weighed (events_of rule.0)) e.items f)
+                (ap (λ (t : Terms B). t.settings) terms) why;
           })
 
   pub is_back : IsLater files faults mark first.bay closed.bay → (is_broken closed.state ≡ false → closed.listing.closed ≡ is_finished closed.state) →

@@ -4,12 +4,13 @@ use Rattle.std.proofs.{lemmas.List.{length-take, take-append-drop}, lemmas.Optio
 use Rattle.std.specs.Prelude.{All}
 use Rattle.lert_base.specs.{declared.held.Held.{Ghosts as HeldOf}, Packet.Packet, declared.cone_fault.ConeFault.ConeFault}
 use Rattle.lert_bay.specs.Files.{Files}
-use Rattle.lert_cone.specs.{History.written, Listing.Listing, Stands.{Standing, Terms, terms_of}}
+use Rattle.lert_cone.specs.{History.most_version, Listing.Listing, Stands.{Standing, Terms, terms_of}}
 use Rattle.lert_conelock.specs.Sight.{LockSight}
 use Rattle.lert_fleet.proofs.Places.{some_at}
 use Rattle.lert_fleet.specs.Cones.{ClosesEach, FleetPassSight, FleetSight}
 use Rattle.lert_journal.specs.Payload.{IsJournaled}
-use Rattle.lert_spec.specs.declared.numbers.Numbers.{Numbers}
+use Rattle.lert_spec.specs.{declared.numbers.Numbers.Numbers, Items.{AreOfVersion, keys_in}}
+use Rattle.lert_spec.proofs.ItemLaws.{units_are, units_of_version}
 use Rattle.lert_worker.specs.{Brings.MayBring, Ran.{MayRun, Working}}
 use Rattle.lert_ingest.specs.{Back.AreSeen, Cones.AreNew, Crew.{AllQuiet, Brought, EachShows, IsPassFrom, IsQuiet, Shows, Turned}, Crews.fresh_reader}
 use Rattle.lert_ingest.specs.{Faults.{earlier, earliest, end_fault, end_of, fault_at}, Ingest.{AreReady, HasCrewRun, HasIngested, answer_of, firsts_of}, Sharing.{AreManned, WereTaken}}
@@ -63,7 +64,7 @@ module _ {S B R : Type 0} (remaining : S → Option (List ℕ)) (s_faults s_mark
     (new : AreNew files leaves b_faults s (firsts_of fleet)) (numbers : (cone : ℕ) (lock : LockSight (Standing B)) → slice_get fleet cone ≡ Some lock → lock.numbers ≡ workers)
     (cones_are : length fleet ≡ 2 ^ s.cone_bits) where
   -- each worker may run
-  pub may_run : workers ≤ 64 → ((terms : Terms B) (packet : Packet) → IsJournaled written terms.settings terms.cone packet → held.fits terms packet) → All (MayRun held fleet) olds
+  pub may_run : workers ≤ 64 → ((terms : Terms B) (packet : Packet) → IsJournaled most_version terms.settings terms.cone packet → held.fits terms packet) → All (MayRun held fleet) olds
   may_run most fits = λ k d below.
       let there = slice_get-get_or olds k d below in
       let one = are k (get_or olds k d) there in
@@ -74,26 +75,27 @@ module _ {S B R : Type 0} (remaining : S → Option (List ℕ)) (s_faults s_mark
         number_most = (let n = one.number_is in omega (arith, n, below, size, most));
         cones = cones_are ∙ ap (λ (t : Numbers). 2 ^ t.cone_bits) (sym one.settings_is);
         fits = λ cone lock lock_is packet may. fits (held.terms lock.first) packet
-            (fit cone lock lock_is packet (subst (λ (t : Numbers). IsJournaled written t cone packet) one.settings_is (journaled_of _ cone packet may)));
+            (fit cone lock lock_is packet (subst (λ (t : Numbers). IsJournaled most_version t cone packet) one.settings_is (journaled_of _ cone packet may)));
       }
     where
-      -- what a worker may bring may stand in the journal
-      journaled_of : (t : Numbers) (cone : ℕ) (packet : Packet) → MayBring t cone packet → IsJournaled written t cone packet
+      -- what a worker may bring may be handed to a cone
+      journaled_of : (t : Numbers) (cone : ℕ) (packet : Packet) → MayBring t cone packet → IsJournaled most_version t cone packet
       journaled_of t cone packet may = record {
         some = may.some;
         few = may.few;
         by_most = may.by_most;
         trace_most = may.trace_most;
         of_cone = may.of_cone;
-        weighed = may.weights;
+        weighed = subst (AreOfVersion most_version) (sym (units_are packet.items may.weights)) (units_of_version most_version (keys_in packet.items));
       }
 
-      fit : (cone : ℕ) (lock : LockSight (Standing B)) → slice_get fleet cone ≡ Some lock → (packet : Packet) → IsJournaled written s cone packet →
-          IsJournaled written (held.terms lock.first).settings (held.terms lock.first).cone packet
+      fit : (cone : ℕ) (lock : LockSight (Standing B)) → slice_get fleet cone ≡ Some lock → (packet : Packet) → IsJournaled most_version s cone packet →
+          IsJournaled most_version (held.terms lock.first).settings (held.terms lock.first).cone packet
       fit cone lock lock_is packet journaled =
           let first = new cone lock.first (mapped fleet cone lock lock_is) in
           let terms : held.terms lock.first ≡ terms_of b_faults b_mark lock.first = is_held.terms_are lock.first in
-          subst (λ (t : Terms B). IsJournaled written t.settings t.cone packet) (sym terms) (subst (λ (l : Listing). IsJournaled written l.settings l.cone packet) (sym first.listing_is) journaled)
+          subst (λ (t : Terms B). IsJournaled most_version t.settings t.cone packet) (sym terms)
+          (subst (λ (l : Listing). IsJournaled most_version l.settings l.cone packet) (sym first.listing_is) journaled)
         where
           mapped : (locks : FleetSight (Standing B)) (k : ℕ) (l : LockSight (Standing B)) → slice_get locks k ≡ Some l → slice_get (firsts_of locks) k ≡ Some l.first
           mapped [] k l is = absurd (none-some l is)

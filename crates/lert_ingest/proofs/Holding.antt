@@ -1,8 +1,9 @@
 -- What the files of a cone hold that came back from its lock, by what all workers left in it.
 use Rattle.std.proofs.Common.{◌≡◌, ◌≢◌, ◌⊎◌, ℕ, ◌+◌, ◌%◌, ◌<◌, ◌≤◌, Bool, true, false, List, [], ◌∷◌, ◌++◌, length, Option, Some, slice_get, refl, ap, sym, ◌∙◌, subst, inl, inr, arith, length-append}
-use Rattle.std.proofs.lemmas.List.Concat.{flat_map-append}
+use Rattle.std.proofs.{lemmas.List.Concat.flat_map-append, lemmas.List.Elements.{All-contains, Contains-push}}
 use Rattle.std.specs.Prelude.{All, Contains}
 use Rattle.lert_base.specs.{Beginning.BeginsWith, Packet.{Packet, events_of, of_trace}, Weave.{IsPartWoven, IsWhole}, declared.cone_fault.ConeFault.ConeFault}
+use Rattle.lert_base.specs.declared.cone_fault.ConeFault.TheVariants.{CapacityFull}
 use Rattle.lert_bay.specs.Files.{Files, IfTold}
 use Rattle.lert_cone.specs.{Sound.{IsSound, IsSoundAs, IsSoundOver}, Stands.{Standing, is_broken}, declared.state.ConeState.TheVariants.Running}
 use Rattle.lert_conelock.proofs.Contained.{item_here}
@@ -10,6 +11,7 @@ use Rattle.lert_spec.specs.{declared.item.Item.Item, declared.numbers.Numbers.Nu
 use Rattle.lert_worker.specs.{Brings.HasNoRest, declared.end.WorkerEnd.WorkerEnd, declared.end.WorkerEnd.TheVariants.{Ran, Cone}}
 use Rattle.lert_ingest.specs.{Back.{IsBack, IsFullAt}, Bays.{HoldsKeys, HoldsOpen, HoldsPart}, Shares.{IsShare, LeftIn}, Stops.IsWeaving, Traces.part_length}
 use Rattle.lert_ingest.proofs.{Counting.{part_count, woven_count}, Crew.{crew_part, crew_turned, crew_woven, was_turned}, Gathering.of_trace-own}
+use Rattle.lert_ingest.proofs.{LightLaws.{IsLight, by_capacity, light_events, woven_light}, PartLaws.All-front}
 
 module _ {B : Type 0} (files : B → Option Files) (leaves : B → Files → Type 0) (faults mark : B → ℕ) (s : Numbers) (workers : ℕ) (some : 1 ≤ workers) (number : ℕ)
     (traces : List (List ℕ)) (shares : ℕ → List ℕ) (reads : ℕ → List (List ℕ)) (stopped : ℕ → ℕ) (ends : ℕ → WorkerEnd)
@@ -92,6 +94,15 @@ module _ {B : Type 0} (files : B → Option Files) (leaves : B → Files → Typ
       sound = of_cone back.history seen (back.stands.whole (ap is_broken running) back.sound seen told).files.kept.as_read.sound;
     }
 
+    -- the items of the packet and those before it weigh 1 each, so it is refused over the capacity
+    pub over_capacity : (by : ℕ) → by < workers → (e : Packet) (f : ConeFault) → Contains (turned by) (e, f) → (full : IsFullAt s back.history e f) →
+        (f ≡ CapacityFull (length (events_of full.past)) (length e.items)) × (capacity s < length (events_of full.past) + length e.items)
+    over_capacity by below e f has full =
+        let light = woven_light s number workers traces (back.history ++ e ∷ []) (woven_over by below e f has) in
+        let past = All-front IsLight full.past full.begins.rest (subst (All IsLight) full.begins.splits (All-front IsLight back.history (e ∷ []) light)) in
+        by_capacity s full.version (events_of full.past) e.items (light_events full.past past) (All-contains IsLight (back.history ++ e ∷ []) e light (Contains-push back.history e)) f
+        full.refused
+
     -- where the keys of all traces are few enough, nothing is refused over the capacity
     pub none_full : part_length s number traces ≤ capacity s → closed.state ≡ Running → (by : ℕ) → by < workers → (f : ConeFault) → ends by ≡ Cone number f → ⊥
     none_full fits running by below f is = by_case (back.refusals by below e.0 f has)
@@ -104,7 +115,7 @@ module _ {B : Type 0} (files : B → Option Files) (leaves : B → Files → Typ
 
         by_case : (closed.state ≢ Running) ⊎ IsFullAt s back.history e.0 f → ⊥
         by_case (inl stopped) = stopped running
-        by_case (inr full) = let many = enough by below e.0 f has full in let over = full.over in omega (arith, fits, many, over)
+        by_case (inr full) = let many = enough by below e.0 f has full in let over = (over_capacity by below e.0 f has full).1 in omega (arith, fits, many, over)
 
   -- all ran to their ends
   pub is_weaving : ((by place trace : ℕ) (whole : List ℕ) → by < workers → slice_get (shares by) place ≡ Some trace → slice_get traces trace ≡ Some whole →

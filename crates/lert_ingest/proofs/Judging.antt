@@ -1,5 +1,5 @@
 -- What the fault shows that is answered, where a crew of workers stopped.
-use Rattle.std.proofs.{Common.{◌≡◌, ◌≢◌, ◌⊎◌, ℕ, ◌%◌, ◌<◌, ◌≤◌, List, [], ◌∷◌, ◌++◌, length, Some, slice_get, refl, ap, sym, ◌∙◌, subst, inl, inr, arith}, lemmas.List.length-map}
+use Rattle.std.proofs.{Common.{◌≡◌, ◌≢◌, ◌⊎◌, ℕ, ◌+◌, ◌%◌, ◌<◌, ◌≤◌, List, [], ◌∷◌, ◌++◌, length, Some, slice_get, refl, ap, sym, ◌∙◌, subst, inl, inr, arith}, lemmas.List.length-map}
 use Rattle.std.proofs.{lemmas.List.Elements.{All-contains, Contains-push}, lemmas.Option.{get_or_from_slice_get, none-some, same_Some, slice_get_within}}
 use Rattle.std.specs.Prelude.{All, Contains}
 use Rattle.lert_base.specs.{Beginning.BeginsWith, Packet.{Packet, events_of}, declared.cone_fault.ConeFault.ConeFault}
@@ -10,17 +10,28 @@ use Rattle.lert_cone.specs.declared.state.ConeState.{ConeState}
 use Rattle.lert_cone.specs.declared.state.ConeState.TheVariants as state
 use Rattle.lert_conelock.proofs.Contained.{item_here}
 use Rattle.lert_io.specs.Fault.{HasRisen, IsFaultless}
+use Rattle.lert_spec.specs.Edges.{capacity}
 use Rattle.lert_trace.specs.Trace.{left}
 use Rattle.lert_trace.specs.{Reader.Means, declared.fault.TraceFault.TraceFault}
 use Rattle.lert_trace.specs.declared.fault.TraceFault.TheVariants as trace_fault
 use Rattle.lert_worker.specs.{Brings.{HasNoRest, IsOwn}, Ran.StillOpen, Ends.Stopped, declared.end.WorkerEnd.WorkerEnd}
 use Rattle.lert_worker.specs.declared.end.WorkerEnd.TheVariants as end
-use Rattle.lert_ingest.specs.{Back.{IsBack, IsFullAt}, Bays.{AreLater, ArePartWoven, HoldsKeys, HoldsPart, IsLater, bays_of}}
+use Rattle.lert_ingest.specs.{Back.{IsBack, IsFullAt}, Bays.{AreLater, ArePartWoven, HoldsPart, IsLater, bays_of}}
 use Rattle.lert_ingest.specs.{Faults.{earliest, end_fault, fault_at, fault_of, full_fault, rank, state_fault}, Shares.{IsShare, LeftIn}, Status.stop_status, Stops.{AreOpenPartly, StopShows}}
 use Rattle.lert_ingest.specs.{Traces.most_keys, declared.status.Status.Status}
 use Rattle.lert_ingest.specs.declared.status.Status.TheVariants as status
 use Rattle.lert_ingest.proofs.{BayLaws.{bay_at, slice_get-some, untold_since}, Crew.{turned_part, was_turned}, Crewed.{Crewed, first_fault}, FaultOrder.{IsFirstOf, each_of, of_all, of_two}}
-use Rattle.lert_ingest.proofs.{Holding.{enough, holds_keys, holds_open, holds_part, no_rest_of}, Told.{all_begun, all_keys, are_keys}}
+use Rattle.lert_ingest.proofs.{Holding.{enough, holds_keys, holds_open, holds_part, no_rest_of, over_capacity}, Told.{all_begun, all_keys, are_keys}}
+
+-- a full cone ranks behind all that break one
+full_ranks : (cone : ℕ) (f : ConeFault) (one : Status) → full_fault cone f ≡ Some one → 6 ≤ rank one
+full_ranks cone fault.Closed one none = absurd (none-some one none)
+full_ranks cone fault.Broken one none = absurd (none-some one none)
+full_ranks cone (fault.CapacityFull n len) one some = subst (λ (x : Status). 6 ≤ rank x) (same_Some (status.CapacityFull cone n len) one some) (omega arith)
+full_ranks cone fault.BayFailed one none = absurd (none-some one none)
+full_ranks cone (fault.Unsound file at) one none = absurd (none-some one none)
+full_ranks cone (fault.WeightFull weight more) one some = subst (λ (x : Status). 6 ≤ rank x) (same_Some (status.WeightFull cone weight more) one some) (omega arith)
+full_ranks cone (fault.OldJournal place) one none = absurd (none-some one none)
 
 module _ {S B : Type 0} (crew : Crewed S B) where
   open crew.read use {remaining, s_faults, s_mark, workers, some, opened, laters, shares, reads, was, readings, places, stopped, ends, run}
@@ -211,70 +222,62 @@ module _ {S B : Type 0} (crew : Crewed S B) where
           shows (trace_fault.CutKey at) stop = bad at stop (λ bytes told. (stop.means.1 bytes told).place)
           shows trace_fault.TooLong stop = StopShows.too_long trace (record { before = stop.before; was = stop.opened_is; told = stop.means.1 }) opens
 
-      -- a cone that refused a packet over its capacity
-      by_full : (cone n len : ℕ) → ends by ≡ end.Cone cone (fault.CapacityFull n len) → 6 ≤ rank one →
-          Shows (status.CapacityFull cone n len)
-      by_full cone n len is above = shows (c.back.refusals by below e.0 f has)
-        where
-          f : ConeFault
-          f = fault.CapacityFull n len
+      -- a cone that refused a packet by its rule, which is one over its capacity
+      module _ (cone : ℕ) (f : ConeFault) (is : ends by ≡ end.Cone cone f) (above : 6 ≤ rank one) where
+        c : IsCone cone
+        c = cone_at cone (left_by.named by cone f below is)
 
-          c : IsCone cone
-          c = cone_at cone (left_by.named by cone f below is)
+        e : (e : Packet) × (turned cone by ≡ (e, f) ∷ [])
+        e = was_turned s by cone (shares by) (reads by) (stopped by) (ends by) (added cone by) (turned cone by) (c.left by below) cone f is refl
 
-          e : (e : Packet) × (turned cone by ≡ (e, f) ∷ [])
-          e = was_turned s by cone (shares by) (reads by) (stopped by) (ends by) (added cone by) (turned cone by) (c.left by below) cone f is refl
+        has : Contains (turned cone by) (e.0, f)
+        has = subst (λ (xs : List (Packet × ConeFault)). Contains xs (e.0, f)) (sym e.1) (item_here (e.0, f) [])
 
-          has : Contains (turned cone by) (e.0, f)
-          has = subst (λ (xs : List (Packet × ConeFault)). Contains xs (e.0, f)) (sym e.1) (item_here (e.0, f) [])
+        full : IsFullAt s c.back.history e.0 f
+        full = elim (c.back.refusals by below e.0 f has) [ inl broke ↦ absurd (broke (running_all above cone c)) | inr refused ↦ refused ]
 
-          opens : OpenPartly (λ other t. (cone ≤ other) × (t ≡ stopped by))
-          opens = open_partly (λ other t. (cone ≤ other) × (t ≡ stopped by)) (λ other trace c at. none_at (end.Cone cone f) is (λ e. absurd (let clash = e in cc)) other trace c at.0 at.1)
+        abbrev n : ℕ
+        n = length (events_of full.past)
 
-          shows : (c.closed.state ≢ state.Running) ⊎ IsFullAt s c.back.history e.0 f →
-              Shows (status.CapacityFull cone n len)
-          shows (inl stopped) = absurd (stopped (running_all above cone c))
-          shows (inr full) =
-              let same : (n ≡ length (events_of full.past)) × (len ≡ length e.0.items) = full_same n len (length (events_of full.past)) (length e.0.items) full.fault_is in
-              let own_e = last_own (shares by) (added cone by) e.0
-              (turned_part s by cone (shares by) (reads by) (stopped by) (ends by) (added cone by) (turned cone by) (c.left by below) e.0 f e.1).each in
-              let many = enough files leaves b_faults b_mark s workers some cone traces shares reads stopped ends shared (added cone) (turned cone) c.left c.first c.closed c.back begun by
-              below e.0 f has full in
-              let keys = holds_keys files leaves b_faults b_mark s workers some cone traces shares reads stopped ends shared (added cone) (turned cone) c.left c.first c.closed c.back begun
-              e.0 f full (running_all above cone c) in
-              let first_one = own_e.some in
-              let few = own_e.few in
-              let over = full.over in
-              StopShows.capacity_full cone n len (record {
-                named = subst (λ k. cone < k) left_by.cones_are (left_by.named by cone f below is);
-                some = omega (arith, first_one, same.1);
-                few = omega (arith, few, same.1);
-                over = omega (arith, over, same.0, same.1);
-                journal = λ bay there seen told.
-                    let bay_is = same_Some c.closed.bay bay (sym (bay_at backs cone c.closed c.closed_is) ∙ there) in
-                    subst (λ k. HoldsKeys s k cone seen) (sym same.0) (keys seen (ap files bay_is ∙ told));
-              }) (record { traces = traces; keys = are_keys crew.read; enough = omega (arith, many, same.0, same.1) }) (stopped by) opens
-            where
-              full_same : (n len m more : ℕ) → fault.CapacityFull n len ≡ fault.CapacityFull m more → (n ≡ m) × (len ≡ more)
-              full_same n len m more e = (let same : n ≡ m = cc in same, let same : len ≡ more = cc in same)
+        abbrev len : ℕ
+        len = length e.0.items
 
-              last_own : (share : List ℕ) (xs : List Packet) (x : Packet) → All (IsOwn s by share) (xs ++ x ∷ []) → IsOwn s by share x
-              last_own share xs x all = All-contains (IsOwn s by share) (xs ++ x ∷ []) x all (Contains-push xs x)
+        over : (f ≡ fault.CapacityFull n len) × (capacity s < n + len)
+        over = over_capacity files leaves b_faults b_mark s workers some cone traces shares reads stopped ends shared (added cone) (turned cone) c.left c.first c.closed c.back begun by below
+            e.0 f has full
+
+        opens : OpenPartly (λ other t. (cone ≤ other) × (t ≡ stopped by))
+        opens = open_partly (λ other t. (cone ≤ other) × (t ≡ stopped by)) (λ other trace c at. none_at (end.Cone cone f) is (λ e. absurd (let clash = e in cc)) other trace c at.0 at.1)
+
+        by_full : Shows (status.CapacityFull cone n len)
+        by_full =
+            let own_e = last_own (shares by) (added cone by) e.0
+            (turned_part s by cone (shares by) (reads by) (stopped by) (ends by) (added cone by) (turned cone by) (c.left by below) e.0 f e.1).each in
+            let many = enough files leaves b_faults b_mark s workers some cone traces shares reads stopped ends shared (added cone) (turned cone) c.left c.first c.closed c.back begun by
+            below e.0 f has full in
+            let keys = holds_keys files leaves b_faults b_mark s workers some cone traces shares reads stopped ends shared (added cone) (turned cone) c.left c.first c.closed c.back begun
+            e.0 f full (running_all above cone c) in
+            StopShows.capacity_full cone n len (record {
+              named = subst (λ k. cone < k) left_by.cones_are (left_by.named by cone f below is);
+              some = own_e.some;
+              few = own_e.few;
+              over = over.1;
+              journal = λ bay there seen told.
+                  let bay_is = same_Some c.closed.bay bay (sym (bay_at backs cone c.closed c.closed_is) ∙ there) in
+                  keys seen (ap files bay_is ∙ told);
+            }) (record { traces = traces; keys = are_keys crew.read; enough = many }) (stopped by) opens
+          where
+            last_own : (share : List ℕ) (xs : List Packet) (x : Packet) → All (IsOwn s by share) (xs ++ x ∷ []) → IsOwn s by share x
+            last_own share xs x all = All-contains (IsOwn s by share) (xs ++ x ∷ []) x all (Contains-push xs x)
 
       by_end : (e : WorkerEnd) → ends by ≡ e → end_fault e ≡ Some one → Shows one
       by_end end.Ran is none = absurd (none-some one none)
       by_end (end.Trace trace f) is same =
           subst Shows (same_Some (stop_status trace f) one same) (by_fault trace f is)
-      by_end (end.Cone cone f) is same = cone_end f is same
-        where
-          cone_end : (f : ConeFault) → ends by ≡ end.Cone cone f → full_fault cone f ≡ Some one → Shows one
-          cone_end fault.Closed is none = absurd (none-some one none)
-          cone_end fault.Broken is none = absurd (none-some one none)
-          cone_end (fault.CapacityFull n len) is some =
-              let which = same_Some (status.CapacityFull cone n len) one some in
-              subst Shows which (by_full cone n len is (subst (λ (x : Status). 6 ≤ rank x) which (omega arith)))
-          cone_end fault.BayFailed is none = absurd (none-some one none)
-          cone_end (fault.Unsound file at) is none = absurd (none-some one none)
+      by_end (end.Cone cone f) is same =
+          let above = full_ranks cone f one same in
+          let which = sym (ap (full_fault cone) (over cone f is above).0) ∙ same in
+          subst Shows (same_Some (status.CapacityFull cone (n cone f is above) (len cone f is above)) one which) (by_full cone f is above)
 
     -- a cone broke: which traces were still open isn't said
     open_broken : OpenPartly (λ _ _. ⊥)

@@ -1,18 +1,18 @@
 -- What is known of a cone that came back from its lock.
-use Rattle.std.specs.Prelude.{◌≡◌, ◌≢◌, ◌⊎◌, ℕ, ◌+◌, ◌<◌, ◌≤◌, false, All, Contains, List, length, Option, Some, slice_get}
-use Rattle.lert_base.specs.{Packet.{Packet, events_of, own}, declared.cone_fault.ConeFault.ConeFault, declared.cone_fault.ConeFault.TheVariants.CapacityFull}
+use Rattle.std.specs.Prelude.{◌≡◌, ◌≢◌, ◌⊎◌, ℕ, ◌<◌, ◌≤◌, false, All, Contains, List, length, Option, Some, slice_get}
+use Rattle.lert_base.specs.{Packet.{Packet, events_of, own}, declared.cone_fault.ConeFault.ConeFault}
 use Rattle.lert_bay.specs.Files.{Files, Turns}
-use Rattle.lert_cone.specs.{Stands.{Standing, StandsFor, WasSound, is_broken, is_finished}, declared.state.ConeState.TheVariants.Running, Wrote.Anything}
+use Rattle.lert_cone.specs.{Refuses.IsRefused, Stands.{Standing, StandsFor, WasSound, is_broken, is_finished}, declared.state.ConeState.TheVariants.Running, Wrote.Anything}
 use Rattle.lert_conelock.specs.Prefix.{IsPrefix}
-use Rattle.lert_spec.specs.{declared.numbers.Numbers.Numbers, Edges.capacity}
+use Rattle.lert_spec.specs.{declared.numbers.Numbers.Numbers, Counts.{weighed, weight_of}}
 use Rattle.lert_ingest.specs.Bays.{IsLater}
 
--- a packet was refused since the cone had as many keys as the first packets of a history, and takes no such packet besides
+-- a packet was refused by its cone's rule, as the cone had the items of the first packets of a history, in files of some version
 pub record IsFullAt (s : Numbers) (history : List Packet) (packet : Packet) (fault : ConeFault) : Type 0 where
   pub past : List Packet
   pub begins : IsPrefix past history
-  pub fault_is : fault ≡ CapacityFull (length (events_of past)) (length packet.items)
-  pub over : capacity s < length (events_of past) + length packet.items
+  pub version : ℕ
+  pub refused : IsRefused s version (length (events_of past)) (weight_of weighed (events_of past)) packet.items fault
 
 -- what a look at a cone says of its bay since the cone was made, and of its closing record
 pub record IsSeen {B : Type 0} (files : B → Option Files) (faults mark : B → ℕ) (cone : Standing B) : Type 0 where
@@ -23,7 +23,7 @@ abbrev pub AreSeen : {B : Type 0} → (B → Option Files) → (B → ℕ) → (
 AreSeen {B = B} files faults mark cones = (place : ℕ) (cone : Standing B) → slice_get cones place ≡ Some cone → IsSeen files faults mark cone
 
 -- A cone of a number came back from its lock: it stands for what its numbers' calls brought, in some order, and it isn't finished.
--- What it left over was refused, and each refusal is one over its capacity, or the cone takes no more
+-- What it left over was refused, and each refusal is one by its rule, or the cone takes no more
 pub record IsBack {B : Type 0} (files : B → Option Files) (leaves : B → Files → Type 0) (faults mark : B → ℕ) (s : Numbers) (workers number : ℕ)
     (added : ℕ → List Packet) (turned : ℕ → List (Packet × ConeFault)) (first closed : Standing B) : Type 0 where
   pub history : List Packet

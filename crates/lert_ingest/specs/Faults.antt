@@ -1,6 +1,6 @@
 -- Which fault of several is answered: that of the lowest trace; else the lowest bad trace; else the lowest trace too long; else the
--- lowest cone that its bay broke; else the lowest that a read broke; else the lowest that is full. Want of memory is none
--- of these: a cone has all its memory by then, and for the rest it is answered before a trace is read.
+-- lowest cone that its bay broke; else the lowest that a read broke; else the lowest that is full; else the lowest whose weight is.
+-- Want of memory is none of these: a cone has all its memory by then, and for the rest it is answered before a trace is read.
 use Rattle.std.specs.Prelude.{ℕ, zero, suc, ◌==◌, nat_lt, ◌&&◌, ◌||◌, Bool, List, Option, Some, None, slice_get, if◌then◌else◌}
 use Rattle.lert_cone.specs.Stands.{Standing}
 use Rattle.lert_base.specs.declared.cone_fault.ConeFault.{ConeFault}
@@ -21,7 +21,8 @@ rank (status.TooLong trace) = 3
 rank (status.BayFault cone) = 4
 rank (status.Malformed cone file at) = 5
 rank (status.CapacityFull cone n len) = 6
-rank other = 7
+rank (status.WeightFull cone weight more) = 7
+rank other = 8
 
 -- the trace or the cone of a status
 abbrev pub number_in : Status → ℕ
@@ -31,6 +32,7 @@ number_in (status.TooLong trace) = trace
 number_in (status.NotFresh cone) = cone
 number_in (status.BayFault cone) = cone
 number_in (status.CapacityFull cone n len) = cone
+number_in (status.WeightFull cone weight more) = cone
 number_in (status.Malformed cone file at) = cone
 number_in (status.OtherSettings cone) = cone
 number_in other = 0
@@ -50,13 +52,15 @@ abbrev pub earliest : (ℕ → Option Status) → ℕ → Option Status
 earliest faults zero = None
 earliest faults (suc count) = earlier (earliest faults count) (faults count)
 
--- the fault of a cone that refused a packet over its capacity; where it refused for another cause its state says so
+-- the fault of a cone that refused a packet over its capacity or weight; where it refused for another cause its state says so
 abbrev pub full_fault : ℕ → ConeFault → Option Status
 full_fault cone cone_fault.Closed = None
 full_fault cone cone_fault.Broken = None
 full_fault cone (cone_fault.CapacityFull n len) = Some (status.CapacityFull cone n len)
 full_fault cone cone_fault.BayFailed = None
 full_fault cone (cone_fault.Unsound file at) = None
+full_fault cone (cone_fault.WeightFull weight more) = Some (status.WeightFull cone weight more)
+full_fault cone (cone_fault.OldJournal place) = None
 
 -- the fault of how a worker ended
 abbrev pub end_fault : WorkerEnd → Option Status

@@ -23,6 +23,7 @@ status_number (status.Malformed cone file at) = 9
 status_number (status.OtherSettings cone) = 10
 status_number status.OutFault = 11
 status_number status.OutOfMemory = 12
+status_number (status.WeightFull cone weight more) = 13
 
 -- the fields of a status in their order, with 0 for the rest of three
 abbrev pub status_fields : Status → ℕ × ℕ × ℕ
@@ -39,6 +40,7 @@ status_fields (status.Malformed cone file at) = (cone, file, at)
 status_fields (status.OtherSettings cone) = (cone, 0, 0)
 status_fields status.OutFault = (0, 0, 0)
 status_fields status.OutOfMemory = (0, 0, 0)
+status_fields (status.WeightFull cone weight more) = (cone, weight, more)
 
 abbrev pub stop_status : ℕ → TraceFault → Status
 stop_status trace fault.ReadFailed = status.TraceFault trace
@@ -46,13 +48,15 @@ stop_status trace (fault.BadHeader at) = status.BadTrace trace at
 stop_status trace (fault.CutKey at) = status.BadTrace trace at
 stop_status trace fault.TooLong = status.TooLong trace
 
--- a finished cone and a broken one refuse every call; none is met by a run
+-- a finished cone and a broken one refuse every call, and an old journal takes no weights; none is met by a run
 abbrev pub cone_status : ℕ → ConeFault → Status
 cone_status cone cone_fault.Closed = status.OutOfMemory
 cone_status cone cone_fault.Broken = status.OutOfMemory
 cone_status cone (cone_fault.CapacityFull n len) = status.CapacityFull cone n len
 cone_status cone cone_fault.BayFailed = status.BayFault cone
 cone_status cone (cone_fault.Unsound file at) = status.Malformed cone file at
+cone_status cone (cone_fault.WeightFull weight more) = status.WeightFull cone weight more
+cone_status cone (cone_fault.OldJournal place) = status.OutOfMemory
 
 -- why no cone is made over a bay
 abbrev pub create_status : ℕ → CreateFault → Status

@@ -62,7 +62,8 @@ module _ {S B : Type 0} (remaining : S → Option (List ℕ)) (faults : S → �
     pub keys : AreKeysOf remaining opened traces
     pub enough : HasThem s traces cone n len
 
-  -- why traces weren't all read into cones, by the traces and the bays as they were and as they are: a row for each status that can come
+  -- why traces weren't all read into cones, by the traces and the bays as they were and as they are: a row for each status that can
+  -- come. None is for a cone that takes no more weight: each item of a trace weighs 1, and a cone takes no more items than weight
   pub data StopShows : Status → Type 0 where
     trace_fault : (trace : ℕ) → HasTraceFailed faults opened now trace → AreOpenPartly (λ _ other. other ≡ trace) → StopShows (TraceFault trace)
     bad_trace : (trace at : ℕ) → IsOpened remaining opened trace (λ bytes. left bytes ≡ Some at) → AreOpenPartly (λ _ other. other ≡ trace) → StopShows (BadTrace trace at)

@@ -12,7 +12,7 @@ use lert_io::Source;
 use lert_worker::{Worker, WorkerEnd};
 
 /// The fault that is answered of how workers ended: that of the lowest trace; else the lowest bad trace; else the lowest trace that is
-/// too long; else the lowest cone that is full. None exactly where they show none.
+/// too long; else the lowest cone that is full; else the lowest whose weight is. None exactly where they show none.
 pub fn first_of_ends<S: Source, H: Held<Refusal = ConeFault>>(
     workers: &[Worker<S, H>],
 ) -> Option<Status>
@@ -78,12 +78,13 @@ fn rank(status: Status) -> u8
         Status::BayFault { .. } => 4,
         Status::Malformed { .. } => 5,
         Status::CapacityFull { .. } => 6,
-        Status::Done => 7,
-        Status::Usage { .. } => 7,
-        Status::PlaceFault => 7,
-        Status::NotFresh { .. } => 7,
-        Status::OtherSettings { .. } => 7,
-        Status::OutFault => 7,
+        Status::WeightFull { .. } => 7,
+        Status::Done => 8,
+        Status::Usage { .. } => 8,
+        Status::PlaceFault => 8,
+        Status::NotFresh { .. } => 8,
+        Status::OtherSettings { .. } => 8,
+        Status::OutFault => 8,
     }
 }
 
@@ -98,6 +99,11 @@ fn number_in(status: Status) -> u32
         Status::NotFresh { cone } => cone,
         Status::BayFault { cone } => cone,
         Status::CapacityFull { cone, n: _, len: _ } => cone,
+        Status::WeightFull {
+            cone,
+            weight: _,
+            more: _,
+        } => cone,
         Status::Malformed {
             cone,
             file: _,
@@ -112,7 +118,7 @@ fn number_in(status: Status) -> u32
     }
 }
 
-// The fault of how a worker ended. Where a cone refused for another cause than its capacity, its state says so.
+// The fault of how a worker ended. Where a cone refused for another cause than capacity or weight, its state says so.
 fn end_fault(end: WorkerEnd) -> Option<Status>
     ensures { result ≡ end_fault end }
 {
@@ -123,12 +129,14 @@ fn end_fault(end: WorkerEnd) -> Option<Status>
     }
 }
 
-// The fault of a cone that refused a packet over its capacity.
+// The fault of a cone that refused a packet over its capacity or weight.
 fn full_fault(cone: u32, fault: ConeFault) -> Option<Status>
     ensures { result ≡ full_fault cone fault }
 {
     match fault {
         ConeFault::CapacityFull { n, len } => Some(Status::CapacityFull { cone, n, len }),
+        ConeFault::WeightFull { weight, more } => Some(Status::WeightFull { cone, weight, more }),
+        ConeFault::OldJournal { .. } => None,
         ConeFault::Closed => None,
         ConeFault::Broken => None,
         ConeFault::BayFailed => None,

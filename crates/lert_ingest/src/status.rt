@@ -1,6 +1,6 @@
 //! How a run or a recovery ends.
 
-ghost use Rattle.std.specs.Prelude.{◌≡◌, ◌≢◌, ◌≤◌};
+ghost use Rattle.std.specs.Prelude.{◌≡◌, ◌≢◌, ◌≤◌, ℕ};
 ghost use Rattle.lert_ingest.specs.Status.{cone_status, status_fields, status_number, stop_status};
 
 use lert_cone::ConeFault;
@@ -38,13 +38,15 @@ pub enum Status {
     OutFault,
     /// There is no memory.
     OutOfMemory,
+    /// A cone's items weigh `weight`, and the `more` of the next packet is above what it takes besides.
+    WeightFull { cone: u32, weight: u64, more: u64 },
 }
 
 impl Status {
-    /// The number of the status, from 0 to 12.
+    /// The number of the status, from 0 to 13.
     pub fn number(self) -> u8
         ensures value { result ≡ status_number self }
-        ensures within { result ≤ 12 }
+        ensures within { result ≤ 13 }
     {
         match self {
             Status::Done => 0,
@@ -68,6 +70,11 @@ impl Status {
             Status::OtherSettings { cone: _ } => 10,
             Status::OutFault => 11,
             Status::OutOfMemory => 12,
+            Status::WeightFull {
+                cone: _,
+                weight: _,
+                more: _,
+            } => 13,
         }
     }
 
@@ -85,6 +92,7 @@ impl Status {
             | Status::OtherSettings { cone } => (u64::from(cone), 0, 0),
             Status::CapacityFull { cone, n, len } => (u64::from(cone), n, len),
             Status::Malformed { cone, file, at } => (u64::from(cone), u64::from(file), at),
+            Status::WeightFull { cone, weight, more } => (u64::from(cone), weight, more),
             Status::Done | Status::PlaceFault | Status::OutFault | Status::OutOfMemory => (0, 0, 0),
         }
     }
@@ -107,6 +115,7 @@ impl Status {
     pub fn of_cone(cone: u32, fault: ConeFault) -> Status
         requires running { fault ≢ ConeFault.Closed }
         requires whole { fault ≢ ConeFault.Broken }
+        requires counted { (place : ℕ) → fault ≢ ConeFault.OldJournal place }
         ensures { result ≡ cone_status cone fault }
     {
         match fault {
@@ -115,6 +124,8 @@ impl Status {
             ConeFault::CapacityFull { n, len } => Status::CapacityFull { cone, n, len },
             ConeFault::BayFailed => Status::BayFault { cone },
             ConeFault::Unsound { file, at } => Status::Malformed { cone, file, at },
+            ConeFault::WeightFull { weight, more } => Status::WeightFull { cone, weight, more },
+            ConeFault::OldJournal { .. } => unreachable!(),
         }
     }
 }

@@ -5,7 +5,8 @@ use Rattle.lert_base.specs.declared.cone_fault.ConeFault.TheVariants as fault
 use Rattle.lert_bay.specs.Files.{Files}
 use Rattle.lert_cone.specs.{Listing.Listing, Sound.{IsKept, IsSoundAs}, Stands.{Standing, is_broken}}
 use Rattle.lert_spec.specs.declared.numbers.Numbers.{Numbers}
-use Rattle.lert_ingest.specs.{Bays.bays_of, Status.cone_status, Stops.{AreWeaving, IsWeaving}, declared.status.Status.TheVariants.{BayFault, CapacityFull, Done, Malformed, OutOfMemory, PlaceFault}}
+use Rattle.lert_ingest.specs.{Bays.bays_of, Status.cone_status, Stops.{AreWeaving, IsWeaving}}
+use Rattle.lert_ingest.specs.declared.status.Status.TheVariants.{BayFault, CapacityFull, Done, Malformed, OutOfMemory, PlaceFault, WeightFull}
 use Rattle.lert_ingest.proofs.BayLaws.{bay_is, slice_get-some}
 use Rattle.lert_top.specs.{cones.Closed.{AreClosedInEach, AreReturnedClosed, IsClosedInEach}, cones.Finish.{AreFinished, IsFinished}}
 use Rattle.lert_top.proofs.cones.FinishLaws.{sound_still}
@@ -17,6 +18,9 @@ memory_not_done same = cc
 
 full_not_done : (cone n len : ℕ) → CapacityFull cone n len ≡ Done → ⊥
 full_not_done cone n len same = cc
+
+heavy_not_done : (cone weight more : ℕ) → WeightFull cone weight more ≡ Done → ⊥
+heavy_not_done cone weight more same = cc
 
 bay_not_done : (cone : ℕ) → BayFault cone ≡ Done → ⊥
 bay_not_done cone same = cc
@@ -33,6 +37,8 @@ stopped_not_done cone fault.Broken same = memory_not_done same
 stopped_not_done cone (fault.CapacityFull n len) same = full_not_done cone n len same
 stopped_not_done cone fault.BayFailed same = bay_not_done cone same
 stopped_not_done cone (fault.Unsound file at) same = unsound_not_done cone file at same
+stopped_not_done cone (fault.WeightFull weight more) same = heavy_not_done cone weight more same
+stopped_not_done cone (fault.OldJournal place) same = memory_not_done same
 
 -- ---- finished cones
 

@@ -114,6 +114,8 @@ module _ {B : Type 0} (files : B → Option Files) (leaves : B → Files → Typ
         by_fault fault.Closed broke = absurd (let clash = broke.broke in cc)
         by_fault fault.Broken broke = absurd (let clash = broke.broke in cc)
         by_fault (fault.CapacityFull n len) broke = absurd (let clash = broke.broke in cc)
+        by_fault (fault.WeightFull weight more) broke = absurd (let clash = broke.broke in cc)
+        by_fault (fault.OldJournal place) broke = absurd (let clash = broke.broke in cc)
         by_fault fault.BayFailed broke = end_failed stopped.cone (record {
           before = stopped.before.bay;
           now = stopped.now.bay;

@@ -136,6 +136,11 @@ fn status_of(stopped: Status) -> Status
         }
         | Status::OtherSettings { cone: _ }
         | Status::OutFault
-        | Status::OutOfMemory => Status::OutOfMemory,
+        | Status::OutOfMemory
+        | Status::WeightFull {
+            cone: _,
+            weight: _,
+            more: _,
+        } => Status::OutOfMemory,
     }
 }

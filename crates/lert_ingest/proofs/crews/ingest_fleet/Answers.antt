@@ -126,7 +126,7 @@ read_all-traces-requires-clause-may g c = λ κs h. may_run g.S.Source.remaining
   stopped_is =
       λ cone stopped running. false≢true (sym (ap is_stopped running) ∙ stopped);
   over_is = λ _. refl;
-  refuses = λ _ _ _ _ why. (why.fault_is, why.too_many);
+  refuses = λ _ _ _ _ why. why;
 }) c.args.fleet c.args.settings.now c.args.workers c.len-count.result c.args.traces.items c.deref_mut-2.result.now
     (ap (λ xs. length xs) (c.deref_mut-2.ensures.value ∙ (front_is c.give_traces.new.crew _ c.line_up-crew.result.len (c.give_traces.auto.crew ∙ c.deref_mut.ensures.len)))
     ∙ (c.in_default.ensures.given.number ∙ (ap (λ xs. length xs) c.deref_mut.ensures.value ∙ (c.line_up-crew.ensures.number ∙ c.in-Ok.ensures.number))))
@@ -178,7 +178,7 @@ returns g c = answered g.S.Source.remaining g.S.Faulty.faults g.S.Faulty.mark g.
   stopped_is =
       λ cone stopped running. false≢true (sym (ap is_stopped running) ∙ stopped);
   over_is = λ _. refl;
-  refuses = λ _ _ _ _ why. (why.fault_is, why.too_many);
+  refuses = λ _ _ _ _ why. why;
 }) c.args.fleet c.args.settings.now c.args.workers c.len-count.result c.args.traces.items c.deref_mut-2.result.now
     (ap (λ xs. length xs) (c.deref_mut-2.ensures.value ∙ (front_is c.give_traces.new.crew _ c.line_up-crew.result.len (c.give_traces.auto.crew ∙ c.deref_mut.ensures.len)))
     ∙ (c.in_default.ensures.given.number ∙ (ap (λ xs. length xs) c.deref_mut.ensures.value ∙ (c.line_up-crew.ensures.number ∙ c.in-Ok.ensures.number))))
