@@ -4,6 +4,7 @@ ghost use Rattle.std.specs.Prelude.{◌≡◌, ◌*◌, ◌<◌, ◌≤◌, leng
 ghost use Rattle.lert_spec.specs.Mix.{cone_of};
 ghost use Rattle.lert_base.specs.Entries.{packet_of};
 ghost use Rattle.lert_journal.specs.Payload.{IsJournaled};
+ghost use Rattle.lert_cone.specs.History.{most_version};
 ghost use Rattle.lert_cone.specs.Room.{IsRoom};
 
 use lert_base::{Entry, KeyList, Numbers, Report, Settings};
@@ -29,7 +30,7 @@ pub const SMALL: Numbers = Numbers {
 pub fn entry(rt: &impl Abort, alloc: Global, settings: &Settings, keys: &[u64]) -> Entry
     requires some { 0 < length keys.now }
     requires few { length keys.now ≤ 4 * settings.now.packet }
-    ensures { IsJournaled 1 settings.now 0 (packet_of result) }
+    ensures { IsJournaled most_version settings.now 0 (packet_of result) }
 {
     let mut list = KeyList::with_room(alloc, keys.len()).expect(rt, "memory");
     for key in keys {

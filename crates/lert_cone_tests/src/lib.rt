@@ -25,3 +25,5 @@ mod records;
 mod reopened;
 #[cfg(test)]
 mod reports;
+#[cfg(test)]
+mod weights;

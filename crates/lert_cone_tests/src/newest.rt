@@ -3,6 +3,7 @@
 ghost use Rattle.std.specs.Prelude.{◌≡◌, ◌<◌};
 ghost use Rattle.lert_base.specs.Entries.{packet_of};
 ghost use Rattle.lert_journal.specs.Payload.{IsJournaled};
+ghost use Rattle.lert_cone.specs.History.{most_version};
 
 use crate::cones::{changed, check_listed, check_state, empty_bay, settings_of};
 use lert_base::{Entry, KeyList, Numbers, Report, Settings};
@@ -84,7 +85,7 @@ fn reports_of(keys: Keys) -> (&'static [Report], &'static [Report]) {
 
 // The packet of a key of the only cone.
 fn packet(rt: &impl Abort, alloc: Global, key: u64) -> Entry
-    ensures { IsJournaled 1 LONG 0 (packet_of result) }
+    ensures { IsJournaled most_version LONG 0 (packet_of result) }
 {
     let settings = settings_of(rt, LONG);
     assert!(rt; cone_of(&settings, key) == 0);

@@ -4,6 +4,7 @@ ghost use Rattle.std.specs.Prelude.{◌≡◌, ◌*◌, ◌<◌, ◌≤◌, leng
 ghost use Rattle.lert_spec.specs.Mix.{cone_of};
 ghost use Rattle.lert_base.specs.Entries.{packet_of};
 ghost use Rattle.lert_journal.specs.Payload.{IsJournaled};
+ghost use Rattle.lert_cone.specs.History.{most_version};
 
 use lert_base::{Entry, KeyList, Numbers, Report, Settings};
 use lert_bay::{JOURNAL, MemBay};
@@ -64,7 +65,7 @@ pub(crate) fn settings(rt: &impl Abort) -> Settings
 fn packet(rt: &impl Abort, alloc: Global, keys: &[u64]) -> Entry
     requires some { 0 < length keys.now }
     requires few { length keys.now ≤ 8 }
-    ensures { IsJournaled 1 SMALL 0 (packet_of result) }
+    ensures { IsJournaled most_version SMALL 0 (packet_of result) }
 {
     let settings = settings(rt);
     let mut list = KeyList::with_room(alloc, keys.len()).expect(rt, "memory");

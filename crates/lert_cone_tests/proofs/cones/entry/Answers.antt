@@ -1,8 +1,9 @@
-use Rattle.std.proofs.Common.{◌≡◌, ℕ, ◌+◌, ◌<◌, ◌≤◌, ◌++◌, ◌∷◌, [], List, length, take, map, get_or, All, refl, sym, ap, subst, ◌∙◌, arith}
+use Rattle.std.proofs.Common.{◌≡◌, ◌+◌, ◌++◌, ◌∷◌, [], take, get_or, All, sym, ap, subst, ◌∙◌, arith}
 use Rattle.std.proofs.lemmas.List.{take_more, take_all, map-append}
 use Rattle.std.proofs.lemmas.List.Elements.{All-nil, All-cons, All-append}
 use Rattle.lert_base.specs.{declared.entry.Entry.Entry, Entries.packet_of}
 use Rattle.lert_journal.specs.Payload.{IsJournaled}
+use Rattle.lert_cone.specs.History.{most_version}
 use Rattle.lert_spec.specs.{Items.{unit, units}, Mix.cone_of}
 use Rattle.lert_spec.proofs.ItemLaws.{length-units, keys_in-units, units_of_version}
 use Rattle.lert_cone_tests.proofs.cones.entry.Goals as goal
@@ -27,12 +28,12 @@ returns g c =
     let keys = c.args.keys.now in
     let all : take c.loop-key.key-index keys ≡ keys = take_all c.loop-key.key-index keys c.loop-key-test.false in
     let items : c.loop-key.list.items ≡ units keys = c.loop-key.invariant.taken ∙ ap units all in
-    subst (λ (entry : Entry). IsJournaled 1 c.args.settings.now 0 (packet_of entry)) (sym c.new.ensures)
-    (subst (λ items. IsJournaled 1 c.args.settings.now 0 (record { by = 0; trace = 0; items = items })) (sym items) (record {
+    subst (λ (entry : Entry). IsJournaled most_version c.args.settings.now 0 (packet_of entry)) (sym c.new.ensures)
+    (subst (λ items. IsJournaled most_version c.args.settings.now 0 (record { by = 0; trace = 0; items = items })) (sym items) (record {
       some = omega (arith, c.requires.some, length-units keys);
       few = omega (arith, c.requires.few, length-units keys);
       by_most = omega arith;
       trace_most = omega arith;
       of_cone = subst (All (λ key. cone_of c.args.settings.now key ≡ 0)) (sym (keys_in-units keys)) (subst (All (λ key. cone_of c.args.settings.now key ≡ 0)) all c.loop-key.invariant.own);
-      weighed = units_of_version 1 keys;
+      weighed = units_of_version most_version keys;
     }))

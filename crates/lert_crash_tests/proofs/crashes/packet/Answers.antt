@@ -3,6 +3,7 @@ use Rattle.std.proofs.lemmas.List.{take_more, take_all, map-append}
 use Rattle.std.proofs.lemmas.List.Elements.{All-nil, All-cons, All-append}
 use Rattle.lert_base.specs.{declared.entry.Entry.Entry, Entries.packet_of}
 use Rattle.lert_journal.specs.Payload.{IsJournaled}
+use Rattle.lert_cone.specs.History.{most_version}
 use Rattle.lert_spec.specs.{declared.numbers.Numbers.Numbers, Items.{unit, units}, Mix.cone_of}
 use Rattle.lert_crash_tests.specs.declared.crashes.TheConstants.{SMALL}
 use Rattle.lert_spec.proofs.ItemLaws.{length-units, keys_in-units, units_of_version}
@@ -31,12 +32,12 @@ returns g c =
     let own : All (λ key. cone_of SMALL key ≡ 0) keys =
     subst (λ (s : Numbers). All (λ key. cone_of s key ≡ 0) keys) c.settings-settings.ensures
     (subst (All (λ key. cone_of c.settings-settings.result key ≡ 0)) all c.loop-key.invariant.own) in
-    subst (λ (entry : Entry). IsJournaled 1 SMALL 0 (packet_of entry)) (sym c.new.ensures)
-    (subst (λ items. IsJournaled 1 SMALL 0 (record { by = 0; trace = 0; items = items })) (sym items) (record {
+    subst (λ (entry : Entry). IsJournaled most_version SMALL 0 (packet_of entry)) (sym c.new.ensures)
+    (subst (λ items. IsJournaled most_version SMALL 0 (record { by = 0; trace = 0; items = items })) (sym items) (record {
       some = omega (arith, c.requires.some, length-units keys);
       few = omega (arith, c.requires.few, length-units keys);
       by_most = omega arith;
       trace_most = omega arith;
       of_cone = subst (All (λ key. cone_of SMALL key ≡ 0)) (sym (keys_in-units keys)) own;
-      weighed = units_of_version 1 keys;
+      weighed = units_of_version most_version keys;
     }))
