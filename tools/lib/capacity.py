@@ -8,7 +8,7 @@ from __future__ import annotations
 
 from typing import NamedTuple
 
-from .cones import Levels, levels_of
+from .definitions import Levels, levels_of
 from .formats import KEY_LEN, WRITTEN, BadNumbers, item_len, keeps_rules
 from .slots import frame_len, quotient_bits
 from .words import Settings

@@ -5,7 +5,8 @@ from __future__ import annotations
 from pathlib import Path
 from typing import Callable, TypeVar
 
-from .cones import Log, levels_of
+from .cones import Log
+from .definitions import levels_of
 from .formats import HEADER_LEN, LOG_MAGIC, BadNumbers, Header, Left, begins_with, header_of
 from .inputs import BadInput
 

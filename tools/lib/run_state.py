@@ -11,7 +11,7 @@ from dataclasses import dataclass
 from pathlib import Path
 from typing import BinaryIO, Iterator
 
-from .cones import Report, levels_of
+from .definitions import Report, levels_of
 from .formats import HEADER_LEN, OPEN, BadNumbers, Header, Item, Left, item_len, items_in, items_of
 from .inputs import BadInput
 from .logs import Cone, cones_of, in_file

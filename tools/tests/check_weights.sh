@@ -194,7 +194,7 @@ sizes() {
     python3 - "$top/tools" <<'END'
 import sys
 sys.path.insert(0, sys.argv[1])
-from lib.cones import levels_of
+from lib.definitions import levels_of
 from lib.formats import Header
 from lib.slots import cost, frame_len
 

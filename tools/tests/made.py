@@ -9,7 +9,8 @@ import random
 import struct
 from typing import Iterator, NamedTuple, Sequence
 
-from lib.cones import CLOSING, FLUSH, FRAMES, JOURNAL, LOG, Levels, Report, counts_of, left_over, levels_of, look
+from lib.cones import CLOSING, FLUSH, FRAMES, JOURNAL, LOG
+from lib.definitions import Levels, Report, counts_of, left_over, levels_of, look
 from lib.formats import (
     HEADER_LEN,
     JOURNAL_HEAD,

@@ -10,7 +10,8 @@ import time
 from contextlib import suppress
 from typing import Callable, Iterable, Iterator
 
-from lib.cones import JOURNAL, left_over, levels_of, look
+from lib.cones import JOURNAL
+from lib.definitions import left_over, levels_of, look
 from lib.formats import KEY_LEN, TRACE_MAGIC, Left, cone_of, packets, trace_bytes, units
 from outside import KEYS, SMALL, Begin, Outside, Trial, some_keys
 from recovery import DONE, HANGS, MALFORMED, Answer, Form, Opened, files_in, folder_at, text_of

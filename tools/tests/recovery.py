@@ -13,7 +13,8 @@ from functools import lru_cache
 from pathlib import Path
 from typing import Callable, Iterable, Iterator, Mapping, NamedTuple, Sequence
 
-from lib.cones import CLOSED, JOURNAL, LOG, LOOK, SUFFIXES, Broken, Cone, Report, Unsound, in_file
+from lib.cones import JOURNAL, LOG, SUFFIXES, Broken, Cone, Unsound, in_file
+from lib.definitions import CLOSED, LOOK, Report
 from lib.formats import HEADER_LEN, Header, Left, OtherSettings, Packet, packets, trace_bytes, units
 from lib.words import Settings
 
