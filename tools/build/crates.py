@@ -68,10 +68,12 @@ class Crates:
         top, libraries = kit(), kit() / "rlibs"
         root = "src/main.rt" if (self.folder(name) / "src/main.rt").is_file() else "src/lib.rt"
         words = [str(top / "bin/rattle"), verb, "--crate-name", name, root]
-        places = {used: libraries / f"{used}.rlib" for used in ["std", *self.of_kit(name)]}
-        places |= {used: rlib(used) for used in self.needs(name) if used not in as_source}
-        words += [word for used, place in places.items() for word in ("--extern", f"{used}={place}")]
         sources = [used for used in self.below(name) if used in as_source]
+        # What stands there as source names libraries of its own.
+        read = [name, *sources]
+        places = {used: libraries / f"{used}.rlib" for used in ["std", *(used for each in read for used in self.of_kit(each))]}
+        places |= {used: rlib(used) for each in read for used in self.needs(each) if used not in as_source}
+        words += [word for used, place in places.items() for word in ("--extern", f"{used}={place}")]
         words += [word for used in sources for word in ("--lib", f"{used}={self.folder(used) / 'src/lib.rt'}")]
         folders = [libraries, *(rlib(used).parent for used in self.below(name) if used not in as_source)]
         words += [word for folder in dict.fromkeys(folders) for word in ("-L", f"dependency={folder}")]
