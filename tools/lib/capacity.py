@@ -23,8 +23,10 @@ REPORT_LEN = 16
 JOURNAL_HEAD, LOG_HEAD = 33, 9
 # The gate, the length, the worker and the trace of a packet, and all of a log record but directory and reports.
 PACKET_HEAD, RECORD_HEAD = 13, 34
-# A packet has at most so many times the keys that the settings name, and so has a ring.
+# A packet has at most so many times the keys that the settings name, and so has a ring, in which a key and its weight
+# take so many bytes.
 MOST_PACKETS = 4
+IN_RING = 16
 # What a bin on disk is read by, what a level is written by, and the program itself.
 READER_LEN, WRITER_LEN, PROGRAM_LEN = 19_456, 13_312, 2_621_440
 
@@ -76,12 +78,12 @@ def memory(settings: Settings, workers: int = 1) -> Memory:
     bins, base, room, packet = settings.bins, settings.base, settings.room, settings.packet
     young = bins * filter_len(quotient_bits(base), base) + (2 << (4 * base - 1).bit_length())
     stored = filter_len(quotient_bits(room), room)
-    text = max(12 + MOST_PACKETS * KEY_LEN * packet, RECORD_HEAD + settings.levels * (1 + bins) + REPORT_LEN * room)
+    entry, ring = MOST_PACKETS * item_len(WRITTEN) * packet, MOST_PACKETS * IN_RING * packet
+    text = max(PACKET_HEAD + entry, RECORD_HEAD + settings.levels * (1 + bins) + REPORT_LEN * room)
     buffers = settings.levels * (bins * READER_LEN + WRITER_LEN)
-    ring = MOST_PACKETS * KEY_LEN * packet
     cones = len(settings.cones())
     start = PROGRAM_LEN + cones * (young + stored + text + buffers)
-    return Memory(start, start + cones * (REPORT_LEN * room + ring) + workers * ring * (cones + 1))
+    return Memory(start, start + cones * (REPORT_LEN * room + entry) + workers * (ring * cones + entry))
 
 
 class Disk(NamedTuple):

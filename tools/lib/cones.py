@@ -15,7 +15,6 @@ from .formats import (
     HEADER_LEN,
     LOG_MAGIC,
     OPEN,
-    VERSIONS,
     Header,
     Item,
     Left,
@@ -166,13 +165,10 @@ class Cone:
     packet, which are more than those read where the first packets aren't; the weight is what these and the frames add
     up to."""
 
-    # Of the journals that are read.
-    versions: Sequence[int] = VERSIONS
-
     def __init__(self, files: Sequence[bytes], due: Header | None = None) -> None:
         """The three files in their order, and the header that is due in the journal, where it is known."""
         self.files = files
-        self.header = header = in_file(JOURNAL, lambda data: header_of(data, due, self.versions), files[JOURNAL])
+        self.header = header = in_file(JOURNAL, lambda data: header_of(data, due), files[JOURNAL])
         self.levels = levels_of(header)
         self.log = Log(header, self.levels)
         self.packets: list[tuple[int, Packet]] = []
@@ -209,7 +205,7 @@ class Cone:
         self.count = first - 1
         end = gate
         for gate, packet in packets(data, gate):
-            self.weight += self.weight_behind(packet)
+            self.weight += self.weight_behind(packet, self.count)
             self.count += len(packet.items)
             if self.log.closed and self.count > n0:
                 raise Left(gate)
@@ -221,10 +217,13 @@ class Cone:
         if self.count < n0:
             raise Left(end)
 
-    def weight_behind(self, packet: Packet) -> int:
-        """That of the next packet's items behind the edge of level 0: those before it stand in the frames."""
-        before = max(0, self.levels.edge(0, self.log.n0) - self.count)
-        return sum(item.weight for item in packet.items[before:])
+    def before_edge(self, count: int) -> int:
+        """How many items behind so many stand before the edge of level 0: they are counted in the frames."""
+        return max(0, self.levels.edge(0, self.log.n0) - count)
+
+    def weight_behind(self, packet: Packet, count: int) -> int:
+        """What those of a packet weigh, which stands behind so many, that stand behind that edge."""
+        return sum(item.weight for item in packet.items[self.before_edge(count) :])
 
     @cached_property
     def looked(self) -> list[Report]:

@@ -13,11 +13,10 @@ from typing import Iterable, Iterator, NamedTuple, Sequence
 
 VERSIONS = (1, 2)
 # That of the journals and frames that the program writes.
-WRITTEN = 1
+WRITTEN = 2
 # The first bytes of a journal and of a trace. Behind them stands the version, and zeros up to the eighth byte.
 JOURNAL_HEAD, TRACE_HEAD = b"LERTJ", b"LERT"
 MAGIC_LEN = 8
-JOURNAL_MAGIC = bytes.fromhex("4c4552544a010000")
 LOG_MAGIC = bytes.fromhex("4c4552544c010000")
 TRACE_MAGIC = bytes.fromhex("4c45525401000000")
 HEADER_LEN = 32
@@ -175,10 +174,10 @@ def keeps_rules(header: Header) -> None:
         raise BadNumbers(0)
 
 
-def header_of(data: bytes, due: Header | None = None, versions: Sequence[int] = VERSIONS) -> Header:
-    """The header of a journal of one of these versions; where one is due, any other is refused, whatever their
-    versions, and else one that no settings have."""
-    version = version_of(data, JOURNAL_HEAD, versions)
+def header_of(data: bytes, due: Header | None = None) -> Header:
+    """The header of a journal; where one is due, any other is refused, whatever their versions, and else one that no
+    settings have."""
+    version = version_of(data, JOURNAL_HEAD)
     if len(data) < HEADER_LEN:
         raise Left(len(data))
     header = Header(*struct.unpack_from("<4I4BI", data, MAGIC_LEN), version)

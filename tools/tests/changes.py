@@ -11,8 +11,8 @@ from typing import Callable, Iterator, NamedTuple
 
 from breaks import COUNT_TOP_AT, TOO_GREAT, frame_changes
 from lib.cones import FLUSH, FRAMES, JOURNAL, LOG, MOST_OFFSET, SUFFIXES, Cone
-from lib.formats import HEADER_LEN, KEY_LEN, OPEN, item_len
-from lib.slots import COUNT_AT, frame_len
+from lib.formats import HEADER_LEN, KEY_LEN, OPEN, VERSIONS, item_bytes, item_len
+from lib.slots import COUNT_AT, MOST_WEIGHT, frame_len, frame_text
 from lib.words import Settings
 from recovery import Folder, file_name, files_in
 
@@ -25,7 +25,6 @@ GARBAGE_LEN = 200
 PAYLOAD_BEHIND_GATE = 5
 ITEMS_BEHIND_GATE = PAYLOAD_BEHIND_GATE + 8
 OFFSET_BEHIND_GATE = PAYLOAD_BEHIND_GATE + 9
-GREATEST_WEIGHT = 255
 
 
 Changes = dict[str, bytes | None]
@@ -125,6 +124,10 @@ def headers(kept: Kept, cone: int) -> Iterator[Case]:
         changed = put(kept.folder[name], VERSION_AT, NO_VERSION)
         yield Case(f"{name} of another version", kept, {name: changed}, malformed(cone, file, VERSION_AT))
     name = file_name(cone, JOURNAL)
+    for version in VERSIONS:
+        changed = put(kept.folder[name], VERSION_AT, version)
+        line = "" if changed == kept.folder[name] else None
+        yield Case(f"{name} of version {version}", kept, {name: changed}, line)
     header = kept.folder[name][:HEADER_LEN]
     yield Case(f"{name} without a gate", kept, {name: header}, malformed(cone, JOURNAL, HEADER_LEN))
     # The header's last number is the cone.
@@ -224,18 +227,58 @@ def misnamed(kept: Kept, cone: int) -> Iterator[Case]:
     yield Case(f"{name} that names the first record", kept, {name: changed}, None if first > 1 else "")
 
 
+def raised(weights: list[int], more: int) -> list[int] | None:
+    """Weights that are so much more together, where they can be."""
+    heavier = []
+    for weight in weights:
+        heavier.append(min(MOST_WEIGHT, weight + more))
+        more -= heavier[-1] - weight
+    return None if more else heavier
+
+
 def weights_changed(kept: Kept, cone: int) -> Iterator[Case]:
     """The first and the last weight of the last packet, where there are weights: none, and as much as one may be, for
-    which there may be no room."""
+    which there may be no room. Then its weights are as much as there is room for, and one more."""
     read = cone_in(kept, cone)
     if read.header.version == 1:
         return
     name = file_name(cone, JOURNAL)
     gate, packet = read.packets[-1]
-    for number in {0, len(packet.items) - 1}:
-        at = gate + ITEMS_BEHIND_GATE + item_len(read.header.version) * number + KEY_LEN
-        for weight, line in (0, malformed(cone, JOURNAL, at)), (GREATEST_WEIGHT, None):
+    places = [gate + ITEMS_BEHIND_GATE + item_len(read.header.version) * number for number in range(len(packet.items))]
+    for at in {places[0] + KEY_LEN, places[-1] + KEY_LEN}:
+        for weight, line in (0, malformed(cone, JOURNAL, at)), (MOST_WEIGHT, None):
             yield Case(f"{name} with the weight {weight} at {at}", kept, {name: put(kept.folder[name], at, weight)}, line)
+    before = read.before_edge(read.count - len(packet.items))
+    spare = read.header.weight_room() - read.weight
+    for more, line in (spare, None), (spare + 1, malformed(cone, JOURNAL, gate + 1)):
+        heavier = raised([item.weight for item in packet.items[before:]], more)
+        if heavier is not None:
+            items = [item._replace(weight=weight) for item, weight in zip(packet.items[before:], heavier)]
+            changed = put(kept.folder[name], places[before], *item_bytes(read.header.version, items))
+            yield Case(f"{name} with {more} more weight from {places[before]} on", kept, {name: changed}, line)
+
+
+def frames_filled(kept: Kept, cone: int) -> Iterator[Case]:
+    """The frame of each level's oldest bin weighs as much as it may, where there are weights. With the frames that are
+    named there may be no room for the first packet that is read."""
+    read = cone_in(kept, cone)
+    if read.header.version == 1:
+        return
+    name = file_name(cone, FRAMES)
+    gate, first = read.log.begins()
+    behind = read.weight_behind(dict(read.packets)[gate], first - 1)
+    weights = [sum(count for _tail, count in pieces) for _low, _high, pieces in read.frames]
+    number = 0
+    for level, row in enumerate(read.log.directory, 1):
+        for frame in row[:1]:
+            low, high, pieces = read.frames[number]
+            most = MOST_WEIGHT * (high - low)
+            text = frame_text(read.shape(level), [(pieces[0][0], most)])
+            changed = put(kept.folder[name], read.frame_place(level, frame), *text)
+            has_room = sum(weights) - weights[number] + most + behind <= read.header.weight_room()
+            line = None if has_room else malformed(cone, JOURNAL, gate + 1)
+            yield Case(f"{name} with all weight that level {level} may have in a frame", kept, {name: changed}, line)
+        number += len(row)
 
 
 def gate_behind(read: Cone, events: int) -> int:
@@ -285,6 +328,7 @@ def table(kept: Kept, draw: random.Random) -> Iterator[Case]:
         yield from unread(kept, cone, draw)
         yield from misnamed(kept, cone)
         yield from weights_changed(kept, cone)
+        yield from frames_filled(kept, cone)
         yield from stops(kept, cone)
     yield from cuts(kept)
 

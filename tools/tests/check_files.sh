@@ -69,7 +69,7 @@ check_unpacking() {
 
 journal() { "$top/tools/journal" "$@"; }
 
-# The journal of one packet of three keys 7, as docs/FORMATS.md has it, and what it leaves the format by.
+# The journal of one packet of three keys 7, of version 1, and what it leaves the format by.
 check_journal() {
     local head='LERTJ\1\0\0\3\0\0\0\40\0\0\0\4\0\0\0\10\0\0\0\3\2\2\0\0\0\0\0'
     local key='\7\0\0\0\0\0\0\0' left='journal: the file leaves its format at byte'
@@ -93,7 +93,7 @@ check_journal() {
 
 sound() { "$top/tools/sound" "$@"; }
 
-# The files of a cone that was closed behind three keys 7, as docs/FORMATS.md has them, and what makes them unsound.
+# The files of a cone that was closed behind three keys 7, with that journal, and what makes them unsound.
 check_sound() {
     local key='\7\0\0\0\0\0\0\0' three='\3\0\0\0\0\0\0\0' head='LERTL\1\0\0\1\57\0\0\0' wrong='sound: cone-000:'
     local from='\40\0\0\0\0\0\0\0\1\0\0\0\0\0\0\0\0\0\1\0\0\0'

@@ -62,7 +62,7 @@ grows_to() {
 write_log() {
     grows_to 32 visits/cone-000.journal
     yes '10.0.0.7 - - GET' | head -n 150 >>access.log
-    grows_to $((32 + 9 * (5 + 8 + 16 * 8))) visits/cone-000.journal
+    grows_to $((32 + 9 * (5 + 8 + 16 * 9))) visits/cone-000.journal
     sleep 2
     command kill "$(cat tail_id)"
 }

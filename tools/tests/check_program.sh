@@ -106,11 +106,18 @@ check_capacity() {
 files_left() { cat d/cone-000.journal d/cone-000.log d/cone-000.frames; }
 run_beside_file() { rm -rf d && : >d && run_again "$1"; }
 
+# The log of a cone of three keys 7.
+sevens_log='LERTL\1\0\0\1\57\0\0\0\2\3\0\0\0\0\0\0\0\40\0\0\0\0\0\0\0\1\0\0\0\0\0\0\0\0\0\1\0\0\0'
+sevens_log+='\7\0\0\0\0\0\0\0\3\0\0\0\0\0\0\0\0'
+# sevens_journal VERSION LENGTH ITEM: its journal, whose packet has this length and three of these items.
+sevens_journal() {
+    printf '%s' "LERTJ\\$1"'\0\0\3\0\0\0\40\0\0\0\4\0\0\0\10\0\0\0\3\2\2\0\0\0\0\0' \
+        "\\1\\$2"'\0\0\0\0\0\0\0\0\0\0\0'"$3$3$3"'\0'
+}
+
 check_files() {
-    local key='\7\0\0\0\0\0\0\0' files
-    files='LERTJ\1\0\0\3\0\0\0\40\0\0\0\4\0\0\0\10\0\0\0\3\2\2\0\0\0\0\0'
-    files+='\1\40\0\0\0\0\0\0\0\0\0\0\0'"$key$key$key"'\0LERTL\1\0\0\1\57\0\0\0\2\3\0\0\0\0\0\0\0'
-    files+='\40\0\0\0\0\0\0\0\1\0\0\0\0\0\0\0\0\0\1\0\0\0'"$key"'\3\0\0\0\0\0\0\0\0'
+    local files
+    files=$(sevens_journal 2 43 '\7\0\0\0\0\0\0\0\1')$sevens_log
     run_long 3 3 2 4 2 0 32 8 sevens >"$work/out"
     gives 'the files of a run' 0 "$files" '' files_left
     gives 'a run on the files of another' 6 '' 'lert: cone 0 not fresh\n' run_again sevens
@@ -270,6 +277,8 @@ check_recovered() {
     gives 'recovery of a whole run' 0 "$report" '' recover_run
     has /dev/full && gives 'recovery with a full output' 11 '' 'lert: output fault\n' recover_full
     gives 'recovery after it' 0 "$report" '' recover_run
+    printf "$(sevens_journal 1 40 '\7\0\0\0\0\0\0\0')" >d/cone-000.journal
+    gives 'recovery of files of version 1' 0 "$report" '' recover_run
     gives 'recovery with another threshold' 10 '' 'lert: cone 0 has other settings\n' recover 4 3 2 4 2 0 32 8 d
     printf M | dd of=d/cone-000.journal conv=notrunc status=none
     gives 'recovery of another journal' 9 '' 'lert: cone 0 file 0 malformed at 0\n' recover_run

@@ -40,7 +40,7 @@ check_open_files() {
 
 # --- little memory
 
-# 64 workers over one trace in 256 cones, where the rings of all of them, 512 MiB, don't fit.
+# 64 workers over one trace in 256 cones, where the rings of all of them, 1,024 MiB, don't fit.
 few_rings() {
     rm -rf d
     (

@@ -82,6 +82,8 @@ check_weighed_journals() {
     gives 'four times the keys of a packet' 0 '0 0 4\n' '' journal bad
     journal_of "$few" "$(packet_of 35 "$(times 5 "$seven")")" 00 >bad
     journal_breaks 'more than four times the keys of a packet' '' 33
+    bytes 4c 45 52 54 4a 01 00 00 "$numbers" "$(packet_of 23 "$(times 3 "$seven")")" 00 >bad
+    journal_breaks 'weights in a journal of version 1' '' 33
     bytes 4c 45 52 54 4a 03 00 00 "$numbers" 00 >bad
     journal_breaks 'a journal of version 3' '' 5
 }
@@ -177,6 +179,20 @@ check_weighed_frames() {
     rm -r files
 }
 
+# Behind sixteen keys level 0 begins with the second packet of eight, which stands at byte 117 where keys have weights.
+check_weighed_places() {
+    local slot='\54\313\302\64\374\274\126\0' eight wrong='sound: cone-000: the log'"'"'s record of 16 events names byte'
+    eight=$(packet_of 50 "$(times 8 "$(item 01 01)")") && mkdir files
+    journal_of '11000000 20000000 04000000 08000000 03020200 00000000' "$eight" "$eight" 00 >files/cone-000.journal
+    one_block '\3' '\4' "$slot"'\6\0\0\0\0\0\0\0'"$slot"
+    names_place 165 11
+    gives 'a log that names the weights where level 0 begins' 0 'cone 0 events 16 n0 16 reports 0 open\n' '' sound files
+    names_place 155 11
+    gives 'a log that names the place of keys without weights' 1 '' \
+        "$wrong 109 and position 9 of the journal, and not 117 and 9\n" sound files
+    rm -r files
+}
+
 # causes_of AT: what ./lert tells behind a run of the trace `bad`, which leaves its format at this byte.
 causes_of() { "$top/tools/lib/causes" 4 "lert: trace 0 bad at $1" run d bad; }
 
@@ -214,6 +230,7 @@ check_weights() {
     check_weighed_weaves
     check_weighed_reports
     check_weighed_frames
+    check_weighed_places
     check_weighed_causes
     gives 'sizes with and without weights' 0 '148 276 276 540\n592 1104\n296 264\n1 1 1 2 2 3 1 256\n' '' sizes
 }

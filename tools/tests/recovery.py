@@ -22,8 +22,6 @@ DONE, CAPACITY_FULL, MALFORMED, OTHER_SETTINGS = 0, 8, 9, 10
 # In place of the status of a program that doesn't end.
 HANGS = 999
 SECONDS = 10
-# The versions of the journals that the program opens.
-OPENED = (1,)
 
 # The files of a directory by their names, and the three of a cone.
 Folder = dict[str, bytes]
@@ -125,8 +123,6 @@ def refused(cone: int, broken: Broken) -> Refused:
 
 class Reopened(Cone):
     """A cone as a recovery reads it: its packets are those from the record on that the log's last record names."""
-
-    versions = OPENED
 
     def read(self) -> None:
         self.read_before_packets()

@@ -12,6 +12,9 @@ use lert_frames::{FrameReader, FrameWriter};
 use lert_io::Failed;
 use std::alloc::Global;
 
+// The version of the frames that a cone writes, whose items have weights.
+const VERSION: u8 = 2;
+
 /// The oldest level.
 pub fn last_level(settings: &Settings) -> u32
     ensures { result ≡ settings.now.levels }
@@ -42,6 +45,7 @@ pub fn write_frame<B: Bay>(
     let Ok(mut writer) = FrameWriter::new(alloc, settings, last_level(settings), 0) else {
         bail!("out of memory");
     };
+    writer.start(VERSION, 0);
     write_all(&mut writer, bay, pieces)
         .ok()
         .context("a write failed")
@@ -64,7 +68,7 @@ pub fn read_frame<B: Bay>(
     let mut reader = FrameReader::new(alloc, settings, level)
         .ok()
         .context("out of memory")?;
-    reader.start(1, 0, width);
+    reader.start(VERSION, 0, width);
     let sum = sum_up(&mut reader, bay, most);
     drop(reader);
     sum.ok().context("a frame that isn't one")

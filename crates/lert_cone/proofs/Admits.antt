@@ -2,7 +2,6 @@
 use Rattle.lert_spec.specs.Counts.{weighed, weight_of}
 use Rattle.std.proofs.{Common.{◌≡◌, ℕ, ◌+◌, true, false, List, [], ◌∷◌, ◌++◌, length, Some, Result, Err, IsErrOf, OnOk, refl, sym, ◌∙◌, subst, inl}, lemmas.Bool.false≢true}
 use Rattle.std.specs.{Prelude.{◌↔◌, IfOk, IfErr}, Result.IsErrAnd}
-use Rattle.lert_cone.specs.History.{written}
 use Rattle.lert_base.specs.{Packet.{Packet, events_of}, declared.cone_fault.ConeFault.ConeFault, declared.cone_fault.ConeFault.TheVariants.{Closed, Broken, CapacityFull, WeightFull, OldJournal}}
 use Rattle.lert_bay.specs.{Files.{Files, IfTold}, Kept.Bays}
 use Rattle.lert_gatelog.specs.Gated.{next_gate}
@@ -26,7 +25,7 @@ Admits bays packet old new result = record {
     reports = new.reports;
     events = old.events + length packet.items;
     weight = old.weight + weight_of weighed packet.items;
-    gate = next_gate old.gate (payload_of written packet);
+    gate = next_gate old.gate (payload_of old.listing.version packet);
     log = new.log;
   });
   in_time_so_far : OnOk result ((h : List Packet) → StandsFor bays.files bays.leaves bays.faults old h → WasSound bays.files old → IfTold (bays.files old.bay)

@@ -2,7 +2,6 @@
 use Rattle.lert_spec.specs.Counts.{weighed, weight_of}
 use Rattle.lert_spec.specs.declared.item.Item.{Item}
 use Rattle.std.proofs.Common.{◌≡◌, ℕ, ◌+◌, ◌<◌, false, List, [], ◌∷◌, ◌++◌, length, Option, Ok, refl, sym, ap, ◌∙◌, subst, arith}
-use Rattle.lert_cone.specs.History.{written}
 use Rattle.lert_base.specs.Packet.{Packet, events_of}
 use Rattle.lert_bay.specs.{Files.IfTold, Kept.Bays}
 use Rattle.lert_gatelog.specs.Gated.{Log, next_gate}
@@ -13,7 +12,9 @@ use Rattle.lert_cone.specs.{declared.state.ConeState.ConeState, InStep.IsLogging
 use Rattle.lert_cone.specs.{Stands.{Standing, StandsFor, WasSound, IsCone, IsSameCone, is_broken}, Refuses.PassesTest, Takes.{TakesPacket, work_at}, Tally.Tallied}
 use Rattle.lert_bay.proofs.KeptLaws.{IsLawful}
 use Rattle.lert_cone.proofs.{SoundLaws.{turns_back, counted_more, end_more}, AppendLaws.{whole_of, some_more, keys_more}, StandLaws.{more_cone, stands_whole, reports_running, cone_at}}
-use Rattle.lert_cone.proofs.{TimeLaws.timely_so_far, Admits.Admits, RefusesLaws.{passed_full, passed_heavy, passed_old}, Stepping.passes, WeighLaws.weighed_more}
+use Rattle.lert_cone.proofs.{TimeLaws.timely_so_far, Admits.Admits, RefusesLaws.{passed_full, passed_heavy, passed_old}, Stepping.passes, WeighLaws.{can_hold, weighed_more}}
+use Rattle.lert_cone.specs.History.{end_of}
+use Rattle.lert_spec.specs.Items.{AreOfVersion}
 
 module _ {B : Type 0} {bays : Bays B} (lawful : IsLawful bays) (packet : Packet) where
   module _ {bay bay_after : B} {tally after : Tallied} {room room_after more : ℕ} {state : ConeState} {journal journal_after : Log} {log log_after : LogPlace} (made : B) (events weight : ℕ)
@@ -38,14 +39,19 @@ module _ {B : Type 0} {bays : Bays B} (lawful : IsLawful bays) (packet : Packet)
           (λ sound seen told.
           let was = turns_back did.seen seen told in
           let whole = stands.whole (ap is_broken passed.running) sound was.0 was.1 in
-          whole_of (bays.leaves bay_after) seen (h ++ packet ∷ []) after journal_after.gate log_after did.counted (did.in_step was.0 was.1 h whole seen told) (lawful.as_read bay_after seen told)
+          whole_of (bays.leaves bay_after) seen (h ++ packet ∷ []) after journal_after.gate log_after did.counted (did.in_step was.0 was.1 h (record {
+            whole = whole;
+            light = can_hold packet passed
+                h stands;
+          }) seen told) (lawful.as_read bay_after seen told)
           (ap (λ (l : Listing). l.events) is ∙ keys_more h packet tally.listing.events whole.keys)
-          (ap (λ (j : Log). j.gate) did.moved ∙ (ap (λ g. next_gate g (payload_of written packet)) whole.gate_is ∙ end_more h packet)))
+          (ap (λ (j : Log). j.gate) did.moved ∙ (ap (λ g. next_gate g (payload_of tally.listing.version packet)) whole.gate_is ∙ end_more tally.listing.version h packet)
+          ∙ ap (λ (l : Listing). end_of l.version (h ++ packet ∷ [])) (sym is)))
           stands
 
       new_is : ◌≡◌ {A = Standing B} (cone_at bay_after made after events_after weight_after state over journal_after.gate log_after last)
           (record (cone_at bay_after made after (events + length packet.items) (weight + weight_of weighed packet.items) state over
-          (next_gate journal.gate (payload_of written packet)) log_after last) {
+          (next_gate journal.gate (payload_of tally.listing.version packet)) log_after last) {
             listing = record tally.listing { events = tally.listing.events ++ packet.items };
           })
       new_is i = record (cone_at bay_after made after (events_are i) (weight_is i) state over ((ap (λ (j : Log). j.gate) did.moved) i) log_after last) { listing = is i }
@@ -72,7 +78,7 @@ module _ {B : Type 0} {bays : Bays B} (lawful : IsLawful bays) (packet : Packet)
               reports_are = λ sound seen told.
                   let then = did.seen.told seen told in
                   let whole = stands.whole (ap is_broken passed.running) sound seen told in
-                  let up = did.in_step seen told h whole then.0 then.1 in
+                  let up = did.in_step seen told h (record { whole = whole; light = can_hold packet passed h stands }) then.0 then.1 in
                   reports_are
                   ∙ ap length (up.reports_are ∙ reports_running after.listing (events_of (h ++ packet ∷ [])) (ap (λ (l : Listing). l.closed) is ∙ still) (ap (λ (l : Listing). l.events) is
                   ∙ keys_more h packet tally.listing.events whole.keys))
@@ -86,19 +92,22 @@ module _ {B : Type 0} {bays : Bays B} (lawful : IsLawful bays) (packet : Packet)
             full = passed_full (cone_at bay made tally events weight state over journal.gate log last) packet.items _ passed;
             weight_full = passed_heavy (cone_at bay made tally events weight state over journal.gate log last) packet.items _ passed;
             old_journal = passed_old (cone_at bay made tally events weight state over journal.gate log last) packet.items _ passed;
-            each_moment = λ unbroken sound seen told h stands image may. did.each_moment seen told h (stands.whole unbroken sound seen told) image may;
+            each_moment = λ unbroken sound seen told h stands image may. did.each_moment seen told h (record {
+              whole = stands.whole unbroken sound seen told;
+              light = can_hold packet passed h stands;
+            }) image may;
           })
 
     -- and it is a cone again, whose buffer has the room that was lent
     pub still_cone : {events_after weight_after cone_room cone_room_after keys_room : ℕ} →
         TakesPacket bays packet (work_at bay tally log room)
         (work_at bay_after after log_after room_after) journal journal_after (Ok tt) → events_after ≡ events + length packet.items →
-        weight_after ≡ weight + weight_of weighed packet.items → 0 < length packet.items → cone_room_after ≡ cone_room → room_after ≡ cone_room_after →
+        weight_after ≡ weight + weight_of weighed packet.items → AreOfVersion last.version packet.items → 0 < length packet.items → cone_room_after ≡ cone_room → room_after ≡ cone_room_after →
         IsCone bays.files bays.leaves bays.faults bays.mark (cone_at bay made tally events weight state over journal.gate log last) tally journal cone_room keys_room →
         IsCone bays.files bays.leaves bays.faults bays.mark (cone_at bay_after made after events_after weight_after state over journal_after.gate log_after last) after journal_after
         cone_room_after keys_room
-    still_cone did events_are weight_is some room_is lent_is cone =
+    still_cone did events_are weight_is light some room_is lent_is cone =
         let is = did.listing ∙ ap (λ (keys : List Item). record tally.listing { events = keys }) did.taken in
         more_cone packet passed.running is did.counted events_are did.moved room_is some passed.within weight_is
-        (omega (arith, weight_is, passed.more_is, passed.light)) did.kept.never_falls did.seen did.kept.mark did.shut
+        light did.kept.never_falls did.seen did.kept.mark did.shut
         (subst (λ (n : ℕ). IsLogging after log_after n) lent_is did.can_log.logging) did.can_log.log_shut cone

@@ -20,50 +20,59 @@ use Rattle.lert_cone.specs.{Framed.{last_flush, flushed}, InStep.IsInStep, Logge
 use Rattle.lert_cone.specs.{JournalPlaces.{HoldsPosition, IsPlaceIn, NamesRecord, first_place, last_place, places_from}, Replay.{IsLastOf, IsOnWay, IsPast}}
 use Rattle.lert_cone.specs.{Sound.{IsSound, HoldFrames, HoldsDirectory}, Unread.unread}
 use Rattle.lert_cone.proofs.{FlushLaws.last_flush_logged, JournalPlaceLaws.places_none, StepLaws.{journal_since, log_since, frames_since}, UnreadLaws.unread_is}
-use Rattle.lert_cone.specs.History.{written}
+use Rattle.lert_cone.proofs.ItemLaws.{end_none}
 
 -- ---- frames
 
 -- what the frames of a row hold, from what those of its directory do
-from_frames : (s : Numbers) (events : List Item) (file : List ℕ) (level : ℕ) (row : List BinAt) → HoldFrames s level file (map (λ bin. bin.frame) row) (map (filled s events) (map range_of row)) →
-    All (λ bin. HoldsFrame s written level bin.frame file (tallied_in s events bin)) row
-from_frames s events file level [] holds = All-nil (λ (bin : BinAt). HoldsFrame s written level bin.frame file (tallied_in s events bin))
-from_frames s events file level (bin ∷ row) holds =
-    All-cons (λ (b : BinAt). HoldsFrame s written level b.frame file (tallied_in s events b)) bin row holds.0 (from_frames s events file level row holds.1)
+from_frames : (version : ℕ) (s : Numbers) (events : List Item) (file : List ℕ) (level : ℕ) (row : List BinAt) → HoldFrames version s level file (map (λ bin. bin.frame) row) (map (filled s events)
+    (map range_of row)) →
+    All (λ bin. HoldsFrame s version level bin.frame file (tallied_in s events bin)) row
+from_frames version s events file level [] holds = All-nil (λ (bin : BinAt). HoldsFrame s version level bin.frame file (tallied_in s events bin))
+from_frames version s events file level (bin ∷ row) holds =
+    All-cons (λ (b : BinAt). HoldsFrame s version level b.frame file (tallied_in s events b)) bin row holds.0 (from_frames version s events file level row holds.1)
 
 -- the frames of a directory are those of the rows that it was read into
-pub bins_there : (s : Numbers) (events : List Item) (rows : List (List BinAt)) (directory : List (List ℕ)) (file : List ℕ) → IsAt s (length events) rows → directory ≡ frames_of rows →
-    HoldsDirectory s events directory file → HoldsBins s written events rows file
-bins_there s events rows directory file at named holds level first last =
+pub bins_there : {version : ℕ} (s : Numbers) (events : List Item) (rows : List (List BinAt)) (directory : List (List ℕ)) (file : List ℕ) → IsAt s (length events) rows → directory ≡ frames_of rows →
+    HoldsDirectory version s events directory file → HoldsBins s version events rows file
+bins_there {version} s events rows directory file at named holds level first last =
     let row = row_of rows level in
     let frames_are : slice_index_or directory (level - 1) [] ≡ map (λ (bin : BinAt). bin.frame) row =
     ap (λ (d : List (List ℕ)). get_or d (level - 1) []) named ∙ get_or-map (λ (r : List BinAt). map (λ (bin : BinAt). bin.frame) r) rows (level - 1) [] []
     (omega (arith, at.levels, first, last)) in
     let bins_are : bins_of weighed s events level ≡ map (filled s events) (map range_of row) =
     bins-ranges s events level ∙ ap (map (filled s events)) (sym (at.each level first last)) in
-    from_frames s events file level row
-    (subst (λ (bs : List Bin). HoldFrames s level file (map (λ (bin : BinAt). bin.frame) row) bs) bins_are
-    (subst (λ (frames : List ℕ). HoldFrames s level file frames (bins_of weighed s events level)) frames_are (holds.each level first last)))
+    from_frames version s events file level row
+    (subst (λ (bs : List Bin). HoldFrames version s level file (map (λ (bin : BinAt). bin.frame) row) bs) bins_are
+    (subst (λ (frames : List ℕ). HoldFrames version s level file frames (bins_of weighed s events level)) frames_are (holds.each level first last)))
 
 -- frames that are settled hold in each image what they hold as a read gives them
-pub frames_settled : (leaves : Files → Type 0) (seen : Files) (s : Numbers) (events : List Item) (rows : List (List BinAt)) → IsValid s → AreRows s rows → AreOfVersion written events → HoldsBins
-    s written events rows (seen 2) →
-    ((from to : ℕ) → InNamed s written rows from to → to ≤ length (seen 2) → IsSettled leaves seen 2 from to) → InEach leaves 2 (HoldsBins s written events rows)
-frames_settled leaves seen s events rows valid are light holds settled =
+pub frames_settled : {version : ℕ} (leaves : Files → Type 0) (seen : Files) (s : Numbers) (events : List Item) (rows : List (List BinAt)) → IsValid s → AreRows s rows →
+    AreOfVersion version events → HoldsBins
+    s version events rows (seen 2) →
+    ((from to : ℕ) → InNamed s version rows from to → to ≤ length (seen 2) → IsSettled leaves seen 2 from to) → InEach leaves 2 (HoldsBins s version events rows)
+frames_settled {version} leaves seen s events rows valid are light holds settled =
     frames_since (λ image. image ≡ seen) leaves seen s events rows valid are light refl
-    (λ image is. subst (λ (files : Files). HoldsBins s written events rows (files 2)) (sym is) holds)
+    (λ image is. subst (λ (files : Files). HoldsBins s version events rows (files 2)) (sym is) holds)
     (λ from to named here. (settled from to named here.within).same)
 
 -- ---- the packets that aren't read
 
-before_record : (history : List Packet) (place : JournalPlace) (p : ℕ) → HoldsPosition history place p → IsPlaceIn history place
+before_record : {version : ℕ} (history : List Packet) (place : JournalPlace) (p : ℕ) → HoldsPosition version history place p → IsPlaceIn version history place
 before_record history place p holds = record { done = holds.done; rest = holds.packet ∷ holds.rest; is = holds.is; gate_is = holds.gate_is; first_is = holds.first_is }
 
-before_all : (history : List Packet) (place : JournalPlace) → place ≡ first_place → IsPlaceIn history place
-before_all history place is = record { done = []; rest = history; is = refl; gate_is = ap (λ (m : JournalPlace). m.gate) is; first_is = ap (λ (m : JournalPlace). m.first) is }
+before_all : {version : ℕ} (history : List Packet) (place : JournalPlace) → place ≡ first_place → IsPlaceIn version history place
+before_all {version} history place is = record {
+  done = [];
+  rest = history;
+  is = refl;
+  gate_is = ap (λ (m : JournalPlace). m.gate) is ∙ sym (end_none version);
+  first_is = ap (λ (m : JournalPlace).
+      m.first) is;
+}
 
 -- a record that a log names begins behind some packets
-pub place_named : (s : Numbers) (history : List Packet) (n0 : ℕ) (place : JournalPlace) → NamesRecord s history n0 place → IsPlaceIn history place
+pub place_named : {version : ℕ} (s : Numbers) (history : List Packet) (n0 : ℕ) (place : JournalPlace) → NamesRecord version s history n0 place → IsPlaceIn version history place
 place_named s history n0 place names = elim (cases_eq n0 0) [
   | inl none ↦ before_all history place (names.none none)
   | inr some ↦ before_record history place (edge s 0 n0 + 1) (names.some (omega (arith, some)))
@@ -75,9 +84,9 @@ module _ (leaves : Files → Type 0) (seen : Files) (s : Numbers) (cone : ℕ) (
     (log_end n0 offset first : ℕ)
     (closed : Bool)
     (valid : IsValid s) (at : IsAt s n0 rows) (are : AreRows s rows) (log : HasLog s cone (seen 1) records log_end) (last : IsLastOf s n0 offset first closed rows reports records)
-    (journal_settled : IsWhollySettled leaves seen 0) (log_settled : IsWhollySettled leaves seen 1) (named_settled : (from to : ℕ) → InNamed s written rows from to → to ≤ length (seen 2) →
-    IsSettled leaves seen 2 from to)
-    (sound : IsSound s cone history seen) (early : first ≤ edge s 0 n0 + 1) where
+    (sound : IsSound s cone history seen) (early : first ≤ edge s 0 n0 + 1)
+    (journal_settled : IsWhollySettled leaves seen 0) (log_settled : IsWhollySettled leaves seen 1) (named_settled : (from to : ℕ) → InNamed s sound.version rows from to → to ≤ length (seen 2) →
+    IsSettled leaves seen 2 from to) where
   -- the records that were read are those for which the files are sound
   same : records ≡ sound.logged
   same = (one_log s cone valid (seen 1) records sound.logged log_end sound.log_end log sound.log).0
@@ -152,22 +161,22 @@ module _ (leaves : Files → Type 0) (seen : Files) (s : Numbers) (cone : ℕ) (
     reports_are = listed_there;
   }
 
-  held : HoldsBins s written (take n0 (events_of history)) rows (seen 2)
+  held : HoldsBins s sound.version (take n0 (events_of history)) rows (seen 2)
   held =
       bins_there s (take n0 (events_of history)) rows (last_directory s sound.logged) (seen 2) (subst (λ n. IsAt s n rows) (sym long) at)
       (ap (last_directory s) (sym same) ∙ last.directory_is)
-      (subst (λ n. HoldsDirectory s (take n (events_of history)) (last_directory s sound.logged) (seen 2)) (sym n0_is) sound.frames)
+      (subst (λ n. HoldsDirectory sound.version s (take n (events_of history)) (last_directory s sound.logged) (seen 2)) (sym n0_is) sound.frames)
 
   -- the packets before the record that the last one of the log names
-  pub before : IsPlaceIn history (record { gate = offset; first = first })
+  pub before : IsPlaceIn sound.version history (record { gate = offset; first = first })
   before =
       let mark_is : record { gate = offset; first = first } ≡ last_place records = λ i. record { gate = last.offset_is i; first = last.first_is i } in
-      subst (IsPlaceIn history) (sym (mark_is ∙ ap last_place same)) (place_named s history (last_n0 sound.logged) (last_place sound.logged) sound.begins)
+      subst (IsPlaceIn sound.version history) (sym (mark_is ∙ ap last_place same)) (place_named s history (last_n0 sound.logged) (last_place sound.logged) sound.begins)
 
   no_more : first - 1 ≤ n0
   no_more = omega (arith, early, mul-div-le (n0 - offset_of s 0) (span s 0))
 
-  in_step : IsInStep leaves seen history (record { settings = s; cone = cone; events = take n0 (events_of history); closed = closed }) rows reports (record {
+  in_step : IsInStep leaves seen history (record { settings = s; version = sound.version; cone = cone; events = take n0 (events_of history); closed = closed }) rows reports (record {
     gate = log_end;
     most = most_record s;
     named = length reports;
@@ -180,29 +189,30 @@ module _ (leaves : Files → Type 0) (seen : Files) (s : Numbers) (cone : ℕ) (
     journal = journal_since leaves seen s cone history sound.journal journal_settled.same;
     log_there = log_since leaves seen s cone records log_end log log_settled.same;
     frames = frames_settled leaves seen s (take n0 (events_of history)) rows valid are
-        (All-take (λ (item : Item). (1 ≤ item.weight) × (item.weight ≤ most_weight written)) n0 (events_of history) (history_light s cone history sound.journal.journaled)) held named_settled;
+        (All-take (λ (item : Item). (1 ≤ item.weight) × (item.weight ≤ most_weight sound.version)) n0 (events_of history) (history_light s cone history sound.journal.journaled)) held named_settled;
     journal_settled = journal_settled;
     log_settled = log_settled;
     reports_are = last.reports_are ∙ listed;
-    begins = subst (λ (rs : List LogRecord). NamesRecord s history (last_n0 rs) (last_place rs)) (sym same) sound.begins;
+    begins = subst (λ (rs : List LogRecord). NamesRecord sound.version s history (last_n0 rs) (last_place rs)) (sym same) sound.begins;
     placed = places_none history (places_from s (first - 1)) refl;
     reach = subst (λ n. first - 1 + 1 ≤ edge s 0 n + 1) (sym long) (omega (arith, early));
   }
 
   -- it has the items of the packets before that record
-  pub adopted : (keys : List Item) → length keys ≡ first - 1 → IsOnWay leaves seen history (record { settings = s; cone = cone; events = keys; closed = closed }) rows reports (record {
-    gate = log_end;
-    most = most_record s;
-    named = length reports;
-    places = places_from s (first - 1);
-  }) n0
+  pub adopted : (keys : List Item) → length keys ≡ first - 1 → IsOnWay leaves seen history (record { settings = s; version = sound.version; cone = cone; events = keys; closed = closed }) rows
+      reports (record {
+        gate = log_end;
+        most = most_record s;
+        named = length reports;
+        places = places_from s (first - 1);
+      }) n0
   adopted keys counted =
       let first_keys : n0 ≡ max n0 (length keys) = omega (arith, counted, no_more) in
       record {
         n0_most = most;
         n0_least = omega (arith, n0_is, sound.n0_least);
         closed_behind = behind;
-        in_step = subst (λ n. IsInStep leaves seen history (record { settings = s; cone = cone; events = take n (events_of history); closed = closed }) rows reports (record {
+        in_step = subst (λ n. IsInStep leaves seen history (record { settings = s; version = sound.version; cone = cone; events = take n (events_of history); closed = closed }) rows reports (record {
           gate = log_end;
           most = most_record s;
           named = length reports;
@@ -210,12 +220,12 @@ module _ (leaves : Files → Type 0) (seen : Files) (s : Numbers) (cone : ℕ) (
         })) first_keys in_step;
       }
 
-  pub past : cone < 2 ^ s.cone_bits → (told : Option Files) → told ≡ Some seen → IsPast history before.done (unread s cone (first - 1) told) offset
+  pub past : cone < 2 ^ s.cone_bits → (told : Option Files) → told ≡ Some seen → IsPast sound.version history before.done (unread sound.version s cone (first - 1) told) offset
   past named told told_is =
       let counted : first - 1 ≡ length (events_of before.done) = omega (arith, before.first_is) in
       record {
         rest = before.rest;
         is = before.is;
-        keys = ap (λ n. unread s cone n told) counted ∙ unread_is s cone valid named history before.done before.rest seen told sound.journal before.is told_is;
+        keys = ap (λ n. unread sound.version s cone n told) counted ∙ unread_is sound.version s cone valid named history before.done before.rest seen told sound.journal before.is told_is;
         gate_is = before.gate_is;
       }

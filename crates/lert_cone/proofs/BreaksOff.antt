@@ -10,6 +10,7 @@ use Rattle.lert_bay.specs.Kept.{Bays}
 use Rattle.lert_bay.proofs.KeptLaws.{IsLawful}
 use Rattle.lert_cone.proofs.StandLaws.{cone_at}
 use Rattle.lert_cone.proofs.{FaultLaws.no_refusal, Admits.Admits, RefusesLaws.{broke_full, broke_heavy, broke_old}, Stepping.breaks}
+use Rattle.lert_cone.proofs.WeighLaws.{can_hold}
 
 module _ {B : Type 0} {bays : Bays B} (lawful : IsLawful bays) (packet : Packet) where
   module _ {bay bay_after : B} {tally after : Tallied} {room room_after more : ℕ} {state : ConeState} {journal journal_after : Log} {log log_after : LogPlace} (made : B) (events weight : ℕ)
@@ -31,12 +32,17 @@ module _ {B : Type 0} {bays : Bays B} (lawful : IsLawful bays) (packet : Packet)
           acked = tt;
           taken = tt;
           in_time_so_far = tt;
-          step = breaks lawful same passed.running did.seen state_is refl refl risen did.kept did.now did.sound
-              (λ seen told h whole image may. subst (λ (o : Option Packet). IsSoundOver tally.listing.settings tally.listing.cone h o image) (sym over_is)
-              (did.each_moment seen told h whole image may)) did.shows;
+          step = breaks lawful same passed.running did.seen state_is refl refl risen did.kept did.now (λ seen told h stands whole. did.sound seen told h (record {
+            whole = whole;
+            light = can_hold
+                packet passed h stands;
+          }))
+              (λ seen told h stands whole image may. subst (λ (o : Option Packet). IsSoundOver tally.listing.settings tally.listing.cone h o image) (sym over_is)
+              (did.each_moment seen told h (record { whole = whole; light = can_hold packet passed h stands }) image may)) did.shows;
           broke = λ _ i. record (cone_at bay_after made after events weight state_after (over_is i) journal_after.gate log_after last) { listing = did.listing i };
           full = broke_full (cone_at bay made tally events weight state over journal.gate log last) packet.items _ passed (cone_fault fault) (no_refusal fault);
           weight_full = broke_heavy (cone_at bay made tally events weight state over journal.gate log last) packet.items _ passed (cone_fault fault) (no_refusal fault);
           old_journal = broke_old (cone_at bay made tally events weight state over journal.gate log last) packet.items _ passed (cone_fault fault) (no_refusal fault);
-          each_moment = λ still sound seen told h stands image may. did.each_moment seen told h (stands.whole still sound seen told) image may;
+          each_moment = λ still sound seen told h stands image may. did.each_moment seen told h (record { whole = stands.whole still sound seen told; light = can_hold packet passed h stands })
+              image may;
         }))

@@ -110,7 +110,7 @@ module _ (B T C : RattleType) (g : bay.Ghosts B.Denot) (h : faulty.Ghosts B.Deno
   unread_inside : IsSend (unread.the_row B g h)
   unread_inside = recorded_send _ _ _ (unread.the_type B g h).to_one (struct_send (shape (unread.the_type B g h)) (
     search (sendable, crosses) depth 20,
-    (search sendable, (search sendable, (search crosses, tt))),
+    (search sendable, (search sendable, (search sendable, (search crosses, tt)))),
   ))
 
   unread_send : IsSend (Unread.the_row B g h)
@@ -122,10 +122,13 @@ module _ (B T C : RattleType) (g : bay.Ghosts B.Denot) (h : faulty.Ghosts B.Deno
     (
       search sendable,
       (
-        search (sendable, crosses) depth 20,
+        search sendable,
         (
-          levels_send T C k c,
-          (search (sendable, crosses) depth 30, (unread_send, (search (sendable, crosses) depth 20, (search sendable, (search sendable, (search sendable, tt)))))),
+          search (sendable, crosses) depth 20,
+          (
+            levels_send T C k c,
+            (search (sendable, crosses) depth 30, (unread_send, (search (sendable, crosses) depth 20, (search sendable, (search sendable, (search sendable, tt)))))),
+          ),
         ),
       ),
     ),

@@ -14,7 +14,6 @@ use Rattle.lert_cone.specs.{JournalPlaces.{ArePlacesIn, Places, MayName, NamesRe
 use Rattle.lert_cone.specs.Tally.{Tallied, IsCounted}
 use Rattle.lert_cone.proofs.{KeyStep.{next_payload, journal_beside, frames_beside, log_beside, log_behind}, LogLaws.{LogsNext, log_at_close}, FlushLaws.last_flush_grows}
 use Rattle.lert_cone.proofs.{JournalPlaceLaws.{may_name, names_pushed, oldest_names}, StepLaws.sound_of}
-use Rattle.lert_cone.specs.History.{written}
 
 -- all items are taken
 pub partway_all : (s : Numbers) (history : List Packet) (events : List Item) → events ≡ events_of history → length (events_of (but_last history)) ≤ length events →
@@ -29,15 +28,15 @@ pub record IsEnding (leaves : Files → Type 0) (seen : Files) (history : List P
   pub listing_is : a.listing ≡ record t.listing { closed = true }
   pub rows_are : a.rows ≡ t.rows
   pub read : leaves seen
-  pub journal : InEach leaves 0 (IsJournal t.listing.settings t.listing.cone history)
+  pub journal : InEach leaves 0 (IsJournal t.listing.version t.listing.settings t.listing.cone history)
   pub journal_settled : IsWhollySettled leaves seen 0
   pub log_there : InEach leaves 1 (λ bytes. HasLog t.listing.settings t.listing.cone bytes logged log.gate)
-  pub frames : InEach leaves 2 (HoldsBins t.listing.settings written t.listing.events t.rows)
+  pub frames : InEach leaves 2 (HoldsBins t.listing.settings t.listing.version t.listing.events t.rows)
   pub reports_are : a.due.reports ≡ reports_of a.listing
   pub all : t.listing.events ≡ events_of history
   pub late : length (events_of (but_last history)) ≤ length t.listing.events
-  pub begins : NamesRecord t.listing.settings history (last_n0 logged) (last_place logged)
-  pub placed : ArePlacesIn history log.places
+  pub begins : NamesRecord t.listing.version t.listing.settings history (last_n0 logged) (last_place logged)
+  pub placed : ArePlacesIn t.listing.version history log.places
   pub same : log.places.settings ≡ t.listing.settings
   pub passed : log.places.passed ≡ length t.listing.events
   pub reach : log.places.from ≤ edge t.listing.settings 0 (length t.listing.events) + 1
@@ -51,7 +50,7 @@ module _ (leaves : Files → Type 0) (seen : Files) (history : List Packet) (t a
   last = next_record LogKind.Closing (length t.listing.events) (oldest_place log.places) t.rows logged a.due.reports
 
   -- it names the journal's record that holds the first item of level 0
-  names : NamesRecord t.listing.settings history (length t.listing.events) (oldest_place log.places)
+  names : NamesRecord t.listing.version t.listing.settings history (length t.listing.events) (oldest_place log.places)
   names = oldest_names t.listing.settings before.valid history log.places (length t.listing.events) ending.same ending.passed ending.reach ending.placed
 
   may : MayName t.listing.settings (length t.listing.events) (oldest_place log.places)
@@ -59,7 +58,7 @@ module _ (leaves : Files → Type 0) (seen : Files) (history : List Packet) (t a
       let journal = ending.journal seen ending.read in
       may_name t.listing.settings before.valid t.listing.cone (length t.listing.events) history (oldest_place log.places) journal.journaled journal.within names
 
-  named_then : NamesRecord t.listing.settings history (last_n0 (logged ++ last ∷ [])) (last_place (logged ++ last ∷ []))
+  named_then : NamesRecord t.listing.version t.listing.settings history (last_n0 (logged ++ last ∷ [])) (last_place (logged ++ last ∷ []))
   named_then = names_pushed t.listing.settings history logged last names
 
   next : LogsNext t.listing.settings t.listing.cone t.listing.events t.rows true logged
@@ -81,11 +80,11 @@ module _ (leaves : Files → Type 0) (seen : Files) (history : List Packet) (t a
         ∙ ap (λ (rows : List (List BinAt)). payload_at log LogKind.Closing (length t.listing.events) (directory_text rows) a.due.reports) ending.rows_are
         ∙ next_payload log LogKind.Closing (length t.listing.events) t.rows logged a.due.reports ending.named_is
 
-    journal_then : InEach since 0 (IsJournal t.listing.settings t.listing.cone history)
+    journal_then : InEach since 0 (IsJournal t.listing.version t.listing.settings t.listing.cone history)
     journal_then = journal_beside leaves since seen t.listing.settings t.listing.cone history logged last log.gate payload ending.read ending.journal ending.journal_settled ending.log_there
         next.is.rules payload_here others earlier
 
-    frames_then : InEach since 2 (HoldsBins t.listing.settings written t.listing.events t.rows)
+    frames_then : InEach since 2 (HoldsBins t.listing.settings t.listing.version t.listing.events t.rows)
     frames_then =
         frames_beside leaves since seen t.listing.settings t.listing.cone history logged last log.gate payload ending.read ending.journal ending.journal_settled ending.log_there next.is.rules
         payload_here others earlier
@@ -97,17 +96,18 @@ module _ (leaves : Files → Type 0) (seen : Files) (history : List Packet) (t a
     sound_close each image may =
         elim (log_beside leaves since seen t.listing.settings t.listing.cone history logged last log.gate payload ending.read ending.journal ending.journal_settled ending.log_there next.is.rules
         payload_here others earlier each image may) [
-          | inl without ↦ sound_of t.listing.settings t.listing.cone history t.listing.events t.rows false logged log.gate before.valid before.rows partway
+          | inl without ↦ sound_of t.listing.settings t.listing.cone history t.listing.events t.rows false logged log.gate before.known before.valid before.rows partway
               (λ never. absurd (false≢true never)) ending.log_of ending.begins image (journal_then image may) without (frames_then image may)
-          | inr with_it ↦ sound_of t.listing.settings t.listing.cone history t.listing.events t.rows true (logged ++ last ∷ []) (next_gate log.gate payload) before.valid before.rows partway
+          | inr with_it ↦ sound_of t.listing.settings t.listing.cone history t.listing.events t.rows true (logged ++ last ∷ []) (next_gate log.gate payload) before.known before.valid before.rows
+              partway
               (λ _. ending.all) next.is named_then image (journal_then image may) with_it (frames_then image may)
         ]
 
     -- and after it
-    of_listing : (P : Numbers → ℕ → List Item → List (List BinAt) → Bool → Type 0) → P t.listing.settings t.listing.cone t.listing.events t.rows true →
-        P a.listing.settings a.listing.cone a.listing.events a.rows a.listing.closed
-    of_listing P holds = subst (λ (l : Listing). P l.settings l.cone l.events a.rows l.closed) (sym ending.listing_is)
-        (subst (λ (rows : List (List BinAt)). P t.listing.settings t.listing.cone t.listing.events rows true) (sym ending.rows_are) holds)
+    of_listing : (P : Numbers → ℕ → ℕ → List Item → List (List BinAt) → Bool → Type 0) → P t.listing.settings t.listing.version t.listing.cone t.listing.events t.rows true →
+        P a.listing.settings a.listing.version a.listing.cone a.listing.events a.rows a.listing.closed
+    of_listing P holds = subst (λ (l : Listing). P l.settings l.version l.cone l.events a.rows l.closed) (sym ending.listing_is)
+        (subst (λ (rows : List (List BinAt)). P t.listing.settings t.listing.version t.listing.cone t.listing.events rows true) (sym ending.rows_are) holds)
 
     pub up_closed : (after : Files → Type 0) (seen_after : Files) (log_after : LogPlace) → ((image : Files) → after image → since image) → log_after.named ≡ length a.due.reports →
         log_after.places ≡ log.places →
@@ -116,20 +116,21 @@ module _ (leaves : Files → Type 0) (seen : Files) (history : List Packet) (t a
         IsInStep after seen_after history a.listing a.rows a.due.reports log_after
     up_closed after seen_after log_after now named_is places_are stands journal_settled log_settled = record {
       logged = logged ++ last ∷ [];
-      log_of = of_listing (λ s cone events rows closed. IsLogOf s cone events rows closed (logged ++ last ∷ [])) next.is;
+      log_of = of_listing (λ s version cone events rows closed. IsLogOf s cone events rows closed (logged ++ last ∷ [])) next.is;
       named_is = named_is ∙ ap length (closed_reports ∙ sym next.is.reports_are);
-      journal = λ image may. of_listing (λ s cone events rows closed. IsJournal s cone history (image 0)) (journal_then image (now image may));
-      log_there = λ image may. of_listing (λ s cone events rows closed. HasLog s cone (image 1) (logged ++ last ∷ []) log_after.gate)
+      journal = λ image may. of_listing (λ s version cone events rows closed. IsJournal version s cone history (image 0)) (journal_then image (now image may));
+      log_there = λ image may. of_listing (λ s version cone events rows closed. HasLog s cone (image 1) (logged ++ last ∷ []) log_after.gate)
           (log_behind leaves since seen t.listing.settings t.listing.cone history logged last log.gate payload ending.read ending.journal ending.journal_settled ending.log_there next.is.rules
           payload_here others earlier
           after log_after.gate now stands image may);
-      frames = λ image may. of_listing (λ s cone events rows closed. HoldsBins s written events rows (image 2)) (frames_then image (now image may));
+      frames = λ image may. of_listing (λ s version cone events rows closed. HoldsBins s version events rows (image 2)) (frames_then image (now image may));
       journal_settled = journal_settled;
       log_settled = log_settled;
       reports_are = ending.reports_are;
-      begins = of_listing (λ s cone events rows closed. NamesRecord s history (last_n0 (logged ++ last ∷ [])) (last_place (logged ++ last ∷ []))) named_then;
-      placed = subst (ArePlacesIn history) (sym places_are) ending.placed;
-      reach = of_listing (λ s cone events rows closed. log_after.places.from ≤ edge s 0 (length events) + 1)
+      begins = of_listing (λ s version cone events rows closed. NamesRecord version s history (last_n0 (logged ++ last ∷ [])) (last_place (logged ++ last ∷ []))) named_then;
+      placed = of_listing (λ s version cone events rows closed. ArePlacesIn version history log_after.places)
+          (subst (ArePlacesIn t.listing.version history) (sym places_are) ending.placed);
+      reach = of_listing (λ s version cone events rows closed. log_after.places.from ≤ edge s 0 (length events) + 1)
           (subst (λ (m : Places). m.from ≤ edge t.listing.settings 0 (length t.listing.events) + 1) (sym places_are) ending.reach);
     }
 

@@ -33,7 +33,7 @@ module _ {B : Type 0} {bays : Bays B} (lawful : IsLawful bays) {old : Workplace 
     counted = tt;
     in_step = λ seen told history all up. tt;
     each_moment = λ seen told history all up image may. sound_before seen history all up image (did.reads.moments image may);
-    sound = λ seen told history up. did.sound seen told (held seen told history up);
+    sound = λ seen told history up weighs. did.sound seen told (held seen told history up) weighs;
     whole = λ seen told. tt;
     room = refl;
     keeps = record {
@@ -122,7 +122,7 @@ module _ {B : Type 0} {bays : Bays B} (lawful : IsLawful bays) {old : Workplace 
           counted = tt;
           in_step = λ seen told history all up. tt;
           each_moment = sound_end few (Err failed) bay_after log_after appends;
-          sound = λ seen told history up file at same. (let never : ⊥ = cc in never);
+          sound = λ seen told history up weighs file at same. (let never : ⊥ = cc in never);
           whole = λ seen told. tt;
           room = room_is;
           keeps = record {
@@ -156,7 +156,7 @@ module _ {B : Type 0} {bays : Bays B} (lawful : IsLawful bays) {old : Workplace 
           (settled_alone lawful (beside few (Ok tt) bay_after log_after appends) seen told_then ends.journal_settled after told_after)
           (appends.settled after told_after);
       each_moment = sound_end few (Ok tt) bay_after log_after appends;
-      sound = λ seen told history up. did.sound seen told (held seen told history up);
+      sound = λ seen told history up weighs. did.sound seen told (held seen told history up) weighs;
       whole = did.whole;
       room = room_is;
       keeps = record {

@@ -2,18 +2,18 @@
 use Rattle.lert_spec.specs.Counts.{weighed}
 use Rattle.std.proofs.{Common.{◌≡◌, ℕ, zero, suc, ◌+◌, ◌-◌, ◌<◌, ◌≤◌, All, List, [], ◌∷◌, ◌++◌, drop, map, take, Some, None, refl, sym, arith}, lemmas.List.Elements.{All-nil, All-cons}}
 use Rattle.std.specs.Prelude.{slice_index_or}
-use Rattle.lert_cone.specs.History.{written}
 use Rattle.lert_base.specs.Packet.{keys_of, Packet, events_of}
 use Rattle.lert_spec.specs.Items.{units}
 use Rattle.lert_spec.proofs.ItemLaws.{units_of_version}
 use Rattle.lert_bay.specs.Files.{Files}
 use Rattle.lert_journal.specs.Payload.{IsJournaled}
 use Rattle.lert_spec.specs.{declared.numbers.Numbers.Numbers, Mix.{mix, cone_of}, Bins.bins_of, Edges.{key_limit, edge}, Look.closing_of}
-use Rattle.lert_cone.specs.{Framed.last_flush, declared.journal_places.JournalPlace.JournalPlace, History.{most_payload, end_of}, JournalPlaces.{HoldsPosition, first_place, oldest_place}}
+use Rattle.lert_cone.specs.{Framed.last_flush, declared.journal_places.JournalPlace.JournalPlace, History.{end_of}, JournalPlaces.{HoldsPosition, first_place, oldest_place}}
 use Rattle.lert_cone.specs.{Sound.{IsSoundClosed, HoldFrames}, Unread.unread}
 use Rattle.lert_reports.specs.{declared.log.LogKind.LogKind, Log.{HasLog, before_of, last_directory, listed_in}, LogRules.{AreFrames, KeepsRules}, LogText.{LogRecord, bin_count}}
 use Rattle.lert_reports.proofs.LogLaws.{records_none, records_more}
 use Rattle.lert_spec.proofs.MixLaws.{unmixed}
+use Rattle.lert_journal.specs.Payload.{most_payload}
 
 abbrev small : Numbers
 small = record { threshold = 3; bins = 3; ratio = 2; base = 4; levels = 2; cone_bits = 0; room = 32; packet = 8 }
@@ -50,17 +50,17 @@ files (suc (suc number)) = []
 events_of_two : events_of (sevens ∷ sevens ∷ []) ≡ units (7 ∷ 7 ∷ 7 ∷ 7 ∷ 7 ∷ 7 ∷ [])
 events_of_two = refl
 
-end_of_one : end_of (sevens ∷ []) ≡ 69
+end_of_one : end_of 1 (sevens ∷ []) ≡ 69
 end_of_one = refl
 
-end_of_two : end_of (sevens ∷ sevens ∷ []) ≡ 106
+end_of_two : end_of 1 (sevens ∷ sevens ∷ []) ≡ 106
 end_of_two = refl
 
-most_of_small : most_payload small ≡ 264
+most_of_small : most_payload 1 small ≡ 264
 most_of_small = refl
 
 -- a journal may hold them
-journaled : IsJournaled written small 0 sevens
+journaled : IsJournaled 1 small 0 sevens
 unfolding mix
 journaled = record {
   some = omega arith;
@@ -71,7 +71,7 @@ journaled = record {
       All-cons (λ key. cone_of small key ≡ 0) 7 (7 ∷ 7 ∷ []) refl
       (All-cons (λ key. cone_of small key ≡ 0) 7 (7 ∷ []) refl
       (All-cons (λ key. cone_of small key ≡ 0) 7 [] refl (All-nil (λ key. cone_of small key ≡ 0))));
-  weighed = units_of_version written (7 ∷ 7 ∷ 7 ∷ []);
+  weighed = units_of_version 1 (7 ∷ 7 ∷ 7 ∷ []);
 }
 
 keys_fit : All (λ key. key < key_limit small) (keys_of sevens)
@@ -130,7 +130,7 @@ log = record {
   rules = records_more small 0 [] ending (records_none small 0) refl ending_keeps (λ i j d less within. absurd (omega (arith, less, within)));
 }
 
-no_bins : (level : ℕ) → 1 ≤ level → level ≤ 2 → HoldFrames small level [] (slice_index_or (last_directory small (ending ∷ [])) (level - 1) [])
+no_bins : (level : ℕ) → 1 ≤ level → level ≤ 2 → HoldFrames 1 small level [] (slice_index_or (last_directory small (ending ∷ [])) (level - 1) [])
     (bins_of weighed small (take 3 (events_of (sevens ∷ []))) level)
 no_bins zero first last = absurd (omega (arith, first))
 no_bins (suc zero) first last = tt
@@ -142,22 +142,25 @@ unfolding mix
 listed = refl
 
 -- it names the record that holds position 1
-first_holds : HoldsPosition (sevens ∷ []) first_place 1
+first_holds : HoldsPosition 1 (sevens ∷ []) first_place 1
 first_holds = record { done = []; packet = sevens; rest = []; is = refl; gate_is = refl; first_is = refl; from = omega arith; to = omega arith }
 
 -- and the files are sound for them, and closed
 sound : IsSoundClosed small 0 (sevens ∷ []) files
 sound = record {
   sound = record {
+    version = 1;
+    known = (omega arith, omega arith);
     journal = record {
       headed = refl;
       records = record {
         records = (record { opened = refl; counted = refl; some = omega arith; fits = omega arith; there = refl }, refl);
         closed = record { within = omega arith; shut = λ one. absurd (omega (arith, one)) };
       };
-      journaled = All-cons (IsJournaled written small 0) sevens [] journaled (All-nil (IsJournaled written small 0));
+      journaled = All-cons (IsJournaled 1 small 0) sevens [] journaled (All-nil (IsJournaled 1 small 0));
       fit = All-cons (λ packet. All (λ key. key < key_limit small) (keys_of packet)) sevens [] keys_fit (All-nil (λ packet. All (λ key. key < key_limit small) (keys_of packet)));
       within = omega arith;
+      light = omega arith;
     };
     logged = ending ∷ [];
     log_end = 60;
@@ -200,13 +203,13 @@ eight =
 edges_of_eight : map (edge small 0) (12 ∷ 16 ∷ 20 ∷ 24 ∷ 28 ∷ 32 ∷ 36 ∷ 37 ∷ []) ≡ 4 ∷ 8 ∷ 12 ∷ 16 ∷ 20 ∷ 24 ∷ 28 ∷ 28 ∷ []
 edges_of_eight = refl
 
-holds_5 : HoldsPosition eight (record { gate = 90; first = 5 }) 5
+holds_5 : HoldsPosition 1 eight (record { gate = 90; first = 5 }) 5
 holds_5 = record { done = take 2 eight; packet = packet_of (5 ∷ 6 ∷ 7 ∷ 8 ∷ 9 ∷ []); rest = drop 3 eight; is = refl; gate_is = refl; first_is = refl; from = omega arith; to = omega arith }
 
-holds_9 : HoldsPosition eight (record { gate = 90; first = 5 }) 9
+holds_9 : HoldsPosition 1 eight (record { gate = 90; first = 5 }) 9
 holds_9 = record { done = take 2 eight; packet = packet_of (5 ∷ 6 ∷ 7 ∷ 8 ∷ 9 ∷ []); rest = drop 3 eight; is = refl; gate_is = refl; first_is = refl; from = omega arith; to = omega arith }
 
-holds_17 : HoldsPosition eight (record { gate = 143; first = 10 }) 17
+holds_17 : HoldsPosition 1 eight (record { gate = 143; first = 10 }) 17
 holds_17 = record {
   done = take 3 eight;
   packet = packet_of (10 ∷ 11 ∷ 12 ∷ 13 ∷ 14 ∷ 15 ∷ 16 ∷ 17 ∷ 18 ∷ []);
@@ -218,7 +221,7 @@ holds_17 = record {
   to = omega arith;
 }
 
-holds_29 : HoldsPosition eight (record { gate = 326; first = 28 }) 29
+holds_29 : HoldsPosition 1 eight (record { gate = 326; first = 28 }) 29
 holds_29 = record {
   done = take 6 eight;
   packet = packet_of (28 ∷ 29 ∷ 30 ∷ 31 ∷ 32 ∷ 33 ∷ []);
@@ -262,19 +265,19 @@ abbrev two_files : Files
 two_files zero = two_packets
 two_files (suc number) = []
 
-unread_of_one : unread small 0 3 (Some two_files) ≡ units (7 ∷ 7 ∷ 7 ∷ [])
+unread_of_one : unread 1 small 0 3 (Some two_files) ≡ units (7 ∷ 7 ∷ 7 ∷ [])
 unfolding unread mix unmixed
 unread_of_one = refl
 
-unread_of_two : unread small 0 5 (Some two_files) ≡ units (7 ∷ 7 ∷ 7 ∷ 5 ∷ 9 ∷ [])
+unread_of_two : unread 1 small 0 5 (Some two_files) ≡ units (7 ∷ 7 ∷ 7 ∷ 5 ∷ 9 ∷ [])
 unfolding unread mix unmixed
 unread_of_two = refl
 
 -- where the journal has no more items, or isn't told, they are items of the cone all the same
-unread_behind : unread small 0 6 (Some two_files) ≡ units (7 ∷ 7 ∷ 7 ∷ 5 ∷ 9 ∷ 0 ∷ [])
+unread_behind : unread 1 small 0 6 (Some two_files) ≡ units (7 ∷ 7 ∷ 7 ∷ 5 ∷ 9 ∷ 0 ∷ [])
 unfolding unread mix unmixed
 unread_behind = refl
 
-unread_untold : unread small 0 2 None ≡ units (0 ∷ 0 ∷ [])
+unread_untold : unread 1 small 0 2 None ≡ units (0 ∷ 0 ∷ [])
 unfolding unread mix unmixed
 unread_untold = refl

@@ -57,10 +57,6 @@ pub kept_since : {after since : Files → Type 0} {seen : Files} {P : Files → 
     IsKept after seen P
 kept_since {seen = seen} read now each = record { as_read = each seen (now seen read); images = λ image may. each image (now image may) }
 
--- files that aren't told stay untold
-pub turned_none : {step : Files → Files → Type 0} {before after : Option Files} → Turns step before after → before ≡ None → after ≡ None
-turned_none turns = turns.untold
-
 -- turns in a row
 pub turns_on : {one two : Files → Files → Type 0} {before between after : Option Files} → Turns one before between → Turns two between after → Turns Anything before after
 turns_on first second = record {

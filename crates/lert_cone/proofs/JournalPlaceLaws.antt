@@ -4,7 +4,6 @@ use Rattle.std.proofs.Common.{◌≡◌, ℕ, zero, suc, ◌+◌, ◌-◌, ◌*�
 use Rattle.std.proofs.{Common.{length-drop, length-take, append_assoc, get_or-set_other, get_or-set_same}, Math.ListN.set, Math.Nat.{add-mul, mul-le-mul_right}, lemmas.Bool.{cases_lt, eq-eqb, ne_eqb}}
 use Rattle.std.proofs.{lemmas.Grind.flat_map-append, lemmas.List.{get_or-append-add, get_or-take}}
 use Rattle.lert_cone.proofs.SoundLaws.{some_keys_of}
-use Rattle.lert_cone.specs.History.{written}
 use Rattle.lert_base.specs.Packet.{Packet, events_of}
 use Rattle.lert_journal.specs.Payload.{IsJournaled}
 use Rattle.lert_reports.specs.{Log.last_n0, LogText.LogRecord}
@@ -15,17 +14,18 @@ use Rattle.lert_cone.specs.{declared.journal_places.JournalPlace.JournalPlace, H
 use Rattle.lert_cone.specs.JournalPlaces.{ArePlacesIn, AreOfRecord, HasPassed, HoldsPosition, MayName, Places, NamesRecord, bins_begun, bins_behind, first_place, last_place, oldest_place}
 use Rattle.lert_cone.specs.{Replay.{IsPast, IsNext}, Short.few}
 use Rattle.lert_cone.proofs.BinLaws.{begun_from, begun_none, begun_to, bin_more, bins_below, bins_between, bins_few, bins_some, bins_within, edge_bins, edge_steps, wide}
+use Rattle.lert_cone.proofs.ItemLaws.{items_most}
 
 -- the packets before it have no more items than all
-events_within : (history : List Packet) (place : JournalPlace) (p : ℕ) (holds : HoldsPosition history place p) → length (events_of holds.done) ≤ length (events_of history)
+events_within : {version : ℕ} (history : List Packet) (place : JournalPlace) (p : ℕ) (holds : HoldsPosition version history place p) → length (events_of holds.done) ≤ length (events_of history)
 events_within history place p holds =
     let split = ap events_of holds.is ∙ flat_map-append (λ (q : Packet). q.items) holds.done (holds.packet ∷ holds.rest) in
     omega (arith, ap (length {A = Item}) split, length-append (events_of holds.done) (events_of (holds.packet ∷ holds.rest)))
 
 -- ---- a history that grows
 
-module _ (history more : List Packet) where
-  pub holds_more : (place : JournalPlace) (p : ℕ) → HoldsPosition history place p → HoldsPosition (history ++ more) place p
+module _ {version : ℕ} (history more : List Packet) where
+  pub holds_more : (place : JournalPlace) (p : ℕ) → HoldsPosition version history place p → HoldsPosition version (history ++ more) place p
   holds_more place p holds = record {
     done = holds.done;
     packet = holds.packet;
@@ -37,30 +37,34 @@ module _ (history more : List Packet) where
     to = holds.to;
   }
 
-  pub names_more : (s : Numbers) (n0 : ℕ) (place : JournalPlace) → NamesRecord s history n0 place → NamesRecord s (history ++ more) n0 place
+  pub names_more : (s : Numbers) (n0 : ℕ) (place : JournalPlace) → NamesRecord version s history n0 place → NamesRecord version s (history ++ more) n0 place
   names_more s n0 place names = record { none = names.none; some = λ some. holds_more place (edge s 0 n0 + 1) (names.some some) }
 
-  pub places_more : (places : Places) → ArePlacesIn history places → ArePlacesIn (history ++ more) places
+  pub places_more : (places : Places) → ArePlacesIn version history places → ArePlacesIn version (history ++ more) places
   places_more places are = record {
     each = λ k j known few low high. holds_more (get_or places.places j first_place) (k * span places.settings 0 + 1) (are.each k j known few low high);
   }
 
 -- one record more, by what it names itself
-pub names_pushed : (s : Numbers) (history : List Packet) (logged : List LogRecord) (one : LogRecord) → NamesRecord s history one.n0 (record { gate = one.offset; first = one.first }) →
-    NamesRecord s history (last_n0 (logged ++ one ∷ [])) (last_place (logged ++ one ∷ []))
-names_pushed s history logged one names =
+pub names_pushed : {version : ℕ} (s : Numbers) (history : List Packet) (logged : List LogRecord) (one : LogRecord) → NamesRecord version s history one.n0 (record {
+  gate = one.offset;
+  first =
+      one.first;
+}) →
+    NamesRecord version s history (last_n0 (logged ++ one ∷ [])) (last_place (logged ++ one ∷ []))
+names_pushed {version} s history logged one names =
     let mark_is : last_place (logged ++ one ∷ []) ≡ record { gate = one.offset; first = one.first } =
     λ i. record { gate = last_offset-push logged one i; first = last_first-push logged one i } in
-    subst (λ n. NamesRecord s history n (last_place (logged ++ one ∷ []))) (sym (last_n0-push logged one))
-    (subst (λ (m : JournalPlace). NamesRecord s history one.n0 m) (sym mark_is) names)
+    subst (λ n. NamesRecord version s history n (last_place (logged ++ one ∷ []))) (sym (last_n0-push logged one))
+    (subst (λ (m : JournalPlace). NamesRecord version s history one.n0 m) (sym mark_is) names)
 
 -- ---- before the first item that is seen
 
-pub names_none : (s : Numbers) (history : List Packet) → NamesRecord s history 0 first_place
+pub names_none : {version : ℕ} (s : Numbers) (history : List Packet) → NamesRecord version s history 0 first_place
 names_none s history = record { none = λ _. refl; some = λ some. absurd (omega (arith, some)) }
 
 -- no bin that is known has begun
-pub places_none : (history : List Packet) (places : Places) → places.from ≡ places.passed + 1 → ArePlacesIn history places
+pub places_none : {version : ℕ} (history : List Packet) (places : Places) → places.from ≡ places.passed + 1 → ArePlacesIn version history places
 places_none history places from_is = record {
   each = λ k j known few low high. absurd (omega (arith, from_is, known, low, add-mul k j (span places.settings 0)));
 }
@@ -68,9 +72,10 @@ places_none history places from_is = record {
 -- ---- the items of a record
 
 -- a packet that stands behind others, at its gate and with its first position
-module _ (history done : List Packet) (packet : Packet) (rest : List Packet) (is : history ≡ done ++ packet ∷ rest) (place : JournalPlace) (n : ℕ) (gate_is : place.gate ≡ end_of done)
+module _ {version : ℕ} (history done : List Packet) (packet : Packet) (rest : List Packet) (is : history ≡ done ++ packet ∷ rest) (place : JournalPlace) (n : ℕ) (gate_is : place.gate ≡ end_of
+    version done)
     (n_is : n ≡ length (events_of done)) (first_is : place.first ≡ n + 1) where
-  pub packet_holds : AreOfRecord history place n (n + length packet.items)
+  pub packet_holds : AreOfRecord version history place n (n + length packet.items)
   packet_holds = record {
     each = λ p low high. record {
       done = done;
@@ -85,20 +90,22 @@ module _ (history done : List Packet) (packet : Packet) (rest : List Packet) (is
   }
 
 -- the packet behind a list
-pub last_holds : (history : List Packet) (packet : Packet) (place : JournalPlace) (n : ℕ) → place.gate ≡ end_of history → n ≡ length (events_of history) → place.first ≡ n + 1 →
-    AreOfRecord (history ++ packet ∷ []) place n (n + length packet.items)
+pub last_holds : {version : ℕ} (history : List Packet) (packet : Packet) (place : JournalPlace) (n : ℕ) → place.gate ≡ end_of version history → n ≡ length (events_of history) → place.first ≡ n + 1 →
+    AreOfRecord version (history ++ packet ∷ []) place n (n + length packet.items)
 last_holds history packet place n gate_is n_is first_is = packet_holds (history ++ packet ∷ []) history packet [] refl place n gate_is n_is first_is
 
 -- the packet that is read next
-pub next_holds : (history done : List Packet) (events : List Item) (gate : ℕ) (packet : Packet) (keys : List Item) (place : JournalPlace) → IsPast history done events gate → IsNext history done
+pub next_holds : {version : ℕ} (history done : List Packet) (events : List Item) (gate : ℕ) (packet : Packet) (keys : List Item) (place : JournalPlace) → IsPast version history done events gate →
+    IsNext history done
     packet →
-    keys ≡ packet.items → place.gate ≡ gate → place.first ≡ length events + 1 → AreOfRecord history place (length events) (length events + length keys)
-next_holds history done events gate packet keys place past next keys_are gate_is first_is =
-    subst (λ (ks : List Item). AreOfRecord history place (length events) (length events + length ks)) (sym keys_are)
+    keys ≡ packet.items → place.gate ≡ gate → place.first ≡ length events + 1 → AreOfRecord version history place (length events) (length events + length keys)
+next_holds {version} history done events gate packet keys place past next keys_are gate_is first_is =
+    subst (λ (ks : List Item). AreOfRecord version history place (length events) (length events + length ks)) (sym keys_are)
     (packet_holds history done packet next.rest next.is place (length events) (gate_is ∙ past.gate_is) (ap length past.keys) first_is)
 
 -- a part of the positions
-pub record_part : (history : List Packet) (place : JournalPlace) (n last from to : ℕ) → n ≤ from → to ≤ last → AreOfRecord history place n last → AreOfRecord history place from to
+pub record_part : {version : ℕ} (history : List Packet) (place : JournalPlace) (n last from to : ℕ) → n ≤ from → to ≤ last → AreOfRecord version history place n last →
+    AreOfRecord version history place from to
 record_part history place n last from to low high are = record { each = λ p above within. are.each p (omega (arith, low, above)) (omega (arith, high, within)) }
 
 -- ---- places that are turned by one, with a new one in front
@@ -134,13 +141,13 @@ module _ (xs : List JournalPlace) (place : JournalPlace) (long : length xs ≡ 1
 
 module _ (s : Numbers) (valid : IsValid s) where
   -- what places of these settings stand for
-  was : (history : List Packet) (places : Places) → places.settings ≡ s → ArePlacesIn history places → (k j : ℕ) → places.from ≤ k * span s 0 + 1 → j ≤ s.bins →
+  was : {version : ℕ} (history : List Packet) (places : Places) → places.settings ≡ s → ArePlacesIn version history places → (k j : ℕ) → places.from ≤ k * span s 0 + 1 → j ≤ s.bins →
       (k + j) * span s 0 < places.passed →
       places.passed ≤ (k + j + 1) * span s 0 →
-      HoldsPosition history (get_or places.places j first_place) (k * span s 0 + 1)
-  was history places settings_are are = subst (λ (t : Numbers). (k j : ℕ) → places.from ≤ k * span t 0 + 1 → j ≤ t.bins → (k + j) * span t 0 < places.passed →
+      HoldsPosition version history (get_or places.places j first_place) (k * span s 0 + 1)
+  was {version} history places settings_are are = subst (λ (t : Numbers). (k j : ℕ) → places.from ≤ k * span t 0 + 1 → j ≤ t.bins → (k + j) * span t 0 < places.passed →
       places.passed ≤ (k + j + 1) * span t 0 →
-      HoldsPosition history (get_or places.places j first_place) (k * span t 0 + 1)) settings_are are.each
+      HoldsPosition version history (get_or places.places j first_place) (k * span t 0 + 1)) settings_are are.each
 
   -- level 0's edge never falls
   pub edge_grows : (m n : ℕ) → m ≤ n → edge s 0 m ≤ edge s 0 n
@@ -148,14 +155,14 @@ module _ (s : Numbers) (valid : IsValid s) where
 
   -- ---- a step
 
-  module _ (history : List Packet) (old new : Places) (settings_are : old.settings ≡ s) (are : ArePlacesIn history old) where
+  module _ {version : ℕ} (history : List Packet) (old new : Places) (settings_are : old.settings ≡ s) (are : ArePlacesIn version history old) where
     -- a bin begins, whose first item the record at a place holds
     module _ (place : JournalPlace) (new_settings : new.settings ≡ old.settings) (passed : new.passed ≡ bins_begun s old.passed * span s 0 + 1) (from_is : new.from ≡ old.from)
         (newest : get_or new.places 0 first_place ≡ place)
         (others : (j : ℕ) → j < 16 → get_or new.places (j + 1) first_place ≡ get_or old.places j first_place)
-        (holds : HoldsPosition history place (bins_begun s old.passed * span s 0 + 1)) where
+        (holds : HoldsPosition version history place (bins_begun s old.passed * span s 0 + 1)) where
       each_begun : (k j : ℕ) → new.from ≤ k * span s 0 + 1 → j ≤ s.bins → (k + j) * span s 0 < new.passed → new.passed ≤ (k + j + 1) * span s 0 →
-          HoldsPosition history (get_or new.places j first_place) (k * span s 0 + 1)
+          HoldsPosition version history (get_or new.places j first_place) (k * span s 0 + 1)
       each_begun k zero known few low high =
           let c = bins_begun s old.passed in
           let same : k ≡ c = omega (
@@ -163,8 +170,8 @@ module _ (s : Numbers) (valid : IsValid s) where
             bins_within (k + 0) c (span s 0) (omega (arith, low, passed)) (wide s valid),
             bins_below c (k + 0 + 1) (span s 0) (omega (arith, high, passed)),
           ) in
-          subst (λ m. HoldsPosition history m (k * span s 0 + 1)) (sym newest)
-          (subst (λ n. HoldsPosition history place (n * span s 0 + 1)) (sym same) holds)
+          subst (λ m. HoldsPosition version history m (k * span s 0 + 1)) (sym newest)
+          (subst (λ n. HoldsPosition version history place (n * span s 0 + 1)) (sym same) holds)
       each_begun k (suc j) known few low high =
           let c = bins_begun s old.passed in
           let place : k + suc j ≡ k + j + 1 = omega arith in
@@ -175,22 +182,22 @@ module _ (s : Numbers) (valid : IsValid s) where
           ) in
           let whole : (k + j + 1) * span s 0 ≡ c * span s 0 = ap (λ n. n * span s 0) same in
           let next : j + 1 ≡ suc j = omega arith in
-          subst (λ m. HoldsPosition history m (k * span s 0 + 1)) (sym (ap (λ n. get_or new.places n first_place) (sym next) ∙ others j (omega (arith, few, valid.limits.bins_to))))
+          subst (λ m. HoldsPosition version history m (k * span s 0 + 1)) (sym (ap (λ n. get_or new.places n first_place) (sym next) ∙ others j (omega (arith, few, valid.limits.bins_to))))
           (was history old settings_are are k j (omega (arith, known, from_is)) (omega (arith, few)) (omega (arith, whole, bin_more (k + j) (span s 0), begun_from s valid old.passed)) (omega
           (arith, whole, begun_to s valid old.passed)))
 
-      pub places_begun : ArePlacesIn history new
+      pub places_begun : ArePlacesIn version history new
       places_begun = record {
         each = subst (λ (t : Numbers). (k j : ℕ) → new.from ≤ k * span t 0 + 1 → j ≤ t.bins → (k + j) * span t 0 < new.passed → new.passed ≤ (k + j + 1) * span t 0 →
-            HoldsPosition history (get_or new.places j first_place) (k * span t 0 + 1)) (sym (new_settings ∙ settings_are)) each_begun;
+            HoldsPosition version history (get_or new.places j first_place) (k * span t 0 + 1)) (sym (new_settings ∙ settings_are)) each_begun;
       }
 
   -- keys of bins that have begun
-  pub places_on : (history : List Packet) (old : Places) (last : ℕ) → old.settings ≡ s → old.passed ≤ last → last ≤ bins_begun s old.passed * span s 0 → ArePlacesIn history old →
-      ArePlacesIn history (record old { passed = last })
-  places_on history old last settings_are forward within are = record {
+  pub places_on : {version : ℕ} (history : List Packet) (old : Places) (last : ℕ) → old.settings ≡ s → old.passed ≤ last → last ≤ bins_begun s old.passed * span s 0 → ArePlacesIn version history old →
+      ArePlacesIn version history (record old { passed = last })
+  places_on {version} history old last settings_are forward within are = record {
     each = subst (λ (t : Numbers). (k j : ℕ) → old.from ≤ k * span t 0 + 1 → j ≤ t.bins → (k + j) * span t 0 < last → last ≤ (k + j + 1) * span t 0 →
-        HoldsPosition history (get_or old.places j first_place) (k * span t 0 + 1)) (sym settings_are) (λ k j known few low high.
+        HoldsPosition version history (get_or old.places j first_place) (k * span t 0 + 1)) (sym settings_are) (λ k j known few low high.
         let less = bins_below (k + j) (bins_begun s old.passed) (span s 0) (omega (arith, low, within)) in
         let upto = mul-le-mul_right {m = k + j + 1} {n = bins_begun s old.passed} (span s 0) (omega (arith, less)) in
         was history old settings_are are k j known few (omega (arith, upto, bin_more (k + j) (span s 0), begun_from s valid old.passed)) (omega (arith, forward, high)));
@@ -213,18 +220,18 @@ module _ (s : Numbers) (valid : IsValid s) where
       ap (λ t. cond t first_place (get_or places.places (bins_behind places.settings places.passed) first_place)) (eq-eqb places.passed 0 none)
 
   -- it names the record that holds the bin's first item, where that bin is known
-  pub oldest_names : (history : List Packet) (places : Places) (n : ℕ) → places.settings ≡ s → places.passed ≡ n → places.from ≤ edge s 0 n + 1 → ArePlacesIn history places →
-      NamesRecord s history n (oldest_place places)
-  oldest_names history places n settings_are passed_is reach are = record {
+  pub oldest_names : {version : ℕ} (history : List Packet) (places : Places) (n : ℕ) → places.settings ≡ s → places.passed ≡ n → places.from ≤ edge s 0 n + 1 → ArePlacesIn version history places →
+      NamesRecord version s history n (oldest_place places)
+  oldest_names {version} history places n settings_are passed_is reach are = record {
     none = λ none. oldest_none places (passed_is ∙ none);
     some = λ some.
         let k = steps s 0 n in
         let j = bins_begun s n - steps s 0 n - 1 in
         let place : k + j + 1 ≡ bins_begun s n = omega (arith, bins_some s valid n some) in
         let whole : (k + j + 1) * span s 0 ≡ bins_begun s n * span s 0 = ap (λ x. x * span s 0) place in
-        subst (λ m. HoldsPosition history m (edge s 0 n + 1)) (sym (oldest_is places settings_are (omega (arith, some, passed_is)) ∙ ap (λ x. get_or places.places
+        subst (λ m. HoldsPosition version history m (edge s 0 n + 1)) (sym (oldest_is places settings_are (omega (arith, some, passed_is)) ∙ ap (λ x. get_or places.places
         (bins_begun s x - steps s 0 x - 1) first_place) passed_is))
-        (subst (λ p. HoldsPosition history (get_or places.places j first_place) (p + 1)) (sym (edge_bins s valid n))
+        (subst (λ p. HoldsPosition version history (get_or places.places j first_place) (p + 1)) (sym (edge_bins s valid n))
         (was history places settings_are are k j (omega (arith, reach, edge_bins s valid n)) (omega (arith, bins_few s valid n))
         (omega (arith, passed_is, whole, bin_more (k + j) (span s 0), begun_from s valid n)) (omega (arith, passed_is, whole, begun_to s valid n))));
   }
@@ -254,9 +261,10 @@ module _ (s : Numbers) (valid : IsValid s) where
   ]
 
   -- what a record names keeps the rules of a log
-  pub may_name : (cone n0 : ℕ) (history : List Packet) (place : JournalPlace) → All (IsJournaled written s cone) history → length (events_of history) ≤ capacity s → NamesRecord s history n0 place →
+  pub may_name : {version : ℕ} (cone n0 : ℕ) (history : List Packet) (place : JournalPlace) → All (IsJournaled version s cone) history → length (events_of history) ≤ capacity s →
+      NamesRecord version s history n0 place →
       MayName s n0 place
-  may_name cone n0 history place journaled within names =
+  may_name {version} cone n0 history place journaled within names =
       elim (cases_lt 0 n0) [
         | inl some ↦ (let holds = names.some some in
             let front : length history ≡ length holds.done + length (holds.packet ∷ holds.rest) = ap (length {A = Packet}) holds.is ∙ length-append holds.done (holds.packet ∷ holds.rest) in
@@ -265,6 +273,7 @@ module _ (s : Numbers) (valid : IsValid s) where
               offset_to = omega (
                 arith,
                 holds.gate_is,
+                items_most version (length (events_of holds.done)),
                 front,
                 few history (λ k d below. some_keys_of s cone _ (journaled k d below)),
                 within,
@@ -291,10 +300,10 @@ pub record IsPassing (last : ℕ) (place : JournalPlace) (old now : Places) : Ty
   pub from : old.passed ≤ now.passed
   pub to : now.passed ≤ last
   pub known : now.from ≡ old.from
-  pub places : (history : List Packet) → AreOfRecord history place old.passed last → ArePlacesIn history old → ArePlacesIn history now
+  pub places : (version : ℕ) (history : List Packet) → AreOfRecord version history place old.passed last → ArePlacesIn version history old → ArePlacesIn version history now
 
 pub passing_none : (last : ℕ) (place : JournalPlace) (old : Places) → old.passed ≤ last → IsPassing last place old old
-passing_none last place old forward = record { settings = refl; from = omega arith; to = forward; known = refl; places = λ history holds are. are }
+passing_none last place old forward = record { settings = refl; from = omega arith; to = forward; known = refl; places = λ version history holds are. are }
 
 module _ (last : ℕ) (place : JournalPlace) (old now : Places) (valid : IsValid now.settings) (passing : IsPassing last place old now) where
   -- a bin more
@@ -306,8 +315,8 @@ module _ (last : ℕ) (place : JournalPlace) (old now : Places) (valid : IsValid
     from = omega (arith, passing.from, passed, begun_to now.settings valid now.passed);
     to = omega (arith, passed, within);
     known = from_is ∙ passing.known;
-    places = λ history holds are.
-        places_begun now.settings valid history now new refl (passing.places history holds are) place settings_are passed from_is newest others
+    places = λ version history holds are.
+        places_begun now.settings valid history now new refl (passing.places version history holds are) place settings_are passed from_is newest others
         (holds.each (bins_begun now.settings now.passed * span now.settings 0 + 1) (omega (arith, passing.from, begun_to now.settings valid now.passed)) within);
   }
 
@@ -317,6 +326,6 @@ module _ (last : ℕ) (place : JournalPlace) (old now : Places) (valid : IsValid
     settings = ap (λ (m : Places). m.settings) is ∙ passing.settings;
     passed = ap (λ (m : Places). m.passed) is;
     from = ap (λ (m : Places). m.from) is ∙ passing.known;
-    places = λ history holds are. subst (ArePlacesIn history) (sym is)
-        (places_on now.settings valid history now last refl passing.to (omega (arith, within)) (passing.places history holds are));
+    places = λ version history holds are. subst (ArePlacesIn version history) (sym is)
+        (places_on now.settings valid history now last refl passing.to (omega (arith, within)) (passing.places version history holds are));
   }

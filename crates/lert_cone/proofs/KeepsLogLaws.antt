@@ -10,7 +10,6 @@ use Rattle.lert_reports.specs.{Log.{HasRecords, last_directory, last_n0, most_re
 use Rattle.lert_spec.specs.declared.numbers.Numbers.{Numbers}
 use Rattle.lert_cone.specs.{Framed.HoldsSome, KeepsLog.{AreNextFlushes, IsNextFlush, InDirectory, NamesRows, HoldsNamed, KeepsRecords, KeepsLog}, Wrote.IsShut}
 use Rattle.lert_cone.proofs.{StepLaws.first_same, WroteLaws.torn_behind}
-use Rattle.lert_cone.specs.History.{written}
 
 -- ---- rows, by what a directory names
 
@@ -38,9 +37,9 @@ level_frames s records rows names level first last =
     ∙ ap (λ (directory : List (List ℕ)). get_or directory (level - 1) []) (sym names.directory)
 
 -- the rows that the last record names are these
-pub named_some : (s : Numbers) (records : List LogRecord) (rows : List (List BinAt)) (file : List ℕ) → NamesRows s records rows → HoldsNamed s records file →
-    HoldsSome s (last_n0 records) rows file
-named_some s records rows file names holds = record {
+pub named_some : {version : ℕ} (s : Numbers) (records : List LogRecord) (rows : List (List BinAt)) (file : List ℕ) → NamesRows s records rows → HoldsNamed version s records file →
+    HoldsSome version s (last_n0 records) rows file
+named_some {version} s records rows file names holds = record {
   events = holds.some.events;
   len = holds.some.len;
   light = holds.some.light;
@@ -48,13 +47,13 @@ named_some s records rows file names holds = record {
       let same : row_of holds.rows level ≡ row_of rows level = row_same (row_of holds.rows level) (row_of rows level)
       (level_frames s records holds.rows holds.names level first last ∙ sym (level_frames s records rows names level first last))
       (holds.names.at.each level first last ∙ sym (names.at.each level first last)) in
-      subst (λ (row : List BinAt). All (λ bin. HoldsFrame s written level bin.frame file (tallied_in s holds.some.events bin)) row) same (holds.some.holds level first last);
+      subst (λ (row : List BinAt). All (λ bin. HoldsFrame s version level bin.frame file (tallied_in s holds.some.events bin)) row) same (holds.some.holds level first last);
 }
 
 -- a range in a frame that the directory names is in one of a bin
-pub in_named : (s : Numbers) (records : List LogRecord) (rows : List (List BinAt)) (from to : ℕ) → NamesRows s records rows → InDirectory s (last_directory s records) from to →
-    InNamed s written rows from to
-in_named s records rows from to names is =
+pub in_named : {version : ℕ} (s : Numbers) (records : List LogRecord) (rows : List (List BinAt)) (from to : ℕ) → NamesRows s records rows → InDirectory version s (last_directory s records) from to →
+    InNamed s version rows from to
+in_named {version} s records rows from to names is =
     let row = row_of rows is.level in
     let none : BinAt = record { from = 0; to = 0; frame = 0 } in
     let there : Contains (map frame_of row) is.frame =
@@ -67,8 +66,8 @@ in_named s records rows from to names is =
       last = is.last;
       bin = get_or row there.0 none;
       named = Contains-get_or row there.0 none below;
-      above = omega (arith, is.above, ap (frame_place s written is.level) frame_is);
-      below = omega (arith, is.below, ap (frame_place s written is.level) frame_is);
+      above = omega (arith, is.above, ap (frame_place s version is.level) frame_is);
+      below = omega (arith, is.below, ap (frame_place s version is.level) frame_is);
     }
 
 -- ---- the log
@@ -131,26 +130,27 @@ pub none_came : (more : List LogRecord) (others : List LogRecord) → more ++ ot
 none_came [] others is = (refl, is)
 none_came (one ∷ more) others is = (let never : suc (length (more ++ others)) ≡ 0 = ap (length {A = LogRecord}) is in absurd (omega (arith, never)))
 
-abbrev pub keeps_log_on : (s : Numbers) (records : List LogRecord) (gate between : ℕ) (first middle last : Files) (one : KeepsLog s records gate first middle) → one.log.end ≡ between →
-    KeepsLog s (records ++ one.log.more) between middle last → KeepsLog s records gate first last
-keeps_log_on s records gate between first middle last one end_is two = record {
+abbrev pub keeps_log_on : {version : ℕ} (s : Numbers) (records : List LogRecord) (gate between : ℕ) (first middle last : Files) (one : KeepsLog version s records gate first middle) →
+    one.log.end ≡ between →
+    KeepsLog version s (records ++ one.log.more) between middle last → KeepsLog version s records gate first last
+keeps_log_on {version} s records gate between first middle last one end_is two = record {
   log = records_on s records gate between (first 1) (middle 1) (last 1) one.log end_is two.log;
   longer = omega (arith, one.longer, two.longer);
   same = λ none from to named within.
       let both = none_came one.log.more two.log.more none in
-      let here : InDirectory s (last_directory s (records ++ one.log.more)) from to =
-      subst (λ (rs : List LogRecord). InDirectory s (last_directory s rs) from to) (sym (ap (λ (more : List LogRecord). records ++ more) both.0 ∙ append-nil records)) named in
+      let here : InDirectory version s (last_directory s (records ++ one.log.more)) from to =
+      subst (λ (rs : List LogRecord). InDirectory version s (last_directory s rs) from to) (sym (ap (λ (more : List LogRecord). records ++ more) both.0 ∙ append-nil records)) named in
       two.same both.1 from to here (omega (arith, within, one.longer)) ∙ one.same both.0 from to named within;
-  frames = λ holds. subst (λ (rs : List LogRecord). HoldsNamed s rs (last 2)) (append_assoc records one.log.more two.log.more) (two.frames (one.frames holds));
+  frames = λ holds. subst (λ (rs : List LogRecord). HoldsNamed version s rs (last 2)) (append_assoc records one.log.more two.log.more) (two.frames (one.frames holds));
 }
 
 -- the same files
-abbrev pub keeps_log_none : (s : Numbers) (records : List LogRecord) (gate : ℕ) (seen : Files) → HasRecords s (seen 1) records gate → KeepsLog s records gate seen seen
-keeps_log_none s records gate seen stand = record {
+abbrev pub keeps_log_none : {version : ℕ} (s : Numbers) (records : List LogRecord) (gate : ℕ) (seen : Files) → HasRecords s (seen 1) records gate → KeepsLog version s records gate seen seen
+keeps_log_none {version} s records gate seen stand = record {
   log = records_same s records gate (seen 1) (seen 1) refl stand;
   longer = omega arith;
   same = λ nothing from to named within. refl;
-  frames = λ holds. subst (λ (rs : List LogRecord). HoldsNamed s rs (seen 2)) (sym (append-nil records)) holds;
+  frames = λ holds. subst (λ (rs : List LogRecord). HoldsNamed version s rs (seen 2)) (sym (append-nil records)) holds;
 }
 
 -- a gate that is closed in every image, and the records before it

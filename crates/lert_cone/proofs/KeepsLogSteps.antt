@@ -13,7 +13,6 @@ use Rattle.lert_cone.specs.{JournalPlaces.oldest_place, Record.{LogPlace, payloa
 use Rattle.lert_cone.proofs.Calls.{now_since}
 use Rattle.lert_cone.proofs.KeepsLogLaws.{begins_each, gate_within, in_named, keeps_log_none, keeps_log_on, named_some, one_end, records_each, records_on, records_push, records_same}
 use Rattle.lert_cone.proofs.{LogLaws.{directory_is, frames_are}, RecordLaws.payload_is_at, StepLaws.frames_since, TakeLaws.ok_holds}
-use Rattle.lert_cone.specs.History.{written}
 
 -- the step from files that were told to those that are
 pub step_of : (step : Files → Files → Type 0) (before after : Option Files) → Turns step before after → (seen : Files) → before ≡ Some seen → (now : Files) → after ≡ Some now → step seen now
@@ -33,15 +32,15 @@ pub record IsFlushed (s : Numbers) (n n0 : ℕ) (moved : List (List BinAt)) : Ty
 pub head_nil : (s : Numbers) (records : List LogRecord) (head : LogHead) (bytes : List ℕ) → IsHeadOf s records head bytes → IsHeadOf s (records ++ []) head bytes
 head_nil s records head bytes is = subst (λ (rs : List LogRecord). IsHeadOf s rs head bytes) (sym (append-nil records)) is
 
-module _ {B : Type 0} (bays : Bays B) (lawful : IsLawful bays) (s : Numbers) where
+module _ {version : ℕ} {B : Type 0} (bays : Bays B) (lawful : IsLawful bays) (s : Numbers) where
   -- calls that read alone, or none
   pub log_unwritten : {T E : Type 0} (head : LogHead) (before after : B) (result : Result T E) → IsUnwritten bays before after →
-      IsShutIfTold (bays.files before) (bays.leaves before) 1 head.gate → KeepsLogOf bays s head head before after result
+      IsShutIfTold (bays.files before) (bays.leaves before) 1 head.gate → KeepsLogOf bays version s head head before after result
   log_unwritten head before after result none shut seen told records is =
       let shut_here = shut seen told in
       let read = lawful.as_read before seen told in
       record {
-        read = λ now told_now. subst (λ (files : Files). (kept : KeepsLog s records head.gate seen files) × OnOk result (IsHeadOf s (records ++ kept.log.more) head (files 1)))
+        read = λ now told_now. subst (λ (files : Files). (kept : KeepsLog version s records head.gate seen files) × OnOk result (IsHeadOf s (records ++ kept.log.more) head (files 1)))
             (same_Some seen now (sym told ∙ sym none.seen ∙ told_now))
             (keeps_log_none s records head.gate seen is.stand, ok_holds result (head_nil s records head (seen 1) is));
         each_moment = λ image may.
@@ -51,7 +50,7 @@ module _ {B : Type 0} (bays : Bays B) (lawful : IsLawful bays) (s : Numbers) whe
       }
 
   -- no call
-  pub log_none : {E : Type 0} (head : LogHead) (bay : B) → IsShutIfTold (bays.files bay) (bays.leaves bay) 1 head.gate → KeepsLogOf {T = Unit {0}} {E = E} bays s head head bay bay (Ok tt)
+  pub log_none : {E : Type 0} (head : LogHead) (bay : B) → IsShutIfTold (bays.files bay) (bays.leaves bay) 1 head.gate → KeepsLogOf {T = Unit {0}} {E = E} bays version s head head bay bay (Ok tt)
   log_none head bay shut =
       log_unwritten head bay bay (Ok tt) (record { seen = refl; images = λ image. (λ may. may, λ may. may); moments = λ image may. lawful.only_now bay image may }) shut
 
@@ -59,7 +58,7 @@ module _ {B : Type 0} (bays : Bays B) (lawful : IsLawful bays) (s : Numbers) whe
   pub log_on : {T E U F : Type 0} (old between new : LogHead) (before mid after : B) (done : U) (result : Result T E) {step : Files → Files → Type 0} →
       Turns step (bays.files before) (bays.files mid) → bays.moment before ≤ bays.moment mid →
       Lasts (bays.moment mid) (bays.moment after) (bays.left_since mid) (bays.left_since after) →
-      KeepsLogOf {E = F} bays s old between before mid (Ok done) → KeepsLogOf bays s between new mid after result → KeepsLogOf bays s old new before after result
+      KeepsLogOf {E = F} bays version s old between before mid (Ok done) → KeepsLogOf bays version s between new mid after result → KeepsLogOf bays version s old new before after result
   log_on old between new before mid after done result turns later time first second seen told records is =
       let came = turns.told seen told in
       let one = first seen told records is in
@@ -81,7 +80,7 @@ module _ {B : Type 0} (bays : Bays B) (lawful : IsLawful bays) (s : Numbers) whe
 
   -- the same calls, with another answer, and another name of what memory goes on with
   pub log_as : {T E U F : Type 0} (old new other : LogHead) (before after : B) (result : Result T E) (answer : Result U F) →
-      ((P : LogHead → Type 0) → OnOk result (P new) → OnOk answer (P other)) → KeepsLogOf bays s old new before after result → KeepsLogOf bays s old other before after answer
+      ((P : LogHead → Type 0) → OnOk result (P new) → OnOk answer (P other)) → KeepsLogOf bays version s old new before after result → KeepsLogOf bays version s old other before after answer
   log_as old new other before after result answer goes did seen told records is = record {
     read = λ now told_now.
         let then = (did seen told records is).read now told_now in
@@ -91,7 +90,7 @@ module _ {B : Type 0} (bays : Bays B) (lawful : IsLawful bays) (s : Numbers) whe
 
   -- ---- a flush, whole or not
 
-  module _ (valid : IsValid s) (rows : List (List BinAt)) (are : AreRows s rows) (n gate : ℕ) (old bay : B) (rest : KeepsRest bays (InNamed s written rows) old bay)
+  module _ (valid : IsValid s) (rows : List (List BinAt)) (are : AreRows s rows) (n gate : ℕ) (old bay : B) (rest : KeepsRest bays (InNamed s version rows) old bay)
       (shut : IsShutIfTold (bays.files old) (bays.leaves old) 1 gate)
     where
       abbrev head : LogHead
@@ -101,7 +100,7 @@ module _ {B : Type 0} (bays : Bays B) (lawful : IsLawful bays) (s : Numbers) whe
       apart same = absurd (omega (arith, same))
 
       module _ (seen : Files) (told : bays.files old ≡ Some seen) (records : List LogRecord) (is : IsHeadOf s records head (seen 1)) where
-        some_stays : (now : Files) → LeavesRest (InNamed s written rows) seen now → HoldsNamed s records (seen 2) → HoldsSome s (last_n0 records) rows (now 2)
+        some_stays : (now : Files) → LeavesRest (InNamed s version rows) seen now → HoldsNamed version s records (seen 2) → HoldsSome version s (last_n0 records) rows (now 2)
         some_stays now leaves holds =
             let some = named_some s records rows (seen 2) is.names holds in
             record {
@@ -109,16 +108,16 @@ module _ {B : Type 0} (bays : Bays B) (lawful : IsLawful bays) (s : Numbers) whe
               len = some.len;
               light = some.light;
               holds = frames_since (λ (image : Files). image ≡ seen) (λ (image : Files). image ≡ now) seen s some.events rows valid are some.light refl
-                  (λ image image_is. subst (λ (files : Files). HoldsBins s written some.events rows (files 2)) (sym image_is) some.holds)
+                  (λ image image_is. subst (λ (files : Files). HoldsBins s version some.events rows (files 2)) (sym image_is) some.holds)
                   (λ from to named settled image image_is. ap (λ (files : Files). part (files 2) from to) image_is ∙ leaves.rest from to named settled.within) now refl;
             }
 
         -- the frames, where no record came
-        named_stays : (now : Files) → LeavesRest (InNamed s written rows) seen now → HoldsNamed s records (seen 2) → HoldsNamed s (records ++ []) (now 2)
+        named_stays : (now : Files) → LeavesRest (InNamed s version rows) seen now → HoldsNamed version s records (seen 2) → HoldsNamed version s (records ++ []) (now 2)
         named_stays now leaves holds =
-            subst (λ (rs : List LogRecord). HoldsNamed s rs (now 2)) (sym (append-nil records)) (record { rows = rows; names = is.names; some = some_stays now leaves holds })
+            subst (λ (rs : List LogRecord). HoldsNamed version s rs (now 2)) (sym (append-nil records)) (record { rows = rows; names = is.names; some = some_stays now leaves holds })
 
-        abbrev rest_kept : (now : Files) → LeavesRest (InNamed s written rows) seen now → KeepsLog s records gate seen now
+        abbrev rest_kept : (now : Files) → LeavesRest (InNamed s version rows) seen now → KeepsLog version s records gate seen now
         rest_kept now leaves = record {
           log = records_same s records gate (seen 1) (now 1) (ap (λ (bytes : List ℕ). part bytes 0 gate) (leaves.others 1 apart))
               (subst (λ (bytes : List ℕ). HasRecords s bytes records gate) (sym (leaves.others 1 apart)) is.stand);
@@ -135,15 +134,15 @@ module _ {B : Type 0} (bays : Bays B) (lawful : IsLawful bays) (s : Numbers) whe
             records_same s records gate (seen 1) (image 1) (begins_each s records gate (bays.leaves old) seen shut_here read image same)
             (records_each s records gate (bays.leaves old) seen shut_here read is.stand image same)
 
-        head_now : (now : Files) → LeavesRest (InNamed s written rows) seen now → IsHeadOf s (records ++ []) head (now 1)
+        head_now : (now : Files) → LeavesRest (InNamed s version rows) seen now → IsHeadOf s (records ++ []) head (now 1)
         head_now now leaves = subst (λ (bytes : List ℕ). IsHeadOf s (records ++ []) head bytes) (sym (leaves.others 1 apart)) (head_nil s records head (seen 1) is)
 
       -- no record is written behind it
       pub log_rest : {T E : Type 0} (new : LogHead) (result : Result T E) →
-          ((records : List LogRecord) (bytes : List ℕ) → IsHeadOf s records head bytes → OnOk result (IsHeadOf s records new bytes)) → KeepsLogOf bays s head new old bay result
+          ((records : List LogRecord) (bytes : List ℕ) → IsHeadOf s records head bytes → OnOk result (IsHeadOf s records new bytes)) → KeepsLogOf bays version s head new old bay result
       log_rest new result goes seen told records is = record {
         read = λ now told_now.
-            let leaves = step_of (LeavesRest (InNamed s written rows)) (bays.files old) (bays.files bay) rest.seen seen told now told_now in
+            let leaves = step_of (LeavesRest (InNamed s version rows)) (bays.files old) (bays.files bay) rest.seen seen told now told_now in
             (rest_kept seen told records is now leaves, goes (records ++ []) (now 1) (head_now seen told records is now leaves));
         each_moment = rest_each seen told records is;
       }
@@ -151,7 +150,7 @@ module _ {B : Type 0} (bays : Bays B) (lawful : IsLawful bays) (s : Numbers) whe
       -- ---- the record of a flush, appended or not
 
       module _ (later : bays.moment old ≤ bays.moment bay) (shut_then : IsShutIfTold (bays.files bay) (bays.leaves bay) 1 gate) (moved : List (List BinAt)) (n0 : ℕ) (flushed : IsFlushed s n n0 moved)
-          (framed : IfTold (bays.files old) (λ seen. HoldsSome s n rows (seen 2) → IfTold (bays.files bay) (λ now. HoldsSome s n0 moved (now 2))))
+          (framed : IfTold (bays.files old) (λ seen. HoldsSome version s n rows (seen 2) → IfTold (bays.files bay) (λ now. HoldsSome version s n0 moved (now 2))))
           (reports : List Report) (log : LogPlace) (gate_is : log.gate ≡ gate) (most_is : log.most ≡ most_record s)
           {E : Type 0} (wrote : Result (Unit {0}) E) (bay_after : B) (log_after : LogPlace)
           (appends : AppendsRecord bays LogKind.Flush n0 (directory_text moved) reports bay bay_after log log_after wrote)
@@ -172,8 +171,8 @@ module _ {B : Type 0} (bays : Bays B) (lawful : IsLawful bays) (s : Numbers) whe
               ∙ ap (λ directory. log_payload LogKind.Flush n0 (oldest_place log.places).gate (oldest_place log.places).first directory (drop log.named reports)) (sym (directory_is moved))
 
           module _ (seen : Files) (told : bays.files old ≡ Some seen) (records : List LogRecord) (is : IsHeadOf s records head (seen 1)) (mid : Files) (told_mid : bays.files bay ≡ Some mid) where
-            leaves_mid : LeavesRest (InNamed s written rows) seen mid
-            leaves_mid = step_of (LeavesRest (InNamed s written rows)) (bays.files old) (bays.files bay) rest.seen seen told mid told_mid
+            leaves_mid : LeavesRest (InNamed s version rows) seen mid
+            leaves_mid = step_of (LeavesRest (InNamed s version rows)) (bays.files old) (bays.files bay) rest.seen seen told mid told_mid
 
             stand_mid : HasRecords s (mid 1) records gate
             stand_mid = subst (λ (bytes : List ℕ). HasRecords s bytes records gate) (sym (leaves_mid.others 1 apart)) is.stand
@@ -253,17 +252,17 @@ module _ {B : Type 0} (bays : Bays B) (lawful : IsLawful bays) (s : Numbers) whe
               longer_now : length (seen 2) ≤ length (now 2)
               longer_now = omega (arith, leaves_mid.longer, ap (length {A = ℕ}) frames_same)
 
-              abbrev kept_without : HasRecords s (now 1) records gate → KeepsLog s records gate seen now
+              abbrev kept_without : HasRecords s (now 1) records gate → KeepsLog version s records gate seen now
               kept_without stand = record {
                 log = records_same s records gate (seen 1) (now 1) (begins now since) stand;
                 longer = longer_now;
                 same = λ nothing from to named within. ap (λ (bytes : List ℕ). part bytes from to) frames_same ∙ leaves_mid.rest from to (in_named s records rows from to is.names named) within;
-                frames = λ holds. subst (λ (file : List ℕ). HoldsNamed s (records ++ []) file) (sym frames_same) (named_stays seen told records is mid leaves_mid holds);
+                frames = λ holds. subst (λ (file : List ℕ). HoldsNamed version s (records ++ []) file) (sym frames_same) (named_stays seen told records is mid leaves_mid holds);
               }
 
-              moved_holds : HoldsNamed s records (seen 2) → HoldsNamed s (records ++ one ∷ []) (now 2)
+              moved_holds : HoldsNamed version s records (seen 2) → HoldsNamed version s (records ++ one ∷ []) (now 2)
               moved_holds holds =
-                  let some : HoldsSome s n rows (seen 2) = (let last = named_some s records rows (seen 2) is.names holds in record {
+                  let some : HoldsSome version s n rows (seen 2) = (let last = named_some s records rows (seen 2) is.names holds in record {
                     events = last.events;
                     len = last.len ∙ is.newest;
                     light = last.light;
@@ -272,11 +271,11 @@ module _ {B : Type 0} (bays : Bays B) (lawful : IsLawful bays) (s : Numbers) whe
                   record {
                     rows = moved;
                     names = names_moved;
-                    some = subst (λ k. HoldsSome s k moved (now 2)) (sym (last_n0-push records one))
-                        (subst (λ (file : List ℕ). HoldsSome s n0 moved file) (sym frames_same) (framed seen told some mid told_mid));
+                    some = subst (λ k. HoldsSome version s k moved (now 2)) (sym (last_n0-push records one))
+                        (subst (λ (file : List ℕ). HoldsSome version s n0 moved file) (sym frames_same) (framed seen told some mid told_mid));
                   }
 
-              abbrev kept_with : (end : ℕ) → gate ≤ end → HasRecords s (now 1) (records ++ one ∷ []) end → KeepsLog s records gate seen now
+              abbrev kept_with : (end : ℕ) → gate ≤ end → HasRecords s (now 1) (records ++ one ∷ []) end → KeepsLog version s records gate seen now
               kept_with end on stand = record {
                 log = records_push s records gate (seen 1) (now 1) (begins now since) one end next on stand;
                 longer = longer_now;
@@ -284,14 +283,14 @@ module _ {B : Type 0} (bays : Bays B) (lawful : IsLawful bays) (s : Numbers) whe
                 frames = moved_holds;
               }
 
-              kept_either : KeepsLog s records gate seen now
+              kept_either : KeepsLog version s records gate seen now
               kept_either = elim (appends.each_moment mid told_mid 8 (map log_payload_of records) all now since) [
                 | inl without ↦ kept_without (without_one (now 1) without)
                 | inr with ↦ kept_with (next_gate log.gate (payload_at log LogKind.Flush n0 (directory_text moved) reports)) forward (with_one (now 1) _ with)
               ]
 
           -- the append failed
-          pub log_failed : {F : Type 0} (new : LogHead) (fault : F) → KeepsLogOf {T = Unit {0}} bays s head new old bay_after (Err fault)
+          pub log_failed : {F : Type 0} (new : LogHead) (fault : F) → KeepsLogOf {T = Unit {0}} bays version s head new old bay_after (Err fault)
           log_failed new fault seen told records is =
               let mid = rest.seen.told seen told in
               record {
@@ -301,11 +300,11 @@ module _ {B : Type 0} (bays : Bays B) (lawful : IsLawful bays) (s : Numbers) whe
 
       -- it didn't fail
       module _ (later : bays.moment old ≤ bays.moment bay) (shut_then : IsShutIfTold (bays.files bay) (bays.leaves bay) 1 gate) (moved : List (List BinAt)) (n0 : ℕ) (flushed : IsFlushed s n n0 moved)
-          (framed : IfTold (bays.files old) (λ seen. HoldsSome s n rows (seen 2) → IfTold (bays.files bay) (λ now. HoldsSome s n0 moved (now 2))))
+          (framed : IfTold (bays.files old) (λ seen. HoldsSome version s n rows (seen 2) → IfTold (bays.files bay) (λ now. HoldsSome version s n0 moved (now 2))))
           (reports : List Report) (log : LogPlace) (gate_is : log.gate ≡ gate) (most_is : log.most ≡ most_record s) {E : Type 0} (bay_after : B) (log_after : LogPlace)
           (appends : AppendsRecord {E = E} bays LogKind.Flush n0 (directory_text moved) reports bay bay_after log log_after (Ok tt))
         where
-          pub log_flushed : {F : Type 0} → KeepsLogOf {T = Unit {0}} {E = F} bays s head (record { rows = moved; events = n0; gate = log_after.gate }) old bay_after (Ok tt)
+          pub log_flushed : {F : Type 0} → KeepsLogOf {T = Unit {0}} {E = F} bays version s head (record { rows = moved; events = n0; gate = log_after.gate }) old bay_after (Ok tt)
           log_flushed seen told records is =
               let mid = rest.seen.told seen told in
               let new = one later shut_then moved n0 flushed framed reports log gate_is most_is (Ok tt) bay_after log_after appends in

@@ -8,7 +8,6 @@ use Rattle.lert_levels.specs.{rows.Loading.OneBreaks, OnDisk.OnDisk, rows.Rows.{
 use Rattle.lert_spec.specs.{declared.item.Item.Item, declared.numbers.Numbers.Numbers, Items.AreOfVersion, declared.report.Report.Report, Edges.{key_limit, edge}, Mix.cone_of}
 use Rattle.lert_cone.specs.{declared.tally.TakeFault.TakeFault, declared.tally.TakeFault.TheVariants.{Failed, Unsound}, Counts.{GivesTotals, CountsItem}, Due.{Dues, started}, Framed.HoldsSome}
 use Rattle.lert_cone.specs.Tally.{Tallied, AreYoung, IsHeld, take_fault}
-use Rattle.lert_cone.specs.History.{written}
 use Rattle.lert_bay.proofs.KeptLaws.{IsLawful, keeps_as}
 use Rattle.lert_cone.proofs.TakeLaws.{IsTaking, young_now, light_now, frames_now, others, others_long, others_light}
 use Rattle.lert_cone.proofs.TakeLaws.{others_young, others_frames, others_next, all_long, counted_next, held_next, never_full, sound_fault}
@@ -29,10 +28,10 @@ module _ {B : Type 0} {bays : Bays B} (lawful : IsLawful bays) {t : Tallied} {ls
   now_young : AreYoung ls (t.listing.events ++ item ∷ []) young.from young.bins
   now_young = young_now taking
 
-  now_light : AreOfVersion written (t.listing.events ++ item ∷ [])
+  now_light : AreOfVersion t.listing.version (t.listing.events ++ item ∷ [])
   now_light = light_now taking
 
-  now_frames : (seen : Files) → IsHeld t seen → HoldsBins ls written (t.listing.events ++ item ∷ []) t.rows (seen 2)
+  now_frames : (seen : Files) → IsHeld t seen → HoldsBins ls t.listing.version (t.listing.events ++ item ∷ []) t.rows (seen 2)
   now_frames = frames_now taking
 
   -- an edge that stays, said of the levels and of the key's position
@@ -41,25 +40,26 @@ module _ {B : Type 0} {bays : Bays B} (lawful : IsLawful bays) {t : Tallied} {ls
       ∙ ap (edge t.listing.settings 0) (omega (arith, taking.m_is))
       ∙ ap (λ (s : Numbers). edge s 0 (m - 1)) (sym taking.levels_are)
 
-  module _ (result : Result (Unit {0}) FlushFault) (gives : GivesTotals bays start m tail bay bay_after young young_after (record { settings = ls; version = written; rows = t.rows })
+  module _ (result : Result (Unit {0}) FlushFault) (gives : GivesTotals bays start m tail bay bay_after young young_after (record { settings = ls; version = t.listing.version; rows = t.rows })
       levels_after due result) where
     never_malformed_held : (seen : Files) → bays.files bay ≡ Some seen → IsHeld t seen → (at : ℕ) → result ≢ Err (Malformed at)
     never_malformed_held seen told held = gives.sound (t.listing.events ++ item ∷ []) long now_light now_young seen told (now_frames seen held)
 
-    never_malformed_some : (seen : Files) → bays.files bay ≡ Some seen → HoldsSome t.listing.settings (length t.listing.events) t.rows (seen 2) → (at : ℕ) →
+    never_malformed_some : (seen : Files) → bays.files bay ≡ Some seen → HoldsSome t.listing.version t.listing.settings (length t.listing.events) t.rows (seen 2) → (at : ℕ) →
         result ≢ Err (Malformed at)
     never_malformed_some seen told some =
         gives.sound (others taking (seen 2) some) (others_long taking (seen 2) some) (others_light taking (seen 2) some) (others_young taking (seen 2) some) seen told
         (others_frames taking (seen 2) some)
 
-    rest_here : KeepsRest bays (InNamed t.listing.settings written t.rows) bay bay_after
-    rest_here = subst (λ (s : Numbers). KeepsRest bays (InNamed s written t.rows) bay bay_after) taking.levels_are gives.rest
+    rest_here : KeepsRest bays (InNamed t.listing.settings t.listing.version t.rows) bay bay_after
+    rest_here = subst (λ (s : Numbers). KeepsRest bays (InNamed s t.listing.version t.rows) bay bay_after) taking.levels_are gives.rest
 
     unflushed_here : edge t.listing.settings 0 (length t.listing.events + 1) ≡ edge t.listing.settings 0 (length t.listing.events) → bay_after ≡ bay
     unflushed_here stays = gives.unflushed (levels_stay stays)
 
   -- the totals don't come
-  refused_by : (fault : FlushFault) → GivesTotals bays start m tail bay bay_after young young_after (record { settings = ls; version = written; rows = t.rows }) levels_after due (Err fault) →
+  refused_by : (fault : FlushFault) → GivesTotals bays start m tail bay bay_after young young_after (record { settings = ls; version = t.listing.version; rows = t.rows }) levels_after due (Err
+      fault) →
       CountsItem bays item bay bay_after t (record { listing = t.listing; young = young_after; rows = levels_after.rows; due = due }) (Err (take_fault fault))
   refused_by fault gives = record {
     listing = refl;
@@ -69,11 +69,11 @@ module _ {B : Type 0} {bays : Bays B} (lawful : IsLawful bays) {t : Tallied} {ls
     still = λ stays. tt;
     unflushed = unflushed_here (Err fault) gives;
     held = λ seen told held. tt;
-    sound = λ seen told held file at same.
+    sound = λ seen told held weighs file at same.
         sound_fault fault (λ place is. never_malformed_held (Err fault) gives seen told held place (ap Err is)) file at (let inner : take_fault fault ≡ Unsound file at = cc in inner);
     shows = λ seen told file at same.
         shows_frame (Err (take_fault fault)) fault refl t.listing.settings levels_after.rows due.reports (seen 2)
-        (λ place is. subst (λ (v : Numbers). OneBreaks v written levels_after.rows (seen 2) place) (gives.settings ∙ taking.levels_are) (gives.malformed_after seen told place (ap Err is)))
+        (λ place is. subst (λ (v : Numbers). OneBreaks v t.listing.version levels_after.rows (seen 2) place) (gives.settings ∙ taking.levels_are) (gives.malformed_after seen told place (ap Err is)))
         file at same;
     framed = λ seen told some. tt;
     whole = λ seen told some at same.
@@ -84,17 +84,23 @@ module _ {B : Type 0} {bays : Bays B} (lawful : IsLawful bays) {t : Tallied} {ls
   }
 
   pub not_counted : {result : Result (Unit {0}) FlushFault} {given : Result (Unit {0}) TakeFault} {fault : FlushFault} → result ≡ Err fault →
-      GivesTotals bays start m tail bay bay_after young young_after (record { settings = ls; version = written; rows = t.rows }) levels_after due result → IsErrAnd given (λ g. g ≡ take_fault fault) →
+      GivesTotals bays start m tail bay bay_after young young_after (record { settings = ls; version = t.listing.version; rows = t.rows }) levels_after due result →
+      IsErrAnd given (λ g. g ≡ take_fault fault) →
       CountsItem bays item bay bay_after t (record { listing = t.listing; young = young_after; rows = levels_after.rows; due = due }) given
   not_counted {given = given} {fault = fault} is gives given_is =
       subst (λ (r : Result (Unit {0}) TakeFault). CountsItem bays item bay bay_after t (record { listing = t.listing; young = young_after; rows = levels_after.rows; due = due }) r) (handed_on given
       (take_fault fault) given_is)
-      (refused_by fault (subst (λ (r : Result (Unit {0}) FlushFault). GivesTotals bays start m tail bay bay_after young young_after (record { settings = ls; version = written; rows = t.rows })
+      (refused_by fault (subst (λ (r : Result (Unit {0}) FlushFault). GivesTotals bays start m tail bay bay_after young young_after (record {
+        settings = ls;
+        version = t.listing.version;
+        rows =
+            t.rows;
+      })
       levels_after due r) is
       gives))
 
   module _ (below : item.key < key_limit t.listing.settings) (own : cone_of t.listing.settings item.key ≡ t.listing.cone) (still : t.listing.closed ≡ false)
-      (gives : GivesTotals bays start m tail bay bay_after young young_after (record { settings = ls; version = written; rows = t.rows }) levels_after due (Ok tt)) where
+      (gives : GivesTotals bays start m tail bay bay_after young young_after (record { settings = ls; version = t.listing.version; rows = t.rows }) levels_after due (Ok tt)) where
     -- a report finds no room
     pub no_room : due.is_full ≡ true → length due.reports ≡ due.settings.room →
         CountsItem bays item bay bay_after t (record { listing = t.listing; young = young_after; rows = levels_after.rows; due = due }) (Err (Unsound 1 0))
@@ -106,9 +112,9 @@ module _ {B : Type 0} {bays : Bays B} (lawful : IsLawful bays) {t : Tallied} {ls
       still = λ stays. tt;
       unflushed = unflushed_here (Ok tt) gives;
       held = λ seen told held. tt;
-      sound = λ seen told held file at same.
+      sound = λ seen told held weighs file at same.
           never_full taking below own start due start_is still seen held
-          (gives.totals (t.listing.events ++ item ∷ []) long now_light now_young seen told (now_frames seen held)) full;
+          (gives.totals (t.listing.events ++ item ∷ []) long now_light now_young seen told (now_frames seen held)) weighs full;
       shows = λ seen told file at same.
           shows_full t.listing.settings levels_after.rows due.reports (seen 2)
           (filled ∙ ap (λ (s : Numbers). s.room) (gives.took.1.settings_are ∙ ap (λ (d : Dues). d.settings) start_is ∙ taking.counted.due_settings)) file at same;
@@ -159,21 +165,22 @@ module _ {B : Type 0} {bays : Bays B} (lawful : IsLawful bays) {t : Tallied} {ls
               held_next taking below own start due start_is still seen held
               (gives.totals (t.listing.events ++ item ∷ []) long now_light now_young seen told (now_frames seen held)) young_after levels_after.rows after after_files after_is room
               (gives.holds (t.listing.events ++ item ∷ []) long now_light now_young seen told (now_frames seen held) after_files told_after);
-          sound = λ seen told held file at same. (let never : ⊥ = cc in never);
+          sound = λ seen told held weighs file at same. (let never : ⊥ = cc in never);
           shows = λ seen told file at same. absurd (let never : ⊥ = cc in never);
           framed = λ seen told some after_files told_after.
-              subst (λ (keys : List Item). HoldsSome t.listing.settings (length keys) levels_after.rows (after_files 2)) (sym events_are)
+              subst (λ (keys : List Item). HoldsSome t.listing.version t.listing.settings (length keys) levels_after.rows (after_files 2)) (sym events_are)
               (others_next taking (seen 2) some levels_after.rows (after_files 2) gives.rows (gives.holds (others taking (seen 2) some)
               (others_long taking (seen 2) some) (others_light taking (seen 2) some) (others_young taking (seen 2) some) seen told (others_frames taking (seen 2) some) after_files told_after));
           whole = λ seen told some at same. (let never : ⊥ = cc in never);
           images = λ seen told held each after_files told_after.
-              let each_now : InEach (bays.leaves bay) 2 (HoldsBins ls written (t.listing.events ++ item ∷ []) t.rows) =
-              λ image may. subst (λ (v : Numbers). HoldsBins v written (t.listing.events ++ item ∷ []) t.rows (image 2)) (sym taking.levels_are)
+              let each_now : InEach (bays.leaves bay) 2 (HoldsBins ls t.listing.version (t.listing.events ++ item ∷ []) t.rows) =
+              λ image may. subst (λ (v : Numbers). HoldsBins v t.listing.version (t.listing.events ++ item ∷ []) t.rows (image 2)) (sym taking.levels_are)
               (frames_more t.listing.settings taking.valid t.listing.events
-              (item ∷ []) t.rows (image 2) taking.counted.rows (each image may)) in
+              (item ∷ []) t.rows (image 2) taking.counted.rows t.listing.version (each image may)) in
               let stay = gives.images (t.listing.events ++ item ∷ []) long now_light now_young seen told (now_frames seen held) each_now in
-              subst (λ (keys : List Item). InEach (bays.leaves bay_after) 2 (HoldsBins t.listing.settings written keys levels_after.rows)) (sym events_are)
-              (subst (λ (v : Numbers). InEach (bays.leaves bay_after) 2 (HoldsBins v written (t.listing.events ++ item ∷ []) levels_after.rows)) taking.levels_are (stay after_files told_after));
+              subst (λ (keys : List Item). InEach (bays.leaves bay_after) 2 (HoldsBins t.listing.settings t.listing.version keys levels_after.rows)) (sym events_are)
+              (subst (λ (v : Numbers). InEach (bays.leaves bay_after) 2 (HoldsBins v t.listing.version (t.listing.events ++ item ∷ []) levels_after.rows)) taking.levels_are (stay after_files
+              told_after));
           rest = rest_here (Ok tt) gives;
           kept = keeps_as bays lawful bay bay_after _ _ (λ same. absurd (let never : ⊥ = cc in never)) gives.kept;
         }

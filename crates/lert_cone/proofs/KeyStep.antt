@@ -18,7 +18,6 @@ use Rattle.lert_cone.specs.Tally.{Tallied, IsCounted, IsHeld}
 use Rattle.lert_cone.proofs.{LogLaws.{LogsNext, log_between, log_at_flush, payload_is}, FlushLaws.last_flush_grows, JournalPlaceLaws.{edge_grows, may_name, names_pushed, oldest_names}}
 use Rattle.lert_cone.proofs.{RecordLaws.payload_is_at, Calls.{alone_rest, now_since, settled_alone}}
 use Rattle.lert_cone.proofs.StepLaws.{journal_since, log_since, frames_since, sound_of, with_or_without, with_record, header_since}
-use Rattle.lert_cone.specs.History.{written}
 
 -- a part of the items is taken
 pub partway_less : (s : Numbers) (history : List Packet) (events more : List Item) → IsPartway s history events more → IsPartway s history events []
@@ -44,36 +43,36 @@ next_payload log kind n0 rows logged reports named_is =
 module _ (leaves since : Files → Type 0) (seen : Files) (history : List Packet) (t : Tallied) (log : LogPlace)
     (counted : IsCounted t) (up : IsInStep leaves seen history t.listing t.rows t.due.reports log) (read : leaves seen)
     (journal_keeps : Keeps since seen 0 0 (length (seen 0))) (log_keeps : Keeps since seen 1 0 (length (seen 1)))
-    (frames_keep : (from to : ℕ) → InNamed t.listing.settings written t.rows from to → IsSettled leaves seen 2 from to → Keeps since seen 2 from to) where
-  pub journal_here : InEach since 0 (IsJournal t.listing.settings t.listing.cone history)
+    (frames_keep : (from to : ℕ) → InNamed t.listing.settings t.listing.version t.rows from to → IsSettled leaves seen 2 from to → Keeps since seen 2 from to) where
+  pub journal_here : InEach since 0 (IsJournal t.listing.version t.listing.settings t.listing.cone history)
   journal_here = journal_since since seen t.listing.settings t.listing.cone history (up.journal seen read) journal_keeps
 
   pub log_here : InEach since 1 (λ bytes. HasLog t.listing.settings t.listing.cone bytes up.logged log.gate)
   log_here = log_since since seen t.listing.settings t.listing.cone up.logged log.gate (up.log_there seen read) log_keeps
 
-  pub frames_here : InEach since 2 (HoldsBins t.listing.settings written t.listing.events t.rows)
+  pub frames_here : InEach since 2 (HoldsBins t.listing.settings t.listing.version t.listing.events t.rows)
   frames_here = frames_since leaves since seen t.listing.settings t.listing.events t.rows counted.valid counted.are counted.light read up.frames frames_keep
 
   -- they stay sound
   pub sound_here : t.listing.closed ≡ false → IsPartway t.listing.settings history t.listing.events [] → (image : Files) → since image →
       IsSound t.listing.settings t.listing.cone history image
   sound_here still partway image may =
-      sound_of t.listing.settings t.listing.cone history t.listing.events t.rows t.listing.closed up.logged log.gate counted.valid counted.rows partway
+      sound_of t.listing.settings t.listing.cone history t.listing.events t.rows t.listing.closed up.logged log.gate counted.known counted.valid counted.rows partway
       (λ ended. absurd (false≢true (sym still ∙ ended))) up.log_of up.begins image (journal_here image may) (log_here image may) (frames_here image may)
 
 -- ---- a record more
 
 -- what stands before an append: the packets and the records in every image
-module _ (leaves since : Files → Type 0) (seen : Files) (s : Numbers) (cone : ℕ) (history : List Packet) (logged : List LogRecord) (one : LogRecord) (gate : ℕ) (payload : List ℕ)
-    (read : leaves seen) (journal : InEach leaves 0 (IsJournal s cone history)) (journal_settled : IsWhollySettled leaves seen 0) (log_there : InEach leaves 1
+module _ {version : ℕ} (leaves since : Files → Type 0) (seen : Files) (s : Numbers) (cone : ℕ) (history : List Packet) (logged : List LogRecord) (one : LogRecord) (gate : ℕ) (payload : List ℕ)
+    (read : leaves seen) (journal : InEach leaves 0 (IsJournal version s cone history)) (journal_settled : IsWhollySettled leaves seen 0) (log_there : InEach leaves 1
     (λ bytes. HasLog s cone bytes logged gate))
     (rules : AreRecords s cone (logged ++ one ∷ [])) (payload_is : payload ≡ log_payload_of one)
     (others : KeepsOthers leaves since seen 1) (before : KeepsBefore leaves since seen 1 gate) where
-  pub journal_beside : InEach since 0 (IsJournal s cone history)
+  pub journal_beside : InEach since 0 (IsJournal version s cone history)
   journal_beside = journal_since since seen s cone history (journal seen read) (others 0 0 (length (seen 0)) (λ same. absurd (omega (arith, same))) journal_settled)
 
-  pub frames_beside : (events : List Item) (rows : List (List BinAt)) → IsValid s → AreRows s rows → AreOfVersion written events → InEach leaves 2 (HoldsBins s written events rows) → InEach
-      since 2 (HoldsBins s written events rows)
+  pub frames_beside : (events : List Item) (rows : List (List BinAt)) → IsValid s → AreRows s rows → AreOfVersion version events → InEach leaves 2 (HoldsBins s version events rows) → InEach
+      since 2 (HoldsBins s version events rows)
   frames_beside events rows valid are light holds = frames_since leaves since seen s events rows valid are light read holds (λ from to named. others 2 from to (λ same. absurd (omega (arith, same))))
 
   pub log_beside : InEach since 1 (IsWithOrWithout (most_record s) 8 (map log_payload_of logged) gate payload) → (image : Files) → since image →
@@ -97,15 +96,15 @@ pub record IsTaken (leaves : Files → Type 0) (seen : Files) (history : List Pa
   pub named_is : log.named ≡ length (listed_in logged)
   pub listing_is : a.listing ≡ record t.listing { events = t.listing.events ++ item ∷ [] }
   pub read : leaves seen
-  pub journal : InEach leaves 0 (IsJournal t.listing.settings t.listing.cone history)
+  pub journal : InEach leaves 0 (IsJournal t.listing.version t.listing.settings t.listing.cone history)
   pub journal_settled : IsWhollySettled leaves seen 0
   pub log_there : InEach leaves 1 (λ bytes. HasLog t.listing.settings t.listing.cone bytes logged log.gate)
   pub log_settled : IsWhollySettled leaves seen 1
-  pub frames_before : InEach leaves 2 (HoldsBins t.listing.settings written t.listing.events t.rows)
-  pub frames : InEach leaves 2 (HoldsBins a.listing.settings written a.listing.events a.rows)
+  pub frames_before : InEach leaves 2 (HoldsBins t.listing.settings t.listing.version t.listing.events t.rows)
+  pub frames : InEach leaves 2 (HoldsBins a.listing.settings a.listing.version a.listing.events a.rows)
   pub reports_are : a.due.reports ≡ reports_of a.listing
-  pub begins : NamesRecord t.listing.settings history (last_n0 logged) (last_place logged)
-  pub placed : ArePlacesIn history log.places
+  pub begins : NamesRecord t.listing.version t.listing.settings history (last_n0 logged) (last_place logged)
+  pub placed : ArePlacesIn t.listing.version history log.places
   pub same : log.places.settings ≡ t.listing.settings
   pub passed : log.places.passed ≡ suc (length t.listing.events)
   pub reach : log.places.from ≤ edge t.listing.settings 0 (suc (length t.listing.events)) + 1
@@ -119,28 +118,30 @@ module _ (leaves : Files → Type 0) (seen : Files) (history : List Packet) (t a
   long = length-append t.listing.events (item ∷ []) ∙ omega arith
 
   -- what holds of the items and the rows holds of what memory has of them
-  module _ (P : Numbers → ℕ → List Item → Bool → Type 0) where
-    of_listing : P t.listing.settings t.listing.cone (t.listing.events ++ item ∷ []) t.listing.closed → P a.listing.settings a.listing.cone a.listing.events a.listing.closed
-    of_listing holds = subst (λ (l : Listing). P l.settings l.cone l.events l.closed) (sym taken.listing_is) holds
+  module _ (P : Numbers → ℕ → ℕ → List Item → Bool → Type 0) where
+    of_listing : P t.listing.settings t.listing.version t.listing.cone (t.listing.events ++ item ∷ []) t.listing.closed → P a.listing.settings a.listing.version a.listing.cone a.listing.events
+        a.listing.closed
+    of_listing holds = subst (λ (l : Listing). P l.settings l.version l.cone l.events l.closed) (sym taken.listing_is) holds
 
-    to_listing : P a.listing.settings a.listing.cone a.listing.events a.listing.closed → P t.listing.settings t.listing.cone (t.listing.events ++ item ∷ []) t.listing.closed
-    to_listing holds = subst (λ (l : Listing). P l.settings l.cone l.events l.closed) taken.listing_is holds
+    to_listing : P a.listing.settings a.listing.version a.listing.cone a.listing.events a.listing.closed → P t.listing.settings t.listing.version t.listing.cone (t.listing.events ++ item ∷ [])
+        t.listing.closed
+    to_listing holds = subst (λ (l : Listing). P l.settings l.version l.cone l.events l.closed) taken.listing_is holds
 
-  all_light : AreOfVersion written (t.listing.events ++ item ∷ [])
-  all_light = to_listing (λ s cone events closed. AreOfVersion written events) counted.light
+  all_light : AreOfVersion t.listing.version (t.listing.events ++ item ∷ [])
+  all_light = to_listing (λ s version cone events closed. AreOfVersion version events) counted.light
 
   log_as : (rows : List (List BinAt)) (records : List LogRecord) → IsLogOf t.listing.settings t.listing.cone (t.listing.events ++ item ∷ []) rows false records →
       IsLogOf a.listing.settings a.listing.cone a.listing.events rows a.listing.closed records
   log_as rows records is =
-      of_listing (λ s cone events closed. IsLogOf s cone events rows closed records)
+      of_listing (λ s version cone events closed. IsLogOf s cone events rows closed records)
       (subst (λ closed. IsLogOf t.listing.settings t.listing.cone (t.listing.events ++ item ∷ []) rows closed records) (sym still) is)
 
-  journal_now : InEach leaves 0 (IsJournal a.listing.settings a.listing.cone history)
-  journal_now image may = of_listing (λ s cone events closed. IsJournal s cone history (image 0)) (taken.journal image may)
+  journal_now : InEach leaves 0 (IsJournal a.listing.version a.listing.settings a.listing.cone history)
+  journal_now image may = of_listing (λ s version cone events closed. IsJournal version s cone history (image 0)) (taken.journal image may)
 
   reach_here : log.places.from ≤ edge a.listing.settings 0 (length a.listing.events) + 1
   reach_here =
-      of_listing (λ s cone events closed. log.places.from ≤ edge s 0 (length events) + 1)
+      of_listing (λ s version cone events closed. log.places.from ≤ edge s 0 (length events) + 1)
       (subst (λ n. log.places.from ≤ edge t.listing.settings 0 n + 1) (sym long) taken.reach)
 
   -- between two flushes
@@ -156,13 +157,13 @@ module _ (leaves : Files → Type 0) (seen : Files) (history : List Packet) (t a
             (edge t.listing.settings 0) before_is) taken.log_of));
         named_is = taken.named_is;
         journal = journal_now;
-        log_there = λ image may. of_listing (λ s cone events closed. HasLog s cone (image 1) logged log.gate) (taken.log_there image may);
+        log_there = λ image may. of_listing (λ s version cone events closed. HasLog s cone (image 1) logged log.gate) (taken.log_there image may);
         frames = taken.frames;
         journal_settled = taken.journal_settled;
         log_settled = taken.log_settled;
         reports_are = taken.reports_are;
-        begins = of_listing (λ s cone events closed. NamesRecord s history (last_n0 logged) (last_place logged)) taken.begins;
-        placed = taken.placed;
+        begins = of_listing (λ s version cone events closed. NamesRecord version s history (last_n0 logged) (last_place logged)) taken.begins;
+        placed = of_listing (λ s version cone events closed. ArePlacesIn version history log.places) taken.placed;
         reach = reach_here;
       }
 
@@ -184,7 +185,7 @@ module _ (leaves : Files → Type 0) (seen : Files) (history : List Packet) (t a
     one = next_record LogKind.Flush (suc (length t.listing.events)) (oldest_place log.places) a.rows logged a.due.reports
 
     -- it names the journal's record that holds the first item of level 0
-    names : NamesRecord t.listing.settings history (suc (length t.listing.events)) (oldest_place log.places)
+    names : NamesRecord t.listing.version t.listing.settings history (suc (length t.listing.events)) (oldest_place log.places)
     names = oldest_names t.listing.settings before.valid history log.places (suc (length t.listing.events)) taken.same taken.passed taken.reach
         taken.placed
 
@@ -193,22 +194,22 @@ module _ (leaves : Files → Type 0) (seen : Files) (history : List Packet) (t a
         let journal = taken.journal seen taken.read in
         may_name t.listing.settings before.valid t.listing.cone (suc (length t.listing.events)) history (oldest_place log.places) journal.journaled journal.within names
 
-    named_then : NamesRecord t.listing.settings history (last_n0 (logged ++ one ∷ [])) (last_place (logged ++ one ∷ []))
+    named_then : NamesRecord t.listing.version t.listing.settings history (last_n0 (logged ++ one ∷ [])) (last_place (logged ++ one ∷ []))
     named_then = names_pushed t.listing.settings history logged one names
 
     rows_are : AreRows t.listing.settings a.rows
-    rows_are = to_listing (λ s cone events closed. AreRows s a.rows) counted.are
+    rows_are = to_listing (λ s version cone events closed. AreRows s a.rows) counted.are
 
     rows_at : IsAt t.listing.settings (suc (length t.listing.events)) a.rows
-    rows_at = subst (λ n. IsAt t.listing.settings n a.rows) long (to_listing (λ s cone events closed. IsAt s (length events) a.rows) counted.rows)
+    rows_at = subst (λ n. IsAt t.listing.settings n a.rows) long (to_listing (λ s version cone events closed. IsAt s (length events) a.rows) counted.rows)
 
     pub next : LogsNext t.listing.settings t.listing.cone (t.listing.events ++ item ∷ []) a.rows false logged
         (next_record LogKind.Flush (suc (length t.listing.events)) (oldest_place log.places) a.rows logged a.due.reports)
     next =
         log_at_flush t.listing.settings before.valid t.listing.cone t.listing.events item (oldest_place log.places) t.rows a.rows logged a.due.reports may
-        (omega (arith, long, to_listing (λ s cone events closed. length events ≤ capacity s) counted.fits)) moves_here
-        (to_listing (λ s cone events closed. HaveKeys s weighed events) counted.keys)
-        (to_listing (λ s cone events closed. IsPartOf weighed s cone events) counted.own)
+        (omega (arith, long, to_listing (λ s version cone events closed. length events ≤ capacity s) counted.fits)) moves_here
+        (to_listing (λ s version cone events closed. HaveKeys s weighed events) counted.keys)
+        (to_listing (λ s version cone events closed. IsPartOf weighed s cone events) counted.own)
         rows_at rows_are looked few taken.log_of
 
     module _ (since : Files → Type 0) (payload : List ℕ) (payload_is : payload ≡ payload_at log LogKind.Flush (length a.listing.events) (directory_text a.rows) a.due.reports)
@@ -217,8 +218,8 @@ module _ (leaves : Files → Type 0) (seen : Files) (history : List Packet) (t a
       payload_here = payload_is ∙ ap (λ n. payload_at log LogKind.Flush n (directory_text a.rows) a.due.reports) n_is ∙ next_payload log LogKind.Flush (suc
           (length t.listing.events)) a.rows logged a.due.reports taken.named_is
 
-      frames_new : InEach leaves 2 (HoldsBins t.listing.settings written (t.listing.events ++ item ∷ []) a.rows)
-      frames_new image may = to_listing (λ s cone events closed. HoldsBins s written events a.rows (image 2)) (taken.frames image may)
+      frames_new : InEach leaves 2 (HoldsBins t.listing.settings t.listing.version (t.listing.events ++ item ∷ []) a.rows)
+      frames_new image may = to_listing (λ s version cone events closed. HoldsBins s version events a.rows (image 2)) (taken.frames image may)
 
       -- in each image of each moment of the append
       pub sound_append : InEach since 1 (IsWithOrWithout (most_record t.listing.settings) 8 (map log_payload_of logged) log.gate payload) → IsPartway t.listing.settings history t.listing.events
@@ -233,10 +234,10 @@ module _ (leaves : Files → Type 0) (seen : Files) (history : List Packet) (t a
           earlier in
           elim (log_beside leaves since seen s cone history logged one log.gate payload taken.read taken.journal taken.journal_settled taken.log_there next.is.rules payload_here others earlier
           each image may) [
-            | inl without ↦ sound_of s cone history t.listing.events t.rows false logged log.gate before.valid before.rows
+            | inl without ↦ sound_of s cone history t.listing.events t.rows false logged log.gate before.known before.valid before.rows
                 (partway_less t.listing.settings history t.listing.events (item ∷ []) partway)
                 (λ never. absurd (false≢true never)) taken.log_of taken.begins image journal without (beside t.listing.events t.rows before.valid before.are before.light taken.frames_before image may)
-            | inr with_it ↦ sound_of s cone history (t.listing.events ++ item ∷ []) a.rows false (logged ++ one ∷ []) (next_gate log.gate payload) before.valid
+            | inr with_it ↦ sound_of s cone history (t.listing.events ++ item ∷ []) a.rows false (logged ++ one ∷ []) (next_gate log.gate payload) before.known before.valid
                 (subst (λ n. IsAt t.listing.settings n a.rows) (sym long) rows_at) (partway_more t.listing.settings history t.listing.events item partway)
                 (λ never. absurd (false≢true never)) next.is named_then image journal with_it (beside (t.listing.events ++ item ∷ []) a.rows before.valid rows_are all_light frames_new image may)
           ]
@@ -259,20 +260,20 @@ module _ (leaves : Files → Type 0) (seen : Files) (history : List Packet) (t a
             logged = logged ++ one ∷ [];
             log_of = log_as a.rows (logged ++ one ∷ []) next.is;
             named_is = named_is ∙ ap length (sym listed);
-            journal = λ image may. of_listing (λ s cone events closed. IsJournal s cone history (image 0))
+            journal = λ image may. of_listing (λ s version cone events closed. IsJournal version s cone history (image 0))
                 (journal_beside leaves since seen s cone history logged one log.gate payload taken.read taken.journal taken.journal_settled taken.log_there next.is.rules payload_here others
                 earlier image (now image may));
-            log_there = λ image may. of_listing (λ s cone events closed. HasLog s cone (image 1) (logged ++ one ∷ []) log_after.gate)
+            log_there = λ image may. of_listing (λ s version cone events closed. HasLog s cone (image 1) (logged ++ one ∷ []) log_after.gate)
                 (log_behind leaves since seen s cone history logged one log.gate payload taken.read taken.journal taken.journal_settled taken.log_there next.is.rules payload_here others earlier
                 after log_after.gate now stands image may);
-            frames = λ image may. of_listing (λ s cone events closed. HoldsBins s written events a.rows (image 2))
+            frames = λ image may. of_listing (λ s version cone events closed. HoldsBins s version events a.rows (image 2))
                 (frames_beside leaves since seen s cone history logged one log.gate payload taken.read taken.journal taken.journal_settled taken.log_there next.is.rules payload_here others earlier
                 (t.listing.events ++ item ∷ []) a.rows before.valid rows_are all_light frames_new image (now image may));
             journal_settled = journal_settled;
             log_settled = log_settled;
             reports_are = taken.reports_are;
-            begins = of_listing (λ s cone events closed. NamesRecord s history (last_n0 (logged ++ one ∷ [])) (last_place (logged ++ one ∷ []))) named_then;
-            placed = subst (ArePlacesIn history) (sym places_are) taken.placed;
+            begins = of_listing (λ s version cone events closed. NamesRecord version s history (last_n0 (logged ++ one ∷ [])) (last_place (logged ++ one ∷ []))) named_then;
+            placed = of_listing (λ s version cone events closed. ArePlacesIn version history log_after.places) (subst (ArePlacesIn t.listing.version history) (sym places_are) taken.placed);
             reach = omega (arith, reach_here, ap (λ (m : Places). m.from) places_are);
           }
 
@@ -286,7 +287,7 @@ held_of leaves seen history t log read up = record { frames = up.frames seen rea
 
 -- taking a key writes no frame that the rows name
 module _ {B : Type 0} (bays : Bays B) (lawful : IsLawful bays) (bay bay_after : B) (history : List Packet) (t : Tallied) (log : LogPlace)
-    (rest : KeepsRest bays (InNamed t.listing.settings written t.rows) bay bay_after)
+    (rest : KeepsRest bays (InNamed t.listing.settings t.listing.version t.rows) bay bay_after)
     (time : Lasts (bays.moment bay) (bays.moment bay_after) (bays.left_since bay) (bays.left_since bay_after))
     (counted : IsCounted t) (still : t.listing.closed ≡ false) (seen : Files) (told : bays.files bay ≡ Some seen)
     (up : IsInStep (bays.leaves bay) seen history t.listing t.rows t.due.reports log) where
@@ -296,7 +297,8 @@ module _ {B : Type 0} (bays : Bays B) (lawful : IsLawful bays) (bay bay_after : 
   log_kept : Keeps (bays.left_since bay_after (bays.moment bay)) seen 1 0 (length (seen 1))
   log_kept = rest.settled seen told 1 0 (length (seen 1)) (inl (λ same. absurd (omega (arith, same)))) up.log_settled
 
-  frames_kept : (from to : ℕ) → InNamed t.listing.settings written t.rows from to → IsSettled (bays.leaves bay) seen 2 from to → Keeps (bays.left_since bay_after (bays.moment bay)) seen 2 from to
+  frames_kept : (from to : ℕ) → InNamed t.listing.settings t.listing.version t.rows from to → IsSettled (bays.leaves bay) seen 2 from to →
+      Keeps (bays.left_since bay_after (bays.moment bay)) seen 2 from to
   frames_kept from to named settled = rest.settled seen told 2 from to (inr named) settled
 
   pub sound_rest : (more : List Item) → IsPartway t.listing.settings history t.listing.events more → (image : Files) → bays.left_since bay_after (bays.moment bay) image →
@@ -307,8 +309,8 @@ module _ {B : Type 0} (bays : Bays B) (lawful : IsLawful bays) (bay bay_after : 
 
   pub taken_of : (a : Tallied) (item : Item) → a.listing ≡ record t.listing { events = t.listing.events ++ item ∷ [] } → (after : Files) → bays.files bay_after ≡ Some after →
       bays.leaves bay_after after →
-      InEach (bays.leaves bay_after) 2 (HoldsBins a.listing.settings written a.listing.events a.rows) → a.due.reports ≡ reports_of a.listing →
-      (places : Places) → ArePlacesIn history places → places.settings ≡ t.listing.settings → places.passed ≡ suc (length t.listing.events) → places.from ≡ log.places.from →
+      InEach (bays.leaves bay_after) 2 (HoldsBins a.listing.settings a.listing.version a.listing.events a.rows) → a.due.reports ≡ reports_of a.listing →
+      (places : Places) → ArePlacesIn t.listing.version history places → places.settings ≡ t.listing.settings → places.passed ≡ suc (length t.listing.events) → places.from ≡ log.places.from →
       IsTaken (bays.leaves bay_after) after history t a (record log { places = places }) up.logged item
   taken_of a item listing_is after told_after read_after frames reports places placed same passed from_is = record {
     log_of = subst (λ closed. IsLogOf t.listing.settings t.listing.cone t.listing.events t.rows closed up.logged) still up.log_of;
@@ -343,7 +345,7 @@ pub sound_now : (leaves : Files → Type 0) (seen : Files) (history : List Packe
     IsInStep leaves seen history t.listing t.rows t.due.reports log →
     IsPartway t.listing.settings history t.listing.events more → (image : Files) → leaves image → IsSound t.listing.settings t.listing.cone history image
 sound_now leaves seen history t log more counted still up partway image may =
-    sound_of t.listing.settings t.listing.cone history t.listing.events t.rows t.listing.closed up.logged log.gate counted.valid counted.rows
+    sound_of t.listing.settings t.listing.cone history t.listing.events t.rows t.listing.closed up.logged log.gate counted.known counted.valid counted.rows
     (partway_less t.listing.settings history t.listing.events more partway)
     (λ ended. absurd (false≢true (sym still ∙ ended))) up.log_of up.begins image (up.journal image may) (up.log_there image may) (up.frames image may)
 

@@ -38,7 +38,7 @@ module _ {B : Type 0} {bays : Bays B} (lawful : IsLawful bays) (place : JournalP
     can_log = tt;
     in_step = λ seen told history next up. tt;
     each_moment = sound_key (Err fault) did;
-    sound = λ seen told history next up. did.sound seen told (held (Err fault) did seen told history up);
+    sound = λ seen told history next up weighs. did.sound seen told (held (Err fault) did seen told history up) weighs;
     framed = λ seen told some. tt;
     whole = did.whole;
     unflushed = λ passed. did.unflushed (flush_passed old.counts.listing.settings (length old.counts.listing.events) passed);
@@ -79,8 +79,8 @@ module _ {B : Type 0} {bays : Bays B} (lawful : IsLawful bays) (place : JournalP
     long = ap (λ (l : Listing). length l.events) is ∙ length-append old.counts.listing.events (item ∷ [])
 
     -- it is of the record at the place
-    placed : (history : List Packet) → AreNext history place old (item ∷ []) → ArePlacesIn history old.log.places → ArePlacesIn history places
-    placed history next = over.places history
+    placed : (history : List Packet) → AreNext history place old (item ∷ []) → ArePlacesIn old.counts.listing.version history old.log.places → ArePlacesIn old.counts.listing.version history places
+    placed history next = over.places old.counts.listing.version history
         (record_part history place (length old.counts.listing.events) (length old.counts.listing.events + length (item ∷ [])) old.log.places.passed (length counts.listing.events)
         (omega (arith, can.can_log.logging.passed)) (omega (arith, long)) next)
 
@@ -118,10 +118,10 @@ module _ {B : Type 0} {bays : Bays B} (lawful : IsLawful bays) (place : JournalP
       behind = ap (edge old.counts.listing.settings 0) (let before : length old.counts.listing.events ≡ length counts.listing.events - 1 = omega (arith, long) in before);
     }
 
-    framed_then : IfTold (bays.files old.bay) (λ seen. HoldsSome old.counts.listing.settings (length old.counts.listing.events) old.counts.rows (seen 2) →
-        IfTold (bays.files bay) (λ after. HoldsSome old.counts.listing.settings (length counts.listing.events) counts.rows (after 2)))
+    framed_then : IfTold (bays.files old.bay) (λ seen. HoldsSome old.counts.listing.version old.counts.listing.settings (length old.counts.listing.events) old.counts.rows (seen 2) →
+        IfTold (bays.files bay) (λ after. HoldsSome old.counts.listing.version old.counts.listing.settings (length counts.listing.events) counts.rows (after 2)))
     framed_then seen told some after told_after =
-        subst (λ (s : Numbers). HoldsSome s (length counts.listing.events) counts.rows (after 2)) settings_are (did.framed seen told some after told_after)
+        subst (λ (l : Listing). HoldsSome l.version l.settings (length counts.listing.events) counts.rows (after 2)) is (did.framed seen told some after told_after)
 
     -- where it stands then the log's next record may be appended
     can_log_here : CanLog bays (work_at bay counts log_then old.room)
@@ -151,7 +151,7 @@ module _ {B : Type 0} {bays : Bays B} (lawful : IsLawful bays) (place : JournalP
               up_between (bays.leaves bay) after history old.counts counts log_then up.logged item can.still can.counted did.counted (taken seen told history next up after told_after) stays
               rows_are;
           each_moment = sound_key (Ok tt) did;
-          sound = λ seen told history next up. did.sound seen told (held (Ok tt) did seen told history up);
+          sound = λ seen told history next up weighs. did.sound seen told (held (Ok tt) did seen told history up) weighs;
           framed = did.framed;
           whole = did.whole;
           unflushed = λ passed. did.unflushed (flush_passed old.counts.listing.settings (length old.counts.listing.events) passed);
@@ -232,7 +232,7 @@ module _ {B : Type 0} {bays : Bays B} (lawful : IsLawful bays) (place : JournalP
           can_log = tt;
           in_step = λ seen told history next up. tt;
           each_moment = sound_flush moves_now few (Err failed) bay_after log_after appends;
-          sound = λ seen told history next up file at same. (let never : ⊥ = cc in never);
+          sound = λ seen told history next up weighs file at same. (let never : ⊥ = cc in never);
           framed = λ seen told some. tt;
           whole = λ seen told some at same. (let never : ⊥ = cc in never);
           unflushed = λ passed. absurd (never_passed moves_now few (Err failed) bay_after log_after appends passed);
@@ -291,10 +291,13 @@ module _ {B : Type 0} {bays : Bays B} (lawful : IsLawful bays) (place : JournalP
               mid.0 mid.1 taken_then.journal_settled after told_after)
               (appends.settled after told_after);
           each_moment = sound_flush moves_now few (Ok tt) bay_after log_after appends;
-          sound = λ seen told history next up. did.sound seen told (held (Ok tt) did seen told history up);
+          sound = λ seen told history next up weighs. did.sound seen told (held (Ok tt) did seen told history up) weighs;
           framed = λ seen told some after told_after.
               let was = turns_back appends.seen after told_after in
-              subst (λ (bytes : List ℕ). HoldsSome counts.listing.settings (length counts.listing.events) counts.rows bytes) (sym (was.2 2 (λ same. absurd (omega (arith, same)))))
+              subst (λ (bytes : List ℕ). HoldsSome counts.listing.version counts.listing.settings (length counts.listing.events) counts.rows bytes) (sym (was.2 2 (λ same. absurd (omega (
+                arith,
+                same,
+              )))))
               (did.framed seen told some was.0 was.1);
           whole = did.whole;
           unflushed = λ passed. absurd (never_passed moves_now few (Ok tt) bay_after log_after appends passed);

@@ -1,6 +1,5 @@
 -- Keys of a journal that are taken again: all are counted again, or others stand behind those.
 use Rattle.lert_spec.specs.Items.{most_weight}
-use Rattle.lert_cone.specs.History.{written}
 use Rattle.lert_spec.specs.declared.item.Item.{Item}
 use Rattle.std.proofs.Common.{◌≡◌, ℕ, ◌+◌, ◌-◌, ◌<◌, ◌≤◌, Bool, true, false, List, ◌++◌, All, length, take, drop, min, max, Result, Ok, refl, sym, ap, ◌∙◌, subst, arith, length-append, length-take}
 use Rattle.std.proofs.{Common.{length-drop, append_assoc}, lemmas.List.{take_all, take-append-drop}, lemmas.List.Elements.All-drop}
@@ -16,12 +15,31 @@ use Rattle.lert_bay.proofs.KeptLaws.{IsLawful, keeps_none}
 use Rattle.lert_cone.proofs.{Calls.alone_none, KeepsLogSteps.{log_as, log_none}, KeysTaken.map_ok, KeyStep.sound_behind, JournalPlaceLaws.record_part, RecountLaws.recounted_behind}
 use Rattle.lert_cone.proofs.{ReplayLaws.{on_way_places, sound_recounted}, ReplayStep.{way_counted, way_in_step, way_partway, way_taken, enough_counted, told_once}, SomeLaws.some_counted}
 use Rattle.lert_cone.proofs.TakeLaws.{on_ok}
+use Rattle.lert_spec.specs.Items.{AreOfVersion}
+use Rattle.lert_spec.specs.{Counts.{weighed, weight_of}, Edges.weight_room}
+use Rattle.lert_cone.proofs.WeighLaws.{weigh_more}
+use Rattle.lert_base.specs.Packet.{events_of}
 
 never_true : (b : Bool) → (b ≡ true → ⊥) → b ≡ false
 never_true true never = absurd (never refl)
 never_true false never = refl
 
 -- `counts` is what the cone counted once the first items are counted again, and nothing else changed
+-- the items of a list up to some of its next ones weigh no more than a cone takes, where all do
+light_ahead : (s : Numbers) (all events keys rest : List Item) (count : ℕ) → all ≡ events ++ (keys ++ rest) → weight_of weighed all ≤ weight_room s →
+    weight_of weighed ((events ++ take count keys) ++ drop count keys) ≤ weight_room s
+light_ahead s all events keys rest count is weighs = omega (
+  arith,
+  weighs,
+  ap (weight_of weighed) is,
+  weigh_more events (keys ++ rest),
+  weigh_more keys rest,
+  weigh_more (events ++ take count keys) (drop count keys),
+  weigh_more events (take count keys),
+  weigh_more (take count keys) (drop count keys),
+  ap (weight_of weighed) (take-append-drop count keys),
+)
+
 module _ {B : Type 0} {bays : Bays B} (lawful : IsLawful bays) (place : JournalPlace) {old : Workplace B} {n0 count : ℕ} {keys front back : List Item} (can : CanReplay bays n0 keys old)
     (front_is : front ≡ take count keys) (back_is : back ≡ drop count keys) (count_is : count ≡ min (n0 - length old.counts.listing.events) (length keys)) {counts : Tallied}
     (front_taken : counts.listing ≡ record old.counts.listing { events = old.counts.listing.events ++ front })
@@ -38,6 +56,9 @@ module _ {B : Type 0} {bays : Bays B} (lawful : IsLawful bays) (place : JournalP
 
   settings_are : counts.listing.settings ≡ old.counts.listing.settings
   settings_are = ap (λ (l : Listing). l.settings) listing_is
+
+  version_is : counts.listing.version ≡ old.counts.listing.version
+  version_is = ap (λ (l : Listing). l.version) listing_is
 
   counted : length counts.listing.events ≡ length old.counts.listing.events + length (take count keys)
   counted = ap (λ (l : Listing). length l.events) listing_is ∙ length-append old.counts.listing.events (take count keys)
@@ -59,16 +80,17 @@ module _ {B : Type 0} {bays : Bays B} (lawful : IsLawful bays) (place : JournalP
   }
 
   -- the items that were counted are of the record, and those that are left
-  placed : (history : List Packet) → AreNext history place old keys → ArePlacesIn history old.log.places → ArePlacesIn history places
-  placed history next = over.places history
+  placed : (history : List Packet) → AreNext history place old keys → ArePlacesIn old.counts.listing.version history old.log.places → ArePlacesIn old.counts.listing.version history places
+  placed history next = over.places old.counts.listing.version history
       (record_part history place (length old.counts.listing.events) (length old.counts.listing.events + length keys) old.log.places.passed (length counts.listing.events)
       (omega (arith, can.can_log.logging.passed)) (omega (arith, counted, length-take count keys)) next)
 
   next_ahead : (history : List Packet) → AreNext history place old keys →
-      AreOfRecord history place (length counts.listing.events) (length counts.listing.events + length (drop count keys))
+      AreOfRecord counts.listing.version history place (length counts.listing.events) (length counts.listing.events + length (drop count keys))
   next_ahead history next =
-      record_part history place (length old.counts.listing.events) (length old.counts.listing.events + length keys) (length counts.listing.events)
-      (length counts.listing.events + length (drop count keys)) (omega (arith, counted)) (omega (arith, counted, length-take count keys, length-drop count keys)) next
+      subst (λ v. AreOfRecord v history place (length counts.listing.events) (length counts.listing.events + length (drop count keys))) (sym version_is)
+      (record_part history place (length old.counts.listing.events) (length old.counts.listing.events + length keys) (length counts.listing.events)
+      (length counts.listing.events + length (drop count keys)) (omega (arith, counted)) (omega (arith, counted, length-take count keys, length-drop count keys)) next)
 
   turned : (seen : Files) (history : List Packet) → AreNext history place old keys →
       IsOnWay (bays.leaves old.bay) seen history old.counts.listing old.counts.rows old.counts.due.reports old.log n0 →
@@ -100,10 +122,10 @@ module _ {B : Type 0} {bays : Bays B} (lawful : IsLawful bays) (place : JournalP
         framed = λ seen told some after told_after.
             let same : max n0 (length old.counts.listing.events) ≡ max n0 (length counts.listing.events) =
             omega (arith, count_is, counted, none, length-take count keys, length-drop count keys) in
-            subst (λ (s : Numbers). HoldsSome s (max n0 (length counts.listing.events)) counts.rows (after 2)) (sym settings_are)
-            (subst (λ (rows : List (List BinAt)). HoldsSome old.counts.listing.settings (max n0 (length counts.listing.events)) rows (after 2)) (sym rows_are)
-            (subst (λ n. HoldsSome old.counts.listing.settings n old.counts.rows (after 2)) same
-            (subst (λ (files : Files). HoldsSome old.counts.listing.settings (max n0 (length old.counts.listing.events)) old.counts.rows (files 2)) (told_once
+            subst (λ (l : Listing). HoldsSome l.version l.settings (max n0 (length counts.listing.events)) counts.rows (after 2)) (sym listing_is)
+            (subst (λ (rows : List (List BinAt)). HoldsSome old.counts.listing.version old.counts.listing.settings (max n0 (length counts.listing.events)) rows (after 2)) (sym rows_are)
+            (subst (λ n. HoldsSome old.counts.listing.version old.counts.listing.settings n old.counts.rows (after 2)) same
+            (subst (λ (files : Files). HoldsSome old.counts.listing.version old.counts.listing.settings (max n0 (length old.counts.listing.events)) old.counts.rows (files 2)) (told_once
             (bays.files old.bay) seen after told told_after) some)));
         whole = λ seen told some at same. (let never : ⊥ = cc in never);
         log = let same : max n0 (length old.counts.listing.events) ≡ max n0 (length counts.listing.events) =
@@ -143,7 +165,8 @@ module _ {B : Type 0} {bays : Bays B} (lawful : IsLawful bays) (place : JournalP
           )));
           own = subst (λ (l : Listing). All (λ item. cone_of l.settings item.key ≡ l.cone) (drop count keys)) (sym listing_is)
               (All-drop (λ item. cone_of old.counts.listing.settings item.key ≡ old.counts.listing.cone) count keys can.own);
-          light = All-drop (λ (item : Item). (1 ≤ item.weight) × (item.weight ≤ most_weight written)) count keys can.light;
+          light = subst (λ (l : Listing). AreOfVersion l.version (drop count keys)) (sym listing_is)
+              (All-drop (λ (item : Item). (1 ≤ item.weight) × (item.weight ≤ most_weight old.counts.listing.version)) count keys can.light);
           fits = subst (λ (l : Listing). length l.events + length (drop count keys) ≤ capacity l.settings) (sym listing_is)
               (omega (arith, can.fits, length-append old.counts.listing.events (take count keys), length-take count keys, length-drop count keys, some));
           counted = recounted.behind enough;
@@ -180,7 +203,10 @@ module _ {B : Type 0} {bays : Bays B} (lawful : IsLawful bays) (place : JournalP
               (up after told_after));
           sound = λ seen told history rest is next on_way.
               did.sound seen told history (next_ahead history next)
-              (way_in_step (bays.leaves old.bay) seen history old.counts counts log_then n0 count keys rest (turned seen history next on_way) is early listing_is rows_are due_is enough);
+              (way_in_step (bays.leaves old.bay) seen history old.counts counts log_then n0 count keys rest (turned seen history next on_way) is early listing_is rows_are due_is enough)
+              (subst (λ (l : Listing). weight_of weighed (l.events ++ drop count keys) ≤ weight_room l.settings) (sym listing_is)
+              (light_ahead old.counts.listing.settings (events_of history) old.counts.listing.events keys rest count is
+              (on_way.in_step.journal seen (lawful.as_read old.bay seen told)).light));
           each_moment = λ seen told history rest is next on_way image may.
               let step = way_in_step (bays.leaves old.bay) seen history old.counts counts log_then n0 count keys rest (turned seen history next on_way) is early listing_is rows_are due_is enough in
               let partway = way_partway (bays.leaves old.bay) seen history old.counts counts log_then n0 count keys rest (turned seen history next on_way) is early listing_is rows_are due_is enough in
@@ -192,17 +218,18 @@ module _ {B : Type 0} {bays : Bays B} (lawful : IsLawful bays) (place : JournalP
               did.unflushed (subst (λ (s : Numbers). last_flush s (length counts.listing.events + length (drop count keys)) ≤ length counts.listing.events) (sym settings_are)
               (omega (arith, passed, up_to, ap (last_flush old.counts.listing.settings) same)));
           framed = λ seen told holds.
-              let here = some_counted old.counts counts (max n0 (length old.counts.listing.events)) (seen 2) settings_are rows_are up_to holds in
-              on_ok _ _ (IfTold (bays.files new.bay) (λ after. HoldsSome new.counts.listing.settings (max n0 (length new.counts.listing.events)) new.counts.rows (after 2))) result
+              let here = some_counted old.counts counts (max n0 (length old.counts.listing.events)) (seen 2) settings_are version_is rows_are up_to holds in
+              on_ok _ _ (IfTold (bays.files new.bay) (λ after. HoldsSome new.counts.listing.version new.counts.listing.settings (max n0 (length new.counts.listing.events)) new.counts.rows (after
+              2))) result
               (did.framed seen told here) did.taken
               (λ again (took : new.counts.listing.events ≡ counts.listing.events ++ drop count keys) after told_after.
-              subst (λ n. HoldsSome new.counts.listing.settings n new.counts.rows (after 2)) (then_most new.counts.listing.events took) (again after told_after));
-          whole = λ seen told holds. did.whole seen told (some_counted old.counts counts (max n0 (length old.counts.listing.events)) (seen 2) settings_are rows_are up_to holds);
+              subst (λ n. HoldsSome new.counts.listing.version new.counts.listing.settings n new.counts.rows (after 2)) (then_most new.counts.listing.events took) (again after told_after));
+          whole = λ seen told holds. did.whole seen told (some_counted old.counts counts (max n0 (length old.counts.listing.events)) (seen 2) settings_are version_is rows_are up_to holds);
           log = let heads_are : ◌≡◌ {A = LogHead} (record { rows = counts.rows; events = length counts.listing.events; gate = old.log.gate }) (replayed_head n0 old) =
               λ i. record { rows = rows_are i; events = (sym up_to) i; gate = old.log.gate } in
-              subst (λ (head : LogHead). KeepsLogOf bays old.counts.listing.settings head (replayed_head n0 new) old.bay new.bay result) heads_are
-              (subst (λ (s : Numbers). KeepsLogOf bays s (record { rows = counts.rows; events = length counts.listing.events; gate = old.log.gate }) (replayed_head n0 new) old.bay new.bay result)
-              settings_are
+              subst (λ (head : LogHead). KeepsLogOf bays old.counts.listing.version old.counts.listing.settings head (replayed_head n0 new) old.bay new.bay result) heads_are
+              (subst (λ (l : Listing). KeepsLogOf bays l.version l.settings (record { rows = counts.rows; events = length counts.listing.events; gate = old.log.gate })
+              (replayed_head n0 new) old.bay new.bay result) listing_is
               (log_as bays lawful counts.listing.settings (record { rows = counts.rows; events = length counts.listing.events; gate = old.log.gate }) (taken_head new)
               (replayed_head n0 new) old.bay new.bay result
               result (λ P holds. on_ok _ _ (P (replayed_head n0 new)) result holds did.taken

@@ -1,6 +1,5 @@
 -- Keys in turn: none, one more, and one that isn't taken.
 use Rattle.lert_spec.specs.Items.{most_weight, unit}
-use Rattle.lert_cone.specs.History.{written}
 use Rattle.lert_spec.specs.declared.item.Item.{Item}
 use Rattle.std.proofs.Common.{◌≡◌, ℕ, ◌+◌, ◌<◌, ◌≤◌, List, [], ◌∷◌, ◌++◌, All, length, take, drop, get_or, Result, Ok, Err, OnOk, refl, sym, ap, ◌∙◌, subst, inl, inr, arith, length-append}
 use Rattle.std.proofs.{Common.{append_assoc, append-nil, length-take}, lemmas.List.{take_all, take_more, take-append-drop}, lemmas.List.Elements.{All-nil, All-cons}, lemmas.Option.same_Some}
@@ -13,6 +12,10 @@ use Rattle.lert_cone.specs.{Listing.Listing, Takes.{Workplace, CanTake, AreInSte
 use Rattle.lert_bay.proofs.KeptLaws.{IsLawful, keeps_none, keeps_on}
 use Rattle.lert_cone.proofs.{Calls.{alone_none, alone_on}, KeepsLogSteps.{log_none, log_on}, KeyStep.{sound_now, sound_behind}, FlushLaws.last_flush_grows, JournalPlaceLaws.record_part}
 use Rattle.lert_cone.proofs.TakeLaws.{handed_on}
+use Rattle.lert_cone.specs.JournalPlaces.{AreOfRecord}
+use Rattle.lert_spec.specs.Items.{AreOfVersion}
+use Rattle.lert_spec.specs.{Counts.{weighed, weight_of}, Edges.weight_room}
+use Rattle.lert_cone.proofs.WeighLaws.{weigh_more}
 
 -- what follows from an answer of Ok
 pub map_ok : {T E A C : Type 0} (result : Result T E) → (A → C) → OnOk result A → OnOk result C
@@ -39,6 +42,10 @@ partway_back s history events front back partway = record {
 front_passed : (s : Numbers) (n : ℕ) (front back : List Item) → last_flush s (n + length (front ++ back)) ≤ n → last_flush s (n + length front) ≤ n
 front_passed s n front back passed = omega (arith, passed, last_flush_grows s (n + length front) (n + length (front ++ back)) (omega (arith, length-append front back)))
 
+-- what weighs no more than a cone takes does so without the last items
+pub light_first : (s : Numbers) (events front back : List Item) → weight_of weighed (events ++ (front ++ back)) ≤ weight_room s → weight_of weighed (events ++ front) ≤ weight_room s
+light_first s events front back weighs = omega (arith, weighs, weigh_more events (front ++ back), weigh_more front back, weigh_more events front)
+
 module _ {B : Type 0} {bays : Bays B} (lawful : IsLawful bays) (place : JournalPlace) where
   -- no item
   pub takes_none : {at : Workplace B} {keys : List Item} → CanTake bays keys at → TakesItems bays place [] at at (Ok tt)
@@ -50,9 +57,10 @@ module _ {B : Type 0} {bays : Bays B} (lawful : IsLawful bays) (place : JournalP
     in_step = λ seen told history next up after told_after. subst (λ (files : Files). AreInStep bays at files history) (same_Some seen after (sym told ∙ told_after)) up;
     each_moment = λ seen told history next partway up image may.
         sound_now (bays.leaves at.bay) seen history at.counts at.log [] can.counted can.still up partway image (lawful.only_now at.bay image may);
-    sound = λ seen told history next up file at same. (let never : ⊥ = cc in never);
+    sound = λ seen told history next up weighs file at same. (let never : ⊥ = cc in never);
     framed = λ seen told some after told_after.
-        subst (λ (files : Files). HoldsSome at.counts.listing.settings (length at.counts.listing.events) at.counts.rows (files 2)) (same_Some seen after (sym told ∙ told_after)) some;
+        subst (λ (files : Files). HoldsSome at.counts.listing.version at.counts.listing.settings (length at.counts.listing.events) at.counts.rows (files 2)) (same_Some seen after (sym told ∙
+        told_after)) some;
     whole = λ seen told some at same. (let never : ⊥ = cc in never);
     unflushed = λ passed. refl;
     log = log_none bays lawful at.counts.listing.settings (taken_head at) at.bay can.can_log.log_shut;
@@ -90,8 +98,9 @@ module _ {B : Type 0} {bays : Bays B} (lawful : IsLawful bays) (place : JournalP
 
       next_back : (history : List Packet) → AreNext history place old (front ++ back) → AreNext history place mid back
       next_back history next =
-          record_part history place (length old.counts.listing.events) (length old.counts.listing.events + length (front ++ back)) (length mid.counts.listing.events)
-          (length mid.counts.listing.events + length back) (omega (arith, mid_long)) (omega (arith, mid_long, length-append front back)) next
+          subst (λ v. AreOfRecord v history place (length mid.counts.listing.events) (length mid.counts.listing.events + length back)) (sym (ap (λ (l : Listing). l.version) mid_is))
+          (record_part history place (length old.counts.listing.events) (length old.counts.listing.events + length (front ++ back)) (length mid.counts.listing.events)
+          (length mid.counts.listing.events + length back) (omega (arith, mid_long)) (omega (arith, mid_long, length-append front back)) next)
 
       pub takes_more : TakesItems bays place (front ++ back) old new result
       takes_more = record {
@@ -114,9 +123,11 @@ module _ {B : Type 0} {bays : Bays B} (lawful : IsLawful bays) (place : JournalP
               | inr here ↦ sound_behind mid.counts.listing old.counts.listing history image (ap (λ (l : Listing). l.settings) first.listing) (ap (λ (l : Listing). l.cone) first.listing)
                   (second.each_moment came.0 came.1 history (next_back history next) behind here_up image here)
             ];
-        sound = λ seen told history next up.
+        sound = λ seen told history next up weighs.
             let came = first.keeps.journal.seen.told seen told in
-            second.sound came.0 came.1 history (next_back history next) (first.in_step seen told history (next_front old front back history next) up came.0 came.1);
+            second.sound came.0 came.1 history (next_back history next) (first.in_step seen told history (next_front old front back history next) up came.0 came.1)
+            (subst (λ (l : Listing). weight_of weighed (l.events ++ back) ≤ weight_room l.settings) (sym mid_is)
+            (subst (λ (all : List Item). weight_of weighed all ≤ weight_room old.counts.listing.settings) (sym (append_assoc old.counts.listing.events front back)) weighs));
         framed = λ seen told some.
             let came = first.keeps.journal.seen.told seen told in
             second.framed came.0 came.1 (first.framed seen told some came.0 came.1);
@@ -126,7 +137,7 @@ module _ {B : Type 0} {bays : Bays B} (lawful : IsLawful bays) (place : JournalP
         unflushed = λ passed. second.unflushed (back_passed passed) ∙ first.unflushed (front_passed old.counts.listing.settings (length old.counts.listing.events) front back passed);
         log = log_on bays lawful old.counts.listing.settings (taken_head old) (taken_head mid) (taken_head new) old.bay mid.bay new.bay tt result first.keeps.journal.seen
             first.keeps.journal.time.later second.keeps.journal.time first.log
-            (subst (λ (s : Numbers). KeepsLogOf bays s (taken_head mid) (taken_head new) mid.bay new.bay result) (ap (λ (l : Listing). l.settings) first.listing) second.log);
+            (subst (λ (l : Listing). KeepsLogOf bays l.version l.settings (taken_head mid) (taken_head new) mid.bay new.bay result) first.listing second.log);
         keeps = record {
           shows = second.keeps.shows;
           journal = alone_on lawful first.keeps.journal second.keeps.journal;
@@ -146,7 +157,8 @@ module _ {B : Type 0} {bays : Bays B} (lawful : IsLawful bays) (place : JournalP
     in_step = λ seen told history next up. tt;
     each_moment = λ seen told history next partway up image may.
         did.each_moment seen told history (next_front old front back history next) (partway_front old.counts.listing.settings history old.counts.listing.events front back partway) up image may;
-    sound = λ seen told history next up. did.sound seen told history (next_front old front back history next) up;
+    sound = λ seen told history next up weighs. did.sound seen told history (next_front old front back history next) up
+        (light_first old.counts.listing.settings old.counts.listing.events front back weighs);
     framed = λ seen told some. tt;
     whole = did.whole;
     unflushed = λ passed. did.unflushed (front_passed old.counts.listing.settings (length old.counts.listing.events) front back passed);
@@ -166,8 +178,9 @@ module _ {B : Type 0} {bays : Bays B} (lawful : IsLawful bays) (place : JournalP
           own = subst (λ (l : Listing). All (λ item. cone_of l.settings item.key ≡ l.cone) (get_or keys i (unit 0) ∷ [])) (sym is)
               (All-cons (λ item. cone_of old.counts.listing.settings item.key ≡ old.counts.listing.cone) (get_or keys i (unit 0)) [] (can.own i (unit 0) within) (All-nil
               (λ item. cone_of old.counts.listing.settings item.key ≡ old.counts.listing.cone)));
-          light = All-cons (λ (item : Item). (1 ≤ item.weight) × (item.weight ≤ most_weight written)) (get_or keys i (unit 0)) [] (can.light i (unit 0) within)
-              (All-nil (λ (item : Item). (1 ≤ item.weight) × (item.weight ≤ most_weight written)));
+          light = subst (λ (l : Listing). AreOfVersion l.version (get_or keys i (unit 0) ∷ [])) (sym is)
+              (All-cons (λ (item : Item). (1 ≤ item.weight) × (item.weight ≤ most_weight old.counts.listing.version)) (get_or keys i (unit 0)) [] (can.light i (unit 0) within)
+              (All-nil (λ (item : Item). (1 ≤ item.weight) × (item.weight ≤ most_weight old.counts.listing.version))));
           fits = subst (λ (l : Listing). length l.events + 1 ≤ capacity l.settings) (sym is)
               (omega (arith, can.fits, within, length-append old.counts.listing.events (take i keys), length-take i keys));
           counted = first.counted;

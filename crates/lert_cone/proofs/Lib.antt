@@ -28,6 +28,7 @@ pub mod KeysReplayed
 pub mod KeysTaken
 pub mod LogLaws
 pub mod MadeReports
+pub mod ItemLaws
 pub mod JournalPlaceLaws
 pub mod NextFlush
 pub mod PacketTaken

@@ -1,7 +1,6 @@
 -- A cone whose items come again up to n0, while its rows are those after n0 events already.
 use Rattle.std.proofs.Common.{ℕ, ◌≡◌, ◌≢◌, ◌+◌, ◌-◌, ◌*◌, ◌%◌, ◌<◌, ◌≤◌, suc, cond, ltb, Bool, true, false, List, [], ◌∷◌, ◌++◌, length, ap, sym, ◌∙◌, arith, inl, inr, subst, length-append}
 use Rattle.std.proofs.{Math.Nat.mul-div-le, lemmas.Bool.{cases_eq, cases_lt, eq-eqb, ne_eqb, lt-ltb, le-ltb}, lemmas.Nat.mul-le}
-use Rattle.lert_cone.specs.History.{written}
 use Rattle.lert_spec.specs.{Counts.weighed, declared.item.Item.Item, declared.numbers.Numbers.Numbers}
 use Rattle.lert_spec.specs.{Items.{most_weight, AreOfVersion}, Edges.{key_limit, span, offset, edge, capacity}, Limits.IsValid, Mix.{cone_of, tail_of}}
 use Rattle.lert_spec.proofs.{LookLaws.HaveKeys, TailLaws.IsPartOf}
@@ -9,6 +8,7 @@ use Rattle.lert_levels.specs.{rows.Ranges.young_bins, rows.Rows.{IsAt, AreRows},
 use Rattle.lert_levels.proofs.rows.YoungBins.{young-added, young-none}
 use Rattle.lert_cone.specs.Tally.{Tallied, IsCounted, IsRecounted, IsRising, AreYoung}
 use Rattle.lert_cone.proofs.{KeyLemmas.{HaveKeys-push, IsPartOf-push, AreOfVersion-push}, TallyLaws.{wide, aligned, next_free}}
+use Rattle.lert_spec.specs.Items.{IsVersion}
 
 module _ (s : Numbers) (valid : IsValid s) where
   -- the newest event is above the edge of level 0
@@ -146,9 +146,10 @@ module _ (s : Numbers) (valid : IsValid s) (n0 : ℕ) (events : List Item) (y : 
   ]
 
 -- before the first item above the edge, where none of level 0's came yet
-module _ (t : Tallied) (n0 : ℕ) (valid : IsValid t.listing.settings) (few : length t.listing.events ≤ edge t.listing.settings 0 n0) (fits : n0 ≤ capacity t.listing.settings)
+module _ (t : Tallied) (n0 : ℕ) (known : IsVersion t.listing.version) (valid : IsValid t.listing.settings) (few : length t.listing.events ≤ edge t.listing.settings 0 n0) (fits : n0 ≤ capacity
+    t.listing.settings)
     (young : t.young ≡ record { settings = t.listing.settings; from = 0; to = 0; bins = [] }) (at : IsAt t.listing.settings n0 t.rows) (are : AreRows t.listing.settings t.rows)
-    (keys : HaveKeys t.listing.settings weighed t.listing.events) (own : IsPartOf weighed t.listing.settings t.listing.cone t.listing.events) (light : AreOfVersion written t.listing.events)
+    (keys : HaveKeys t.listing.settings weighed t.listing.events) (own : IsPartOf weighed t.listing.settings t.listing.cone t.listing.events) (light : AreOfVersion t.listing.version t.listing.events)
     (due_settings : t.due.settings ≡ t.listing.settings) (due_cone : t.due.cone ≡ t.listing.cone) where
   within : length t.listing.events ≤ n0
   within = omega (arith, few, mul-div-le (n0 - offset t.listing.settings 0) (span t.listing.settings 0))
@@ -170,6 +171,7 @@ module _ (t : Tallied) (n0 : ℕ) (valid : IsValid t.listing.settings) (few : le
         n0_fits = fits;
         keys = keys;
         own = own;
+        known = known;
         light = light;
         are = are;
         due_settings = due_settings;
@@ -183,6 +185,7 @@ module _ (t : Tallied) (n0 : ℕ) (valid : IsValid t.listing.settings) (few : le
               fits = short;
               keys = keys;
               own = own;
+              known = known;
               light = light;
               from = risen_from t.listing.settings valid n0 t.listing.events t.young begun there;
               to = risen_to t.listing.settings valid n0 t.listing.events t.young begun there;
@@ -203,7 +206,8 @@ module _ (t : Tallied) (n0 : ℕ) (recounted : IsRecounted t n0) (settings : t.y
       (again_position t.listing.settings recounted.valid n0 t.listing.events t.young (recounted.young before) settings before recounted.n0_fits
       (omega (arith, ap (λ (v : Numbers). edge v 0 n0) settings)))
 
-  module _ (below : item.key < key_limit t.listing.settings) (is_own : cone_of t.listing.settings item.key ≡ t.listing.cone) (some : 1 ≤ item.weight) (most : item.weight ≤ most_weight written)
+  module _ (below : item.key < key_limit t.listing.settings) (is_own : cone_of t.listing.settings item.key ≡ t.listing.cone) (some : 1 ≤ item.weight) (most : item.weight ≤ most_weight
+      t.listing.version)
       (next : Young) (next_is : next ≡ cond (ltb (edge t.young.settings 0 n0) m) (with_event t.young tail item.weight m) t.young) where
     abbrev more : List Item
     more = t.listing.events ++ item ∷ []
@@ -219,7 +223,7 @@ module _ (t : Tallied) (n0 : ℕ) (recounted : IsRecounted t n0) (settings : t.y
     recounted_more after after_is =
         let keys : HaveKeys t.listing.settings weighed more = HaveKeys-push t.listing.settings t.listing.events item recounted.keys below in
         let own : IsPartOf weighed t.listing.settings t.listing.cone more = IsPartOf-push t.listing.settings t.listing.cone t.listing.events item recounted.own is_own in
-        let light : AreOfVersion written more = AreOfVersion-push written t.listing.events item recounted.light some most in
+        let light : AreOfVersion t.listing.version more = AreOfVersion-push t.listing.version t.listing.events item recounted.light some most in
         let at : IsAt t.listing.settings n0 t.rows = recounted.rows (omega arith) in
         let fits : length more ≤ capacity t.listing.settings = omega (arith, more_long, recounted.n0_fits) in
         subst (λ (v : Tallied). IsRecounted v n0) (sym after_is) (record {
@@ -228,6 +232,7 @@ module _ (t : Tallied) (n0 : ℕ) (recounted : IsRecounted t n0) (settings : t.y
           n0_fits = recounted.n0_fits;
           keys = keys;
           own = own;
+          known = recounted.known;
           light = light;
           are = recounted.are;
           due_settings = recounted.due_settings;
@@ -241,6 +246,7 @@ module _ (t : Tallied) (n0 : ℕ) (recounted : IsRecounted t n0) (settings : t.y
                 fits = fits;
                 keys = keys;
                 own = own;
+                known = recounted.known;
                 light = light;
                 from = risen_from t.listing.settings recounted.valid n0 more next risen there;
                 to = risen_to t.listing.settings recounted.valid n0 more next risen there;
@@ -260,6 +266,7 @@ recounted_behind t n0 counted enough = record {
   n0_fits = omega (arith, counted.fits);
   keys = counted.keys;
   own = counted.own;
+  known = counted.known;
   light = counted.light;
   are = counted.are;
   due_settings = counted.due_settings;

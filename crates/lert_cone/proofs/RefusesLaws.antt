@@ -5,10 +5,10 @@ use Rattle.std.specs.Prelude.{◌↔◌}
 use Rattle.lert_base.specs.{Packet.Packet, declared.cone_fault.ConeFault.ConeFault}
 use Rattle.lert_base.specs.declared.cone_fault.ConeFault.TheVariants.{Closed, Broken, CapacityFull, WeightFull, OldJournal, BayFailed, Unsound}
 use Rattle.lert_spec.specs.{Counts.{weighed, weight_of}, Edges.{capacity, weight_room}, declared.item.Item.Item}
-use Rattle.lert_cone.specs.{History.{most_version, written}, declared.state.ConeState.TheVariants.{Running, Finished}}
+use Rattle.lert_cone.specs.{History.{most_version}, declared.state.ConeState.TheVariants.{Running, Finished}}
 use Rattle.lert_cone.specs.{Refuses.{FailsTest, PassesTest, first_weighed}, Stands.{Standing, is_broken, is_finished, is_refusal, version_of}}
 use Rattle.lert_journal.specs.Payload.{IsJournaled}
-use Rattle.lert_cone.proofs.{Refusals.{no_fault, one_fault}, WeighLaws.units_if}
+use Rattle.lert_cone.proofs.{Refusals.{no_fault, one_fault}, WeighLaws.of_version}
 
 -- ---- what the clauses of an answer say of its faults
 
@@ -189,12 +189,12 @@ module _ {B : Type 0} (cone : Standing B) (items : List Item) where
 
 -- a packet that is handed in is one that the files hold, where the test lets it pass
 pub journaled_by : {B : Type 0} {cone : Standing B} {packet : Packet} {more : ℕ} → PassesTest cone packet.items more →
-    IsJournaled most_version cone.listing.settings cone.listing.cone packet → IsJournaled written cone.listing.settings cone.listing.cone packet
-journaled_by {packet = packet} passes may = record {
+    IsJournaled most_version cone.listing.settings cone.listing.cone packet → IsJournaled cone.last.version cone.listing.settings cone.listing.cone packet
+journaled_by {cone = cone} {packet = packet} passes may = record {
   some = may.some;
   few = may.few;
   by_most = may.by_most;
   trace_most = may.trace_most;
   of_cone = may.of_cone;
-  weighed = units_if packet.items (passes.sayable refl);
+  weighed = of_version cone.last.version packet.items passes.sayable may.weighed;
 }

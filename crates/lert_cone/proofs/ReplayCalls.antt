@@ -2,7 +2,6 @@
 use Rattle.lert_spec.specs.declared.item.Item.{Item}
 use Rattle.std.proofs.Common.{◌≡◌, ℕ, ◌+◌, ◌≤◌, List, ◌++◌, length, take, drop, max, Option, Some, Result, Ok, OnOk, sym, ap, ◌∙◌, subst, inl, inr, arith, length-append}
 use Rattle.std.specs.List.{length_refill}
-use Rattle.lert_cone.specs.History.{written}
 use Rattle.lert_base.specs.Packet.{Packet, events_of}
 use Rattle.lert_bay.specs.{Files.{Files, IfTold}, Images.Lasts, Kept.{Bays, CallsBay, KeepsBay}}
 use Rattle.lert_bay.proofs.KeptLaws.{IsLawful, calls, calls_as, calls_on}
@@ -10,16 +9,17 @@ use Rattle.lert_gatelog.specs.{Gated.{IsClosed, Log, next_gate}, Kept.IsWhollySe
 use Rattle.lert_journal.specs.Journal.{HoldsPacket}
 use Rattle.lert_reports.specs.declared.log_point.LogPoint.{LogPoint}
 use Rattle.lert_spec.specs.declared.numbers.Numbers.{Numbers}
-use Rattle.lert_cone.specs.{declared.journal_places.JournalPlace.JournalPlace, declared.refusal.ReplayFault.ReplayFault, declared.tally.TakeFault.TakeFault, Framed.last_flush, History.most_payload}
+use Rattle.lert_cone.specs.{declared.journal_places.JournalPlace.JournalPlace, declared.refusal.ReplayFault.ReplayFault, declared.tally.TakeFault.TakeFault, Framed.last_flush}
 use Rattle.lert_cone.specs.{KeepsLog.{KeepsLogOf, LogHead}, Listing.Listing, Reads.OnlyReadsJournal, Record.LogPlace, Replay.{IsOnWay, IsPast, IsNext}, Replays.{HasEnded, IsUnwritten, Replays}}
 use Rattle.lert_cone.specs.{Sound.{IsSound, StaysSound}, Takes.{Workplace, ReplaysItems}, Tally.{Tallied, IsRecounted}, Wrote.{IsShutIfTold, LeavesAlone}}
 use Rattle.lert_cone.proofs.{Calls.{now_since, alone_on, alone_reading}, GateLaws.{ends_there, keys_past, keys_next}, KeepsLogSteps.{log_as, log_on, log_unwritten}, JournalPlaceLaws.next_holds}
 use Rattle.lert_cone.proofs.{ReplayLaws.{journal_on_way, on_way_read, sound_recounted}, ReplayStands.{next_there, read_settled, seen_as, shut_there}, ReplayStep.told_once}
+use Rattle.lert_journal.specs.Payload.{most_payload}
 
 -- a packet that stands at the gate of a journal, said of another name of it
-pub held_at : {s : Numbers} {cone most : ℕ} {journal there : Log} {bytes : List ℕ} {packet : Packet} → journal ≡ there → HoldsPacket written s cone most bytes journal.gate packet →
-    HoldsPacket written s cone most bytes there.gate packet
-held_at {s} {cone} {most} {journal} {there} {bytes} {packet} is holds = subst (λ (j : Log). HoldsPacket written s cone most bytes j.gate packet) is holds
+pub held_at : {version : ℕ} {s : Numbers} {cone most : ℕ} {journal there : Log} {bytes : List ℕ} {packet : Packet} → journal ≡ there → HoldsPacket version s cone most bytes journal.gate packet →
+    HoldsPacket version s cone most bytes there.gate packet
+held_at {version} {s} {cone} {most} {journal} {there} {bytes} {packet} is holds = subst (λ (j : Log). HoldsPacket version s cone most bytes j.gate packet) is holds
 
 -- a journal that moved on
 pub moved_on : {journal there after : Log} (payload : List ℕ) → after ≡ record journal { gate = next_gate journal.gate payload } → journal ≡ there →
@@ -92,14 +92,14 @@ module _ {B : Type 0} (bays : Bays B) (lawful : IsLawful bays) where
         (alone_reading lawful file read.reads) left
 
     -- a log whose gate is closed stays through the reading
-    pub read_logged : {U F : Type 0} (s : Numbers) (head : LogHead) (answer : Result U F) → IsShutIfTold (bays.files bay) (bays.leaves bay) 1 head.gate →
-        KeepsLogOf bays s head head bay bay_read answer
+    pub read_logged : {version : ℕ} {U F : Type 0} (s : Numbers) (head : LogHead) (answer : Result U F) → IsShutIfTold (bays.files bay) (bays.leaves bay) 1 head.gate →
+        KeepsLogOf bays version s head head bay bay_read answer
     read_logged s head answer shut = log_unwritten bays lawful s head bay bay_read answer read_unwritten shut
 
     -- and so through calls behind
-    pub logged_behind : {T E U F : Type 0} (s : Numbers) (old new : LogHead) (after : B) (result : Result T E) (answer : Result U F) →
+    pub logged_behind : {version : ℕ} {T E U F : Type 0} (s : Numbers) (old new : LogHead) (after : B) (result : Result T E) (answer : Result U F) →
         IsShutIfTold (bays.files bay) (bays.leaves bay) 1 old.gate → LeavesAlone bays 0 bay_read after →
-        ((P : LogHead → Type 0) → OnOk result (P new) → OnOk answer (P new)) → KeepsLogOf bays s old new bay_read after result → KeepsLogOf bays s old new bay after answer
+        ((P : LogHead → Type 0) → OnOk result (P new) → OnOk answer (P new)) → KeepsLogOf bays version s old new bay_read after result → KeepsLogOf bays version s old new bay after answer
     logged_behind s old new after result answer shut left goes did =
         log_as bays lawful s old new new bay after result answer goes
         (log_on bays lawful s {U = Unit {0}} {F = Unit {0}} old old new bay bay_read after tt result (alone_reading lawful 0 read.reads).seen read.reads.kept.time.later left.time
@@ -112,29 +112,30 @@ module _ {B : Type 0} (bays : Bays B) (lawful : IsLawful bays) where
         subst (λ (b : B). IsUnwritten bays bay b) (sym (unflushed (omega (arith, passed, ap (λ (ks : List Item). last_flush s (n + length ks)) keys_are)))) read_unwritten
 
     -- a closed gate stands there
-    pub ended_at : (made : B) (t : Tallied) (events : ℕ) (stopped : Option ReplayFault) (before after at : ℕ) (log : LogPlace) (last : LogPoint) → after ≡ at →
+    pub ended_at : (made : B) (t : Tallied) (events weight : ℕ) (stopped : Option ReplayFault) (before after at : ℕ) (log : LogPlace) (last : LogPoint) → after ≡ at →
         last.n0 ≤ length t.listing.events → IfTold (bays.files bay) (λ seen. IsWhollySettled (bays.leaves bay) seen 0) → IfTold (bays.files bay) (λ seen. IsClosed (seen 0) at) →
-        HasEnded bays.files bays.leaves (seen_as bay made t events stopped before log last) (seen_as bay_read made t events stopped after log last) at
-    ended_at made t events stopped before after at log last after_is enough settled closed = record {
+        HasEnded bays.files bays.leaves (seen_as bay made t events weight stopped before log last) (seen_as bay_read made t events weight stopped after log last) at
+    ended_at made t events weight stopped before after at log last after_is enough settled closed = record {
       enough = enough;
       stands = closed;
       shut = shut_there (read_settled read.reads.seen read.reads.images settled) (λ seen told. closed seen (sym read.reads.seen ∙ told));
       seen = read.reads.seen;
       images = read.reads.images;
-      is = λ i. seen_as bay_read made t events stopped (after_is i) log last;
+      is = λ i. seen_as bay_read made t events weight stopped (after_is i) log last;
     }
 
     -- the cone is on its way through the journal of a history
-    module _ (t : Tallied) (log : LogPlace) (last : LogPoint) (seen : Files) (told : bays.files bay ≡ Some seen) (history done : List Packet) (gate : ℕ) {made : B} {events own : ℕ}
-        {stopped : Option ReplayFault} (way : Replays bays.files bays.leaves (seen_as bay made t events stopped own log last) history done) (gate_same : gate ≡ own) where
+    module _ (t : Tallied) (log : LogPlace) (last : LogPoint) (seen : Files) (told : bays.files bay ≡ Some seen) (history done : List Packet) (gate : ℕ) {made : B} {events weight own : ℕ}
+        {stopped : Option ReplayFault} (way : Replays bays.files bays.leaves (seen_as bay made t events weight stopped own log last) history done) (gate_same : gate ≡ own) where
       on_way : IsOnWay (bays.leaves bay) seen history t.listing t.rows t.due.reports log last.n0
       on_way = way.on_way seen told
 
-      past : IsPast history done t.listing.events gate
-      past = subst (IsPast history done t.listing.events) (sym gate_same) way.past
+      past : IsPast t.listing.version history done t.listing.events gate
+      past = subst (IsPast t.listing.version history done t.listing.events) (sym gate_same) way.past
 
       -- a packet that stands there is the next one, and memory and files are where they were
-      pub with_keys : (packet : Packet) → HoldsPacket written t.listing.settings t.listing.cone (most_payload t.listing.settings) (seen 0) gate packet → (keys : List Item) → keys ≡ packet.items →
+      pub with_keys : (packet : Packet) → HoldsPacket t.listing.version t.listing.settings t.listing.cone (most_payload t.listing.version t.listing.settings) (seen 0) gate packet →
+          (keys : List Item) → keys ≡ packet.items →
           {X : Type 0} → (bays.files bay_read ≡ Some seen → (next : IsNext history done packet) → events_of history ≡ t.listing.events ++ (keys ++ events_of next.rest) →
           IsOnWay (bays.leaves bay_read) seen history t.listing t.rows t.due.reports log last.n0 → X) → X
       with_keys packet holds keys keys_are goes =
@@ -145,13 +146,14 @@ module _ {B : Type 0} (bays : Bays B) (lawful : IsLawful bays) where
 
       -- a closed gate that stands there is behind the last packet
       pub ended_replays : (after : ℕ) → after ≡ gate → IsClosed (seen 0) gate →
-          (done ≡ history) × Replays bays.files bays.leaves (seen_as bay_read made t events stopped after log last) history done
+          (done ≡ history) × Replays bays.files bays.leaves (seen_as bay_read made t events weight stopped after log last) history done
       ended_replays after after_is closed = (
         ends_there t.listing.settings t.listing.cone (seen 0) history done t.listing.events gate
             (journal_on_way (bays.leaves bay) seen history t.listing t.rows t.due.reports log last.n0 on_way (lawful.as_read bay seen told)) past closed,
         record {
           taking = way.taking;
-          past = subst (λ at. IsPast history done t.listing.events at) (sym after_is) past;
+          weighed_is = λ seen_after told_after. way.weighed_is seen told;
+          past = subst (λ at. IsPast t.listing.version history done t.listing.events at) (sym after_is) past;
           on_way = λ seen_after told_after.
               subst (λ (files : Files). IsOnWay (bays.leaves bay_read) files history t.listing t.rows t.due.reports log last.n0)
               (told_once (bays.files bay_read) seen seen_after (read.reads.seen ∙ told) told_after)
@@ -166,7 +168,8 @@ module _ {B : Type 0} (bays : Bays B) (lawful : IsLawful bays) where
             (λ image may. sound_recounted (bays.leaves bay) seen history t log last.n0 recounted on_way (events_of past.rest) (keys_past history done t.listing.events gate past) image
             (read.reads.moments image may))
 
-        pub keys_stay : (packet : Packet) → HoldsPacket written t.listing.settings t.listing.cone (most_payload t.listing.settings) (seen 0) gate packet → (keys : List Item) →
+        pub keys_stay : (packet : Packet) → HoldsPacket t.listing.version t.listing.settings t.listing.cone (most_payload t.listing.version t.listing.settings) (seen 0) gate packet →
+            (keys : List Item) →
             keys ≡ packet.items →
             (place : JournalPlace) → place.gate ≡ gate → place.first ≡ length t.listing.events + 1 → (buffer : ℕ) (new : Workplace B) (result : Result (Unit {0}) TakeFault) →
             ReplaysItems bays last.n0 place keys (record { bay = bay_read; counts = t; log = log; room = buffer }) new result →

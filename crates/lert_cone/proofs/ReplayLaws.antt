@@ -10,6 +10,8 @@ use Rattle.lert_spec.specs.{declared.numbers.Numbers.Numbers, declared.report.Re
 use Rattle.lert_cone.specs.{Framed.last_flush, InStep.{IsInStep, IsPartway}, Listing.Listing, JournalPlaces.{ArePlacesIn, Places}, Record.LogPlace, Replay.{IsOnWay, IsPast, ReplayLeavesAt}}
 use Rattle.lert_cone.specs.{Sound.{IsJournal, IsSound, but_last}, Stands.IsWhole, Tally.{Tallied, IsCounted, IsRecounted}}
 use Rattle.lert_cone.proofs.{GateLaws.never_leaves, FlushLaws.last_flush_grows, AppendLaws.whole_of, StepLaws.sound_of}
+use Rattle.lert_spec.specs.{Counts.{weighed, weight_of}, Edges.edge}
+use Rattle.lert_spec.specs.Items.{IsVersion}
 
 -- a flush position is its own last one
 last_flush_again : (s : Numbers) (n : ℕ) → last_flush s (last_flush s n) ≡ last_flush s n
@@ -68,7 +70,9 @@ module _ (leaves : Files → Type 0) (seen : Files) (history : List Packet) (lis
       }
 
   -- and so with other places of the history's records
-  pub on_way_places : (places : Places) → ArePlacesIn history places → places.from ≡ log.places.from → IsOnWay leaves seen history listing rows reports (record log { places = places }) n0
+  pub on_way_places : (places : Places) → ArePlacesIn listing.version history places → places.from ≡ log.places.from → IsOnWay leaves seen history listing rows reports (record log {
+    places = places;
+  }) n0
   on_way_places places placed from_is =
       let step = on_way.in_step in
       record {
@@ -104,10 +108,11 @@ module _ (leaves : Files → Type 0) (seen : Files) (history : List Packet) (lis
   partway_behind keys rest is enough = record { rest = rest; is = is; late = late_at listing.settings n0 (length (events_of (but_last history))) (length listing.events) on_way.n0_least enough }
 
   -- in every image the files are sound for the history, before n0 events are there as behind them
-  pub sound_on_way : IsValid listing.settings → IsAt listing.settings (max n0 (length listing.events)) rows → length listing.events ≤ length (events_of history) → (image : Files) →
+  pub sound_on_way : IsVersion listing.version → IsValid listing.settings → IsAt listing.settings (max n0 (length listing.events)) rows → length listing.events ≤ length (events_of history) →
+      (image : Files) →
       leaves image →
       IsSound listing.settings listing.cone history image
-  sound_on_way valid at within image may =
+  sound_on_way is_known valid at within image may =
       let s = listing.settings in
       let long : length (take (max n0 (length listing.events)) (events_of history)) ≡ max n0 (length listing.events) =
       length-take-le (max n0 (length listing.events)) (events_of history) (omega (arith, within, on_way.n0_most)) in
@@ -119,7 +124,7 @@ module _ (leaves : Files → Type 0) (seen : Files) (history : List Packet) (lis
       } in
       let whole : listing.closed ≡ true → take (max n0 (length listing.events)) (events_of history) ≡ events_of history =
       λ ended. take_all (max n0 (length listing.events)) (events_of history) (omega (arith, on_way.closed_behind ended)) in
-      sound_of s listing.cone history (take (max n0 (length listing.events)) (events_of history)) rows listing.closed on_way.in_step.logged log.gate valid (subst (λ n. IsAt s n rows)
+      sound_of s listing.cone history (take (max n0 (length listing.events)) (events_of history)) rows listing.closed on_way.in_step.logged log.gate is_known valid (subst (λ n. IsAt s n rows)
       (sym long) at) partway whole on_way.in_step.log_of on_way.in_step.begins image
       (on_way.in_step.journal image may) (on_way.in_step.log_there image may) (on_way.in_step.frames image may)
 
@@ -144,14 +149,16 @@ module _ (leaves : Files → Type 0) (seen : Files) (history : List Packet) (lis
       })
 
   -- the journal is that of the history
-  pub journal_on_way : leaves seen → IsJournal listing.settings listing.cone history (seen 0)
+  pub journal_on_way : leaves seen → IsJournal listing.version listing.settings listing.cone history (seen 0)
   journal_on_way read = on_way.in_step.journal seen read
 
   -- nothing at the gate leaves the format
-  pub never_on_way : leaves seen → (done : List Packet) (gate at : ℕ) → IsPast history done listing.events gate → ReplayLeavesAt listing.settings listing.cone n0 listing.closed
-      (length listing.events) (seen 0) gate at → ⊥
-  never_on_way read done gate at past =
-      never_leaves listing.settings listing.cone (seen 0) history done listing.events gate (journal_on_way read) past n0 listing.closed at on_way.n0_most on_way.closed_behind
+  pub never_on_way : leaves seen → (done : List Packet) (w gate at : ℕ) → IsPast listing.version history done listing.events gate →
+      w ≡ weight_of weighed (take (edge listing.settings 0 n0) (events_of history)) + weight_of weighed (drop (edge listing.settings 0 n0) listing.events) →
+      ReplayLeavesAt listing.version listing.settings listing.cone n0 listing.closed
+      (length listing.events) w (seen 0) gate at → ⊥
+  never_on_way read done w gate at past weighs =
+      never_leaves listing.settings listing.cone (seen 0) history done listing.events gate (journal_on_way read) past n0 w listing.closed at on_way.n0_most on_way.closed_behind weighs
 
 -- the rows stand where n0 events are there, or those so far
 rows_there : (t : Tallied) (n0 : ℕ) → IsRecounted t n0 → IsAt t.listing.settings (max n0 (length t.listing.events)) t.rows
@@ -166,7 +173,7 @@ pub sound_recounted : (leaves : Files → Type 0) (seen : Files) (history : List
     IsOnWay leaves seen history t.listing t.rows t.due.reports log n0 → (rest : List Item) → events_of history ≡ t.listing.events ++ rest → (image : Files) → leaves image →
     IsSound t.listing.settings t.listing.cone history image
 sound_recounted leaves seen history t log n0 recounted on_way rest is =
-    sound_on_way leaves seen history t.listing t.rows t.due.reports log n0 on_way recounted.valid (rows_there t n0 recounted)
+    sound_on_way leaves seen history t.listing t.rows t.due.reports log n0 on_way recounted.known recounted.valid (rows_there t n0 recounted)
     (omega (arith, ap (length {A = Item}) is, length-append t.listing.events rest))
 
 -- ---- the end of the way
@@ -174,7 +181,7 @@ sound_recounted leaves seen history t log n0 recounted on_way rest is =
 -- behind all packets a cone with its counts is whole
 pub whole_on_way : (leaves : Files → Type 0) (seen : Files) (history : List Packet) (t : Tallied) (gate : ℕ) (log : LogPlace) (n0 : ℕ) → IsCounted t →
     IsOnWay leaves seen history t.listing t.rows t.due.reports log n0 →
-    IsPast history history t.listing.events gate → n0 ≤ length t.listing.events → leaves seen → IsWhole leaves seen t.listing t.rows t.due.reports gate log history
+    IsPast t.listing.version history history t.listing.events gate → n0 ≤ length t.listing.events → leaves seen → IsWhole leaves seen t.listing t.rows t.due.reports gate log history
 whole_on_way leaves seen history t gate log n0 counted on_way past enough read =
     whole_of leaves seen history t gate log counted
     (in_step_behind leaves seen history t.listing t.rows t.due.reports log n0 on_way [] (sym past.keys ∙ sym (append-nil t.listing.events)) enough)

@@ -3,7 +3,6 @@
 use Rattle.std.proofs.{Common.{◌≡◌, ℕ, ◌+◌, ◌*◌, ◌^◌, ◌<◌, ◌≤◌, Bool, true, false, cond, List, length, Option, Some, None, All, refl, sym, ap, ◌∙◌, subst, arith}, lemmas.Bool.false≢true}
 use Rattle.lert_spec.proofs.ItemLaws.{length-keys_in}
 use Rattle.lert_spec.specs.Counts.{weighed, weight_of}
-use Rattle.lert_cone.specs.History.{written}
 use Rattle.lert_base.specs.Packet.{Packet, events_of}
 use Rattle.lert_bay.specs.{Files.{Files, IfTold, Turns}, Images.KeepsImages}
 use Rattle.lert_gatelog.specs.{declared.fault.LogFault.LogFault, declared.fault.LogFault.TheVariants.{Failed as LogFailed, Malformed as LogMalformed}, Gated.{IsClosed, Log, next_gate}}
@@ -16,12 +15,17 @@ use Rattle.lert_spec.specs.{declared.numbers.Numbers.Numbers, declared.report.Re
 use Rattle.lert_reports.specs.declared.log_point.LogPoint.{LogPoint}
 use Rattle.lert_cone.specs.{declared.refusal.ReplayFault.ReplayFault, declared.refusal.ReplayFault.TheVariants.{Failed, Malformed, Unsound}, declared.state.ConeState.ConeState}
 use Rattle.lert_cone.specs.{declared.state.ConeState.TheVariants.{Running, Finished}, declared.tally.TakeFault.TakeFault}
-use Rattle.lert_cone.specs.{declared.tally.TakeFault.TheVariants.{Failed as TakeFailed, Unsound as TakeUnsound}, History.most_payload, Listing.Listing, Record.LogPlace}
+use Rattle.lert_cone.specs.{declared.tally.TakeFault.TheVariants.{Failed as TakeFailed, Unsound as TakeUnsound}, Listing.Listing, Record.LogPlace}
 use Rattle.lert_cone.specs.{Replay.{IsOnWay, IsPast, IsNext, ReplayLeavesAt}, Replaying.{Replaying, IsReplaying, readied}}
 use Rattle.lert_cone.specs.{Replays.{Replays, IsThere, WhyRefused, LeavesBehind, of_take_fault, of_log_fault}, Room.room_of, Stands.{StandsFor, IsCone, WereSoundAs, is_broken, is_finished}}
 use Rattle.lert_cone.specs.{Tally.{Tallied, IsRecounted}, Wrote.{Anything, IsShutIfTold, LeavesFile}}
 use Rattle.lert_cone.proofs.{FaultLaws.turns_on, GateLaws.is_next, ReplayLaws.{journal_on_way, whole_on_way}, SoundLaws.turns_back}
-use Rattle.lert_cone.proofs.{WeighLaws.{few_light, weigh_units}, WroteLaws.{settled_through, torn_behind}}
+use Rattle.lert_cone.proofs.{WeighLaws.{edge_to, weighs_from}, WroteLaws.{settled_through, torn_behind}}
+use Rattle.lert_journal.specs.Payload.{most_payload}
+use Rattle.lert_cone.proofs.ItemLaws.{items_most}
+use Rattle.lert_spec.specs.Items.{AreOfVersion}
+use Rattle.lert_levels.specs.rows.Checked.{IsWeightOf}
+use Rattle.lert_cone.specs.Room.{IsPointOf}
 
 -- ---- calls that read alone
 
@@ -57,8 +61,8 @@ shut_there {file = file} {gate = gate} settled closed seen is = record {
 -- a packet that stands at the gate behind those that were read is the next one
 pub next_there : (leaves : Files → Type 0) (seen : Files) (history done : List Packet) (listing : Listing) (rows : List (List BinAt)) (reports : List Report) (log : LogPlace) (n0 gate : ℕ)
     (packet : Packet) →
-    IsOnWay leaves seen history listing rows reports log n0 → leaves seen → IsPast history done listing.events gate →
-    HoldsPacket written listing.settings listing.cone (most_payload listing.settings)
+    IsOnWay leaves seen history listing rows reports log n0 → leaves seen → IsPast listing.version history done listing.events gate →
+    HoldsPacket listing.version listing.settings listing.cone (most_payload listing.version listing.settings)
     (seen 0) gate packet → IsNext history done packet
 next_there leaves seen history done listing rows reports log n0 gate packet on_way read past holds =
     is_next listing.settings listing.cone (seen 0) history done listing.events gate (journal_on_way leaves seen history listing rows reports log n0 on_way read) past packet holds
@@ -105,14 +109,15 @@ only_failed (LogMalformed at) never = absurd (never at refl)
 -- ---- a cone at its journal's end
 
 -- what it is seen as
-abbrev pub seen_as : {B : Type 0} → B → B → Tallied → ℕ → Option ReplayFault → ℕ → LogPlace → LogPoint → Replaying B
-seen_as bay made tally events stopped gate log last = record {
+abbrev pub seen_as : {B : Type 0} → B → B → Tallied → ℕ → ℕ → Option ReplayFault → ℕ → LogPlace → LogPoint → Replaying B
+seen_as bay made tally events weight stopped gate log last = record {
   bay = bay;
   made = made;
   listing = tally.listing;
   rows = tally.rows;
   reports = tally.due.reports;
   events = events;
+  weight = weight;
   stopped = stopped;
   gate = gate;
   log = log;
@@ -138,13 +143,15 @@ stopped_there stopped fault is none = absurd (some_or_none fault (sym is ∙ non
 module _ {B : Type 0} {files : B → Option Files} {leaves : B → Files → Type 0} {faults mark : B → ℕ} where
   -- one that refused a record
   pub stopped_cone : {old new : Replaying B} {tally after : Tallied} {journal journal_after : Log} {room room_after keys_room keys_room_after : ℕ} {fault : ReplayFault}
-      → new.stopped ≡ Some fault → new.listing.settings ≡ old.listing.settings → new.events ≡ old.events → new.made ≡ old.made
+      → new.stopped ≡ Some fault → new.listing.settings ≡ old.listing.settings → new.listing.version ≡ old.listing.version → new.last ≡ old.last → new.events ≡ old.events → new.made ≡ old.made
       → journal_after.file ≡ journal.file → journal_after.most ≡ journal.most → room_after ≡ room → keys_room_after ≡ keys_room → faults old.bay ≤ faults new.bay
       → Turns Anything (files old.bay) (files new.bay) → mark new.bay ≡ mark old.bay
       → IsReplaying files leaves faults mark old tally journal room keys_room → IsReplaying files leaves faults mark new after journal_after room_after keys_room_after
-  stopped_cone {old = old} {new = new} {fault = fault} stopped same events_are made_is file_is most_is room_is keys_room_is falls turns marked cone = record {
+  stopped_cone {old = old} {new = new} {fault = fault} stopped same version_is last_is events_are made_is file_is most_is room_is keys_room_is falls turns marked cone = record {
     file = file_is ∙ cone.file;
-    most = most_is ∙ cone.most ∙ ap most_payload (sym same);
+    most = most_is ∙ cone.most ∙ (λ i. most_payload (sym version_is i) (sym same i));
+    version = version_is ∙ cone.version ∙ ap (λ (p : LogPoint). p.version) (sym last_is);
+    point = subst (λ (p : LogPoint). IsPointOf new.listing.settings p) (sym last_is) (subst (λ (s : Numbers). IsPointOf s old.last) (sym same) cone.point);
     roomy = room_is ∙ cone.roomy ∙ ap room_of (sym same);
     keys_roomy = keys_room_is ∙ cone.keys_roomy ∙ ap (λ (s : Numbers). 4 * s.packet) (sym same);
     within = subst (λ (s : Numbers). new.events ≤ capacity s) (sym same) (omega (arith, events_are, cone.within));
@@ -160,7 +167,7 @@ module _ {B : Type 0} {files : B → Option Files} {leaves : B → Files → Typ
       → cone.stopped ≡ None → state ≡ cond cone.last.closed Finished Running → cone.last.n0 ≤ length cone.listing.events → cone.gate ≡ end → journal_after ≡ record {
         file = 0;
         gate = end;
-        most = most_payload cone.listing.settings;
+        most = most_payload cone.listing.version cone.listing.settings;
       }
       → IsShutIfTold (files cone.bay) (leaves cone.bay) 0 end → tally.listing ≡ cone.listing → IsReplaying files leaves faults mark cone tally journal room keys_room
       → IsCone files leaves faults mark (record (readied cone) { state = state; gate = journal_after.gate }) tally journal_after room keys_room
@@ -173,7 +180,12 @@ module _ {B : Type 0} {files : B → Option Files} {leaves : B → Files → Typ
         roomy = replaying.roomy;
         keys_roomy = replaying.keys_roomy;
         within = replaying.within;
-        light = few_light cone.listing.settings cone.events replaying.within;
+        weighs = let light = subst (λ v. AreOfVersion v cone.listing.events) replaying.version (subst (λ (l : Listing). AreOfVersion l.version l.events) listing_is was.recounted.light) in
+            subst (λ n. IsWeightOf cone.last.version n cone.weight) was.counted
+            (subst (λ w. IsWeightOf cone.last.version (length cone.listing.events) w) (sym was.weight_is)
+            (weighs_from cone.listing.settings cone.last cone.listing.events (omega (arith, enough, edge_to cone.listing.settings cone.last.n0)) light replaying.point.weighs));
+        passed = omega (arith, enough, was.counted);
+        version = replaying.version;
         valid = replaying.valid;
         never_falls = replaying.never_falls;
         marked = replaying.marked;
@@ -181,7 +193,7 @@ module _ {B : Type 0} {files : B → Option Files} {leaves : B → Files → Typ
         by_bay = λ never. absurd (false≢true (sym whole ∙ ap is_broken never));
         none_over = λ _. refl;
         counted = λ _. was.counted;
-        weight_is = λ _. subst (λ (l : Listing). weight_of weighed l.events ≡ length l.events) listing_is (weigh_units tally.listing.events was.recounted.light) ∙ was.counted;
+        weight_is = λ _. was.weight_is;
         tallied = λ _. was.recounted.behind (subst (λ (l : Listing). cone.last.n0 ≤ length l.events) (sym listing_is) enough);
         closed = λ _. was.closed ∙ sym (ap is_finished state_is ∙ ends_finished cone.last.closed);
         near = λ _. omega (arith, was.near, gate_is, ap (λ (j : Log). j.gate) journal_is);
@@ -191,15 +203,15 @@ module _ {B : Type 0} {files : B → Option Files} {leaves : B → Files → Typ
       }
 
 module _ {B : Type 0} {files : B → Option Files} {leaves : B → Files → Type 0} {faults : B → ℕ} where
-  pub ready_stands : (bay made : B) (tally : Tallied) (events gate gate_after : ℕ) (log : LogPlace) (last : LogPoint) (stopped : Option ReplayFault) (state : ConeState)
+  pub ready_stands : (bay made : B) (tally : Tallied) (events weight gate gate_after : ℕ) (log : LogPlace) (last : LogPoint) (stopped : Option ReplayFault) (state : ConeState)
       (history : List Packet)
       → state ≡ cond last.closed Finished Running → gate_after ≡ gate → IsRecounted tally last.n0 → last.n0 ≤ length tally.listing.events → IsValid tally.listing.settings →
       events ≤ capacity tally.listing.settings
-      → All (λ packet. 0 < length packet.items) history → length (events_of history) ≡ events → weight_of weighed (events_of history) ≡ events → IfTold (files bay) (leaves bay)
+      → All (λ packet. 0 < length packet.items) history → length (events_of history) ≡ events → weight_of weighed (events_of history) ≡ weight → IfTold (files bay) (leaves bay)
       → (WereSoundAs files tally.listing.settings tally.listing.cone made
-      → IfTold (files bay) (λ _. Replays files leaves (seen_as bay made tally events stopped gate log last) history history))
-      → StandsFor files leaves faults (record (readied (seen_as bay made tally events stopped gate log last)) { state = state; gate = gate_after }) history
-  ready_stands bay made tally events gate gate_after log last stopped state history state_is gate_is recounted enough valid within some counted weighs read replays =
+      → IfTold (files bay) (λ _. Replays files leaves (seen_as bay made tally events weight stopped gate log last) history history))
+      → StandsFor files leaves faults (record (readied (seen_as bay made tally events weight stopped gate log last)) { state = state; gate = gate_after }) history
+  ready_stands bay made tally events weight gate gate_after log last stopped state history state_is gate_is recounted enough valid within some counted weighs read replays =
       let whole : is_broken state ≡ false = ap is_broken state_is ∙ ends_whole last.closed in
       record {
         some = some;
@@ -210,7 +222,7 @@ module _ {B : Type 0} {files : B → Option Files} {leaves : B → Files → Typ
         whole = λ _ sound seen told.
             let all = replays sound seen told in
             whole_on_way (leaves bay) seen history tally gate_after log last.n0 (recounted.behind enough) (all.on_way seen told)
-            (subst (λ g. IsPast history history tally.listing.events g) (sym gate_is) all.past) enough (read seen told);
+            (subst (λ g. IsPast tally.listing.version history history tally.listing.events g) (sym gate_is) all.past) enough (read seen told);
         broken = λ never. absurd (false≢true (sym whole ∙ never));
         none_over = λ _. refl;
         by_bay = λ never. absurd (false≢true (sym whole ∙ ap is_broken never));
@@ -228,11 +240,20 @@ settled_then left settled seen told =
     settled_through left back.0 back.1 (settled back.0 back.1) seen told
 
 -- the gate behind a packet lies as far on as its items need
-pub near_then : (gate gate_after events events_after : ℕ) (packet : Packet) → gate ≤ 2 ^ 62 → gate_after ≡ next_gate gate (payload_of written packet) → 0 < length packet.items →
-    events_after ≡ events + length packet.items → gate_after ≤ 2 ^ 62 + 21 * events_after
-near_then gate gate_after events events_after packet reach is some events_is = omega (arith, reach, is, length_payload written packet, length-keys_in packet.items, some, events_is)
+pub near_then : (version gate gate_after events events_after : ℕ) (packet : Packet) → gate ≤ 2 ^ 62 → gate_after ≡ next_gate gate (payload_of version packet) → 0 < length packet.items →
+    events_after ≡ events + length packet.items → gate_after ≤ 2 ^ 62 + 22 * events_after
+near_then version gate gate_after events events_after packet reach is some events_is = omega (
+  arith,
+  reach,
+  is,
+  length_payload version packet,
+  items_most version (length packet.items),
+  length-keys_in packet.items,
+  some,
+  events_is,
+)
 
 -- a place at which the format is left, said of the listing's state
-pub leaves_listing : (s : Numbers) (cone n0 n gate at : ℕ) (closed other : Bool) (bytes : List ℕ) → closed ≡ other → ReplayLeavesAt s cone n0 other n bytes gate at →
-    ReplayLeavesAt s cone n0 closed n bytes gate at
-leaves_listing s cone n0 n gate at closed other bytes same leaves = subst (λ (b : Bool). ReplayLeavesAt s cone n0 b n bytes gate at) (sym same) leaves
+pub leaves_listing : {version : ℕ} (s : Numbers) (cone n0 n w gate at : ℕ) (closed other : Bool) (bytes : List ℕ) → closed ≡ other → ReplayLeavesAt version s cone n0 other n w bytes gate at →
+    ReplayLeavesAt version s cone n0 closed n w bytes gate at
+leaves_listing {version} s cone n0 n w gate at closed other bytes same leaves = subst (λ (b : Bool). ReplayLeavesAt version s cone n0 b n w bytes gate at) (sym same) leaves

@@ -2,9 +2,9 @@
 use Rattle.std.proofs.{Common.{◌≡◌, ◌≢◌, ℕ, ◌+◌, ◌*◌, ◌≤◌, suc, cond, eqb, not, List, [], ◌∷◌, length, filter, refl, ap, sym, ◌∙◌, arith, inl, inr, sum_by}, Math.Nat.{mul-suc, mul-le-mul_left}}
 use Rattle.std.proofs.{lemmas.Bool.{cases_lt, cases_eq, eq-eqb, ne_eqb}, lemmas.List.Sums.{sum_by-cons}}
 use Rattle.lert_spec.specs.{declared.item.Item.Item, declared.numbers.Numbers.Numbers, declared.report.Report.Report, Counts.{weighed, weight_for, weight_in, weight_of}, Edges.capacity}
-use Rattle.lert_spec.specs.{Items.AreOfVersion, Limits.IsValid, Look.{look_of, closing_of}, Timely.{IsReportedOnTimeIn, times_listed}}
-use Rattle.lert_cone.proofs.WeighLaws.{weigh_units}
+use Rattle.lert_spec.specs.{Limits.IsValid, Look.{look_of, closing_of}, Timely.{IsReportedOnTimeIn, times_listed}}
 use Rattle.lert_spec.proofs.{CountLaws.count-whole, TimeBound.{timely_closing, timely_so_far}}
+use Rattle.lert_spec.specs.Edges.{weight_room}
 
 -- what a key weighs among items
 abbrev pub weight_under : ℕ → List Item → ℕ
@@ -71,10 +71,6 @@ under-others key other (event ∷ events) differs =
       )
     ]
 
--- what weighs 1 is within the capacity by its number
-pub few_weigh : (s : Numbers) (events : List Item) → length events ≤ capacity s → AreOfVersion 1 events → weight_of weighed events ≤ capacity s
-few_weigh s events fits light = omega (arith, fits, weigh_units events light)
-
 listed_same : (key : ℕ) (report : Report) (reports : List Report) → report.key ≡ key → times_listed key (report ∷ reports) ≡ 1 + times_listed key reports
 listed_same key report reports same =
     sum_by-cons (λ (r : Report). cond {A = ℕ} (eqb r.key key) 1 0) report reports
@@ -113,7 +109,7 @@ few_heavy threshold events (report ∷ reports) heavy =
     }) in
     omega (arith, weight-others key events, mul-suc threshold (length reports))
 
-module _ (s : Numbers) (events : List Item) (valid : IsValid s) (fits : length events ≤ capacity s) (light : weight_of weighed events ≤ capacity s) where
+module _ (s : Numbers) (events : List Item) (valid : IsValid s) (fits : length events ≤ capacity s) (weighs : weight_of weighed events ≤ weight_room s) where
   in_time : (reports : List Report) (key : ℕ) → IsReportedOnTimeIn weighed s.threshold s.bins events reports key → s.threshold ≤ weight_in weighed key events 0 (length events) →
       (times_listed key reports ≤ 1) × (s.threshold * times_listed key reports ≤ weight_under key events)
   in_time reports key reported heavy = (

@@ -9,7 +9,6 @@ use Rattle.lert_spec.proofs.{EdgeLaws.edge_descends_to, LookLaws.slice_range-app
 use Rattle.lert_levels.specs.{declared.rows.bin_at.BinAt.BinAt, rows.Ranges.young_bins, rows.Rows.{row_of, IsAt, HoldsBins, tallied_in}}
 use Rattle.lert_levels.proofs.{rows.RangeLaws.{IsCut, cuts_are, edge_within}, rows.RowLaws.All-ranges}
 use Rattle.lert_cone.specs.{Framed.HoldsSome, Tally.Tallied}
-use Rattle.lert_cone.specs.History.{written}
 
 module _ (s : Numbers) (valid : IsValid s) where
   -- the bins of the older levels end where level 0 begins
@@ -24,31 +23,32 @@ module _ (s : Numbers) (valid : IsValid s) where
       λ k d inside. (let cut = All-ranges (IsCut wide high) (row_of rows level) cuts k d inside in omega (arith, cut.end, below))
 
   -- so further events behind those of the older levels change nothing, and neither does it to leave them out
-  some_more : (n : ℕ) (rows : List (List BinAt)) (events others : List Item) (file : List ℕ) → IsAt s n rows → length events ≡ edge s 0 n → HoldsBins s written events rows file →
-      HoldsBins s written (events ++ others) rows file
-  some_more n rows events others file at len holds level from within k d below =
+  some_more : (version : ℕ) (n : ℕ) (rows : List (List BinAt)) (events others : List Item) (file : List ℕ) → IsAt s n rows → length events ≡ edge s 0 n → HoldsBins s version events rows file →
+      HoldsBins s version (events ++ others) rows file
+  some_more version n rows events others file at len holds level from within k d below =
       let end = bins_under n rows at level from within k d below in
       let bin = get_or (row_of rows level) k d in
       let same : tallied_in s events bin ≡ tallied_in s (events ++ others) bin = ap (tally weighed s) (sym (slice_range-append events others bin.from bin.to (omega (arith, end, len)))) in
-      subst (HoldsFrame s written level bin.frame file) same (holds level from within k d below)
+      subst (HoldsFrame s version level bin.frame file) same (holds level from within k d below)
 
-  some_fewer : (n : ℕ) (rows : List (List BinAt)) (events : List Item) (file : List ℕ) → IsAt s n rows → edge s 0 n ≤ length events → AreOfVersion written events → HoldsBins s written events
-      rows file → HoldsSome s n rows file
-  some_fewer n rows events file at long light holds =
+  some_fewer : {version : ℕ} (n : ℕ) (rows : List (List BinAt)) (events : List Item) (file : List ℕ) → IsAt s n rows → edge s 0 n ≤ length events → AreOfVersion version events →
+      HoldsBins s version events
+      rows file → HoldsSome version s n rows file
+  some_fewer {version} n rows events file at long light holds =
       let e = edge s 0 n in
       let front = take e events in
       let len : length front ≡ e = omega (arith, length-take e events, long) in
       record {
         events = front;
         len = len;
-        light = All-take (λ (i : Item). (1 ≤ i.weight) × (i.weight ≤ most_weight written)) e events light;
+        light = All-take (λ (i : Item). (1 ≤ i.weight) × (i.weight ≤ most_weight version)) e events light;
         holds = λ level from within k d below. (
             let end = bins_under n rows at level from within k d below in
             let bin = get_or (row_of rows level) k d in
             let same : tallied_in s events bin ≡ tallied_in s front bin =
             ap (λ all. tally weighed s (slice_range all bin.from bin.to)) (sym (take-append-drop e events))
             ∙ ap (tally weighed s) (slice_range-append front (drop e events) bin.from bin.to (omega (arith, end, len))) in
-            subst (HoldsFrame s written level bin.frame file) same (holds level from within k d below));
+            subst (HoldsFrame s version level bin.frame file) same (holds level from within k d below));
       }
 
   -- the events that the frames hold, and behind them the newest of others
@@ -72,7 +72,7 @@ module _ (s : Numbers) (valid : IsValid s) where
         ∙ ap (λ (f : ℕ → Bin). filter (λ (bin : Bin). ltb bin.from bin.to) (map f (range_with_len 0 (suc (length all / span s 0))))) (λ i k. bin_same k i)
 
   -- the next item, where the frames hold the bins of some events
-  module _ (events : List Item) (item : Item) (rows : List (List BinAt)) (file : List ℕ) (at : IsAt s (length events) rows) (some : HoldsSome s (length events) rows file) where
+  module _ {version : ℕ} (events : List Item) (item : Item) (rows : List (List BinAt)) (file : List ℕ) (at : IsAt s (length events) rows) (some : HoldsSome version s (length events) rows file) where
     abbrev pub with_key : List Item
     with_key = some.events ++ drop (edge s 0 (length events)) (events ++ item ∷ [])
 
@@ -80,27 +80,28 @@ module _ (s : Numbers) (valid : IsValid s) where
     with_key_len = shadow_len (events ++ item ∷ []) some.events (edge s 0 (length events)) some.len (omega (arith, length-append events (item ∷ []), edge_within s 0 (length events))) ∙ omega
         (arith, length-append events (item ∷ []))
 
-    pub with_key_light : AreOfVersion written (events ++ item ∷ []) → AreOfVersion written with_key
+    pub with_key_light : AreOfVersion version (events ++ item ∷ []) → AreOfVersion version with_key
     with_key_light light =
-        let P : Item → Type 0 = λ i. (1 ≤ i.weight) × (i.weight ≤ most_weight written) in
+        let P : Item → Type 0 = λ i. (1 ≤ i.weight) × (i.weight ≤ most_weight version) in
         All-append P some.events (drop (edge s 0 (length events)) (events ++ item ∷ [])) some.light (All-drop P (edge s 0 (length events)) (events ++ item ∷ []) light)
 
     pub with_key_young : young_bins s with_key (edge s 0 (length events)) ≡ young_bins s (events ++ item ∷ []) (edge s 0 (length events))
     with_key_young = shadow_young (events ++ item ∷ []) some.events (edge s 0 (length events)) some.len (omega (arith, length-append events (item ∷ []), edge_within s 0 (length events)))
 
-    pub with_key_holds : HoldsBins s written with_key rows file
-    with_key_holds = some_more (length events) rows some.events (drop (edge s 0 (length events)) (events ++ item ∷ [])) file at some.len some.holds
+    pub with_key_holds : HoldsBins s version with_key rows file
+    with_key_holds = some_more version (length events) rows some.events (drop (edge s 0 (length events)) (events ++ item ∷ [])) file at some.len some.holds
 
-    pub with_key_some : (new_rows : List (List BinAt)) (new : List ℕ) → IsAt s (suc (length events)) new_rows → AreOfVersion written (events ++ item ∷ []) → HoldsBins s written with_key new_rows new →
-        HoldsSome s (suc (length events)) new_rows new
+    pub with_key_some : (new_rows : List (List BinAt)) (new : List ℕ) → IsAt s (suc (length events)) new_rows → AreOfVersion version (events ++ item ∷ []) → HoldsBins s version with_key new_rows new →
+        HoldsSome version s (suc (length events)) new_rows new
     with_key_some new_rows new at_new light holds = some_fewer (suc (length events)) new_rows with_key new at_new (omega (arith, with_key_len, edge_within s 0 (suc (length events))))
         (with_key_light light) holds
 
 -- the same rows with other words for how many events there are
-pub some_counted : (before after : Tallied) (n : ℕ) (file : List ℕ) → after.listing.settings ≡ before.listing.settings → after.rows ≡ before.rows →
+pub some_counted : (before after : Tallied) (n : ℕ) (file : List ℕ) → after.listing.settings ≡ before.listing.settings → after.listing.version ≡ before.listing.version → after.rows ≡ before.rows →
     n ≡ length after.listing.events →
-    HoldsSome before.listing.settings n before.rows file → HoldsSome after.listing.settings (length after.listing.events) after.rows file
-some_counted before after n file settings_are rows_are n_is some =
-    subst (λ (s : Numbers). HoldsSome s (length after.listing.events) after.rows file) (sym settings_are)
-    (subst (λ (rows : List (List BinAt)). HoldsSome before.listing.settings (length after.listing.events) rows file) (sym rows_are)
-    (subst (λ k. HoldsSome before.listing.settings k before.rows file) n_is some))
+    HoldsSome before.listing.version before.listing.settings n before.rows file → HoldsSome after.listing.version after.listing.settings (length after.listing.events) after.rows file
+some_counted before after n file settings_are version_is rows_are n_is some =
+    subst (λ (s : Numbers). HoldsSome after.listing.version s (length after.listing.events) after.rows file) (sym settings_are)
+    (subst (λ v. HoldsSome v before.listing.settings (length after.listing.events) after.rows file) (sym version_is)
+    (subst (λ (rows : List (List BinAt)). HoldsSome before.listing.version before.listing.settings (length after.listing.events) rows file) (sym rows_are)
+    (subst (λ k. HoldsSome before.listing.version before.listing.settings k before.rows file) n_is some)))

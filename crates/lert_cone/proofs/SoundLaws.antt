@@ -5,17 +5,20 @@ use Rattle.std.proofs.lemmas.List.Elements.{All-head, All-append, All-tail}
 use Rattle.std.proofs.Common.{◌≡◌, ℕ, ◌+◌, ◌<◌, ◌≤◌, List, [], ◌∷◌, ◌++◌, length, take, get_or, Option, Some, None, All, refl, sym, ap, ◌∙◌, subst, arith, length-append, append-nil}
 use Rattle.std.proofs.{Math.Seq.get_or-append_seam, lemmas.Grind.flat_map-append, lemmas.List.{take-take, take_at, take_all}, lemmas.List.Elements.All-nil, lemmas.Option.{none-some, same_Some}}
 use Rattle.lert_spec.proofs.ItemLaws.{length-keys_in}
-use Rattle.lert_cone.specs.History.{written}
 use Rattle.lert_base.specs.Packet.{keys_of, Packet, events_of}
 use Rattle.lert_bay.specs.{Files.{Files, Turns}, Settled.{part, Keeps}}
 use Rattle.lert_gatelog.specs.{Gated.{IsClosed, next_gate}, Kept.{InEach, KeepsOthers, IsWhollySettled, OthersStay}}
 use Rattle.lert_gatelog.proofs.GatedLaws.{byte_of_part, part_within}
 use Rattle.lert_journal.specs.{Header.{magic, header}, Payload.{payload_of, IsJournaled}}
 use Rattle.lert_journal.proofs.PayloadLaws.{length_payload}
+use Rattle.lert_journal.specs.Payload.{item_len}
+use Rattle.lert_cone.proofs.ItemLaws.{items_add}
+use Rattle.lert_cone.specs.History.{most_version}
 use Rattle.lert_spec.specs.{declared.numbers.Numbers.Numbers, Edges.key_limit}
 use Rattle.lert_cone.specs.{History.end_of, InStep.AreNew, Sound.IsJournal}
 use Rattle.lert_reports.specs.Log.{HasLog, log_header}
 use Rattle.lert_reports.proofs.LogLaws.{records_none}
+use Rattle.std.proofs.Common.{◌*◌}
 
 -- ---- told files
 
@@ -37,20 +40,26 @@ pub counted_more : (history : List Packet) (packet : Packet) → length (events_
 counted_more history packet = ap length (events_more history packet) ∙ length-append (events_of history) packet.items
 
 -- a packet that a journal may hold has a key
-pub some_keys_of : (s : Numbers) (cone : ℕ) (packet : Packet) → IsJournaled written s cone packet → 0 < length packet.items
-some_keys_of s cone packet may = omega (arith, may.some, length-keys_in packet.items)
+pub some_keys_of : {version : ℕ} (s : Numbers) (cone : ℕ) (packet : Packet) → IsJournaled version s cone packet → 0 < length packet.items
+some_keys_of {version} s cone packet may = omega (arith, may.some, length-keys_in packet.items)
 
 -- the items of packets that a journal may hold weigh what its version allows
-pub history_light : (s : Numbers) (cone : ℕ) (history : List Packet) → All (IsJournaled written s cone) history → AreOfVersion written (events_of history)
-history_light s cone [] journaled = All-nil (λ (item : Item). (1 ≤ item.weight) × (item.weight ≤ most_weight written))
-history_light s cone (packet ∷ history) journaled =
-    All-append (λ (item : Item). (1 ≤ item.weight) × (item.weight ≤ most_weight written)) packet.items (events_of history)
-    (All-head (IsJournaled written s cone) packet history journaled).weighed
-    (history_light s cone history (All-tail (IsJournaled written s cone) packet history journaled))
+pub history_light : {version : ℕ} (s : Numbers) (cone : ℕ) (history : List Packet) → All (IsJournaled version s cone) history → AreOfVersion version (events_of history)
+history_light {version} s cone [] journaled = All-nil (λ (item : Item). (1 ≤ item.weight) × (item.weight ≤ most_weight version))
+history_light {version} s cone (packet ∷ history) journaled =
+    All-append (λ (item : Item). (1 ≤ item.weight) × (item.weight ≤ most_weight version)) packet.items (events_of history)
+    (All-head (IsJournaled version s cone) packet history journaled).weighed
+    (history_light s cone history (All-tail (IsJournaled version s cone) packet history journaled))
 
 -- the gate behind one packet more
-pub end_more : (history : List Packet) (packet : Packet) → next_gate (end_of history) (payload_of written packet) ≡ end_of (history ++ packet ∷ [])
-end_more history packet = omega (arith, length_payload written packet, length-keys_in packet.items, counted_more history packet, length-append history (packet ∷ []))
+pub end_more : (version : ℕ) (history : List Packet) (packet : Packet) → next_gate (end_of version history) (payload_of version packet) ≡ end_of version (history ++ packet ∷ [])
+end_more version history packet = omega (
+  arith,
+  length_payload version packet,
+  length-keys_in packet.items,
+  ap (λ n. item_len version * n) (counted_more history packet) ∙ items_add version (length (events_of history)) (length packet.items),
+  length-append history (packet ∷ []),
+)
 
 -- ---- the headers
 
@@ -85,31 +94,32 @@ log_none s cone = record {
   rules = records_none s cone;
 }
 
-module _ (s : Numbers) (cone : ℕ) (leaves_one leaves since : Files → Type 0) (seen_one seen : Files) (long : length (header (magic written) s cone) ≡ 32)
-    (begun : IsBegun (header (magic written) s cone) leaves_one leaves since seen_one seen) where
-  first_text : seen_one 0 ≡ header (magic written) s cone ++ 0 ∷ []
+module _ (s : Numbers) (cone : ℕ) (leaves_one leaves since : Files → Type 0) (seen_one seen : Files) (long : length (header (magic most_version) s cone) ≡ 32)
+    (begun : IsBegun (header (magic most_version) s cone) leaves_one leaves since seen_one seen) where
+  first_text : seen_one 0 ≡ header (magic most_version) s cone ++ 0 ∷ []
   first_text = begun.journal seen_one begun.first_read
 
   first_long : length (seen_one 0) ≡ 33
-  first_long = ap length first_text ∙ omega (arith, length-append (header (magic written) s cone) (0 ∷ []), long)
+  first_long = ap length first_text ∙ omega (arith, length-append (header (magic most_version) s cone) (0 ∷ []), long)
 
   keeps : Keeps leaves seen_one 0 0 33
   keeps image may = subst (λ (to : ℕ). part (image 0) 0 to ≡ part (seen_one 0) 0 to) first_long
       (begun.others 0 0 (length (seen_one 0)) (λ same. absurd (omega (arith, same))) begun.journal_settled image (begun.now image may))
 
-  front : (image : Files) → leaves image → part (image 0) 0 33 ≡ header (magic written) s cone ++ 0 ∷ []
+  front : (image : Files) → leaves image → part (image 0) 0 33 ≡ header (magic most_version) s cone ++ 0 ∷ []
   front image may = keeps image may ∙ (take_all 33 (seen_one 0) (omega (arith, first_long)) ∙ first_text)
 
-  begun_journal : InEach leaves 0 (IsJournal s cone [])
+  begun_journal : InEach leaves 0 (IsJournal most_version s cone [])
   begun_journal image may = record {
-    headed = (begins (header (magic written) s cone) (image 0) long (front image may)).0;
-    records = record { records = refl; closed = (begins (header (magic written) s cone) (image 0) long (front image may)).1 };
-    journaled = All-nil (IsJournaled written s cone);
+    headed = (begins (header (magic most_version) s cone) (image 0) long (front image may)).0;
+    records = record { records = refl; closed = (begins (header (magic most_version) s cone) (image 0) long (front image may)).1 };
+    journaled = All-nil (IsJournaled most_version s cone);
     fit = All-nil (λ packet. All (λ key. key < key_limit s) (keys_of packet));
     within = omega arith;
+    light = omega arith;
   }
 
-  pub begun_new : AreNew s cone leaves seen
+  pub begun_new : AreNew most_version s cone leaves seen
   begun_new = record {
     journal = begun_journal;
     log_there = λ image may. subst (λ (bytes : List ℕ). HasLog s cone bytes [] 8) (sym (begun.log image may)) (log_none s cone);

@@ -20,10 +20,11 @@ use Rattle.lert_levels.specs.{declared.rows.bin_at.BinAt.BinAt, Flushed.InNamed,
 use Rattle.lert_levels.proofs.rows.RangeLaws.{bins-ranges}
 use Rattle.lert_reports.specs.{Log.{HasLog, AreRecords, listed_in, last_n0, last_directory, is_closed, log_header, most_record}, LogText.{LogRecord, log_payload_of}}
 use Rattle.lert_spec.specs.{declared.numbers.Numbers.Numbers, Bins.{Bin, bins_of, tally}, Edges.span, Limits.IsValid, Look.{look_of, closing_of}}
-use Rattle.lert_cone.specs.{Framed.{last_flush, flushed}, History.{most_payload, end_of}, InStep.IsPartway, Logged.IsLogOf, JournalPlaces.{NamesRecord, last_place}}
+use Rattle.lert_cone.specs.{Framed.{last_flush, flushed}, History.{end_of}, InStep.IsPartway, Logged.IsLogOf, JournalPlaces.{NamesRecord, last_place}}
 use Rattle.lert_cone.specs.Sound.{IsJournal, IsSound, IsSoundAs, HoldFrames, HoldsDirectory, but_last}
 use Rattle.lert_cone.proofs.{FramedLaws.flushed_bins, FlushLaws.last_flush_within, WroteLaws.torn_behind}
-use Rattle.lert_cone.specs.History.{written}
+use Rattle.lert_journal.specs.Payload.{most_payload}
+use Rattle.lert_spec.specs.Items.{IsVersion}
 
 -- ---- what stays
 
@@ -31,17 +32,18 @@ use Rattle.lert_cone.specs.History.{written}
 pub first_same : (image read : List ℕ) (all few : ℕ) → few ≤ all → part image 0 all ≡ part read 0 all → part image 0 few ≡ part read 0 few
 first_same image read all few less same = sym (take-take few all image less) ∙ ap (take few) same ∙ take-take few all read less
 
-pub journal_since : (since : Files → Type 0) (seen : Files) (s : Numbers) (cone : ℕ) (history : List Packet) → IsJournal s cone history (seen 0) →
+pub journal_since : {version : ℕ} (since : Files → Type 0) (seen : Files) (s : Numbers) (cone : ℕ) (history : List Packet) → IsJournal version s cone history (seen 0) →
     Keeps since seen 0 0 (length (seen 0)) →
-    InEach since 0 (IsJournal s cone history)
-journal_since since seen s cone history journal keeps image may = record {
+    InEach since 0 (IsJournal version s cone history)
+journal_since {version} since seen s cone history journal keeps image may = record {
   headed = first_same (image 0) (seen 0) (length (seen 0)) 32 (omega (arith, journal.records.closed.within)) (keeps image may) ∙ journal.headed;
-  records = gated_behind (most_payload s) 32 (map (payload_of written) history) (end_of history) (length (image 0)) (seen 0) (image 0) journal.records
-      (torn_behind (seen 0) (image 0) (end_of history + 1)
+  records = gated_behind (most_payload version s) 32 (map (payload_of version) history) (end_of version history) (length (image 0)) (seen 0) (image 0) journal.records
+      (torn_behind (seen 0) (image 0) (end_of version history + 1)
       (keeps image may));
   journaled = journal.journaled;
   fit = journal.fit;
   within = journal.within;
+  light = journal.light;
 }
 
 -- a log's first gate stands before its closed one
@@ -58,28 +60,29 @@ log_since since seen s cone logged gate log keeps image may = record {
 }
 
 -- the text of a bin's counts fits its place
-text_fits : (s : Numbers) (events : List Item) (level : ℕ) (bin : BinAt) → IsValid s → AreOfVersion written events → level ≤ s.levels → bin.to - bin.from ≤ span s level →
-    length (frame_text s level (tallied_in s events bin)) ≤ frame_len s written level
-text_fits s events level bin valid light last narrow =
+text_fits : (version : ℕ) (s : Numbers) (events : List Item) (level : ℕ) (bin : BinAt) → IsValid s → AreOfVersion version events → level ≤ s.levels → bin.to - bin.from ≤ span s level →
+    length (frame_text s level (tallied_in s events bin)) ≤ frame_len s version level
+text_fits version s events level bin valid light last narrow =
     let items = slice_range events bin.from bin.to in
-    text_within s written level (tally weighed s items) valid last (tally_table weighed s items (weigh_slice events bin.from bin.to (version_weigh written events light))) (omega (
+    text_within s version level (tally weighed s items) valid last (tally_table weighed s items (weigh_slice events bin.from bin.to (version_weigh version events light))) (omega (
       arith,
-      costs_number s written items (version_slice written events bin.from bin.to light),
+      costs_number s version items (version_slice version events bin.from bin.to light),
       length-take (bin.to - bin.from) (drop bin.from events),
       narrow,
     ))
 
 -- the frames that rows name hold their bins in each image since, where what is settled in them stays so
-pub frames_since : (leaves since : Files → Type 0) (seen : Files) (s : Numbers) (events : List Item) (rows : List (List BinAt)) → IsValid s → AreRows s rows → AreOfVersion written events →
+pub frames_since : {version : ℕ} (leaves since : Files → Type 0) (seen : Files) (s : Numbers) (events : List Item) (rows : List (List BinAt)) → IsValid s → AreRows s rows →
+    AreOfVersion version events →
     leaves seen →
-    InEach leaves 2 (HoldsBins s written events rows) →
-    ((from to : ℕ) → InNamed s written rows from to → IsSettled leaves seen 2 from to → Keeps since seen 2 from to) → InEach since 2 (HoldsBins s written events rows)
-frames_since leaves since seen s events rows valid are light read holds keeps image may level first last k d below =
+    InEach leaves 2 (HoldsBins s version events rows) →
+    ((from to : ℕ) → InNamed s version rows from to → IsSettled leaves seen 2 from to → Keeps since seen 2 from to) → InEach since 2 (HoldsBins s version events rows)
+frames_since {version} leaves since seen s events rows valid are light read holds keeps image may level first last k d below =
     let bin = get_or (row_of rows level) k d in
-    let place = frame_place s written level bin.frame in
+    let place = frame_place s version level bin.frame in
     let text = frame_text s level (tallied_in s events bin) in
     let end = place + length text in
-    let fits = text_fits s events level bin valid light last ((are.each level first last).widths k d below) in
+    let fits = text_fits version s events level bin valid light last ((are.each level first last).widths k d below) in
     let here = holds seen read level first last k d below in
     elim (cases_lt 0 (length text)) [
       | inl some ↦
@@ -96,15 +99,15 @@ frames_since leaves since seen s events rows valid are light read holds keeps im
 -- ---- when they are sound
 
 -- a level's frames, from what its row's bins say
-to_frames : (s : Numbers) (events : List Item) (file : List ℕ) (level : ℕ) (row : List BinAt) → All (λ bin. HoldsFrame s written level bin.frame file (tallied_in s events bin)) row →
-    HoldFrames s level file (map (λ bin. bin.frame) row) (map (filled s events) (map range_of row))
-to_frames s events file level [] holds = tt
-to_frames s events file level (bin ∷ row) holds =
-    (holds 0 bin (omega arith), to_frames s events file level row (λ k d within. holds (suc k) d (omega (arith, within))))
+to_frames : (version : ℕ) (s : Numbers) (events : List Item) (file : List ℕ) (level : ℕ) (row : List BinAt) → All (λ bin. HoldsFrame s version level bin.frame file (tallied_in s events bin)) row →
+    HoldFrames version s level file (map (λ bin. bin.frame) row) (map (filled s events) (map range_of row))
+to_frames version s events file level [] holds = tt
+to_frames version s events file level (bin ∷ row) holds =
+    (holds 0 bin (omega arith), to_frames version s events file level row (λ k d within. holds (suc k) d (omega (arith, within))))
 
-module _ (s : Numbers) (cone : ℕ) (history : List Packet) (events : List Item) (rows : List (List BinAt)) (closed : Bool) (logged : List LogRecord) (gate : ℕ)
-    (valid : IsValid s) (at : IsAt s (length events) rows) (partway : IsPartway s history events []) (whole : closed ≡ true → events ≡ events_of history)
-    (log_of : IsLogOf s cone events rows closed logged) (begins : NamesRecord s history (last_n0 logged) (last_place logged)) where
+module _ {version : ℕ} (s : Numbers) (cone : ℕ) (history : List Packet) (events : List Item) (rows : List (List BinAt)) (closed : Bool) (logged : List LogRecord) (gate : ℕ)
+    (is_known : IsVersion version) (valid : IsValid s) (at : IsAt s (length events) rows) (partway : IsPartway s history events []) (whole : closed ≡ true → events ≡ events_of history)
+    (log_of : IsLogOf s cone events rows closed logged) (begins : NamesRecord version s history (last_n0 logged) (last_place logged)) where
   -- how many events the last record was written after
   n0_running : closed ≡ false → last_n0 logged ≡ last_flush s (length events)
   n0_running running = log_of.n0_is ∙ ap (λ t. cond t (length events) (last_flush s (length events))) running
@@ -142,12 +145,12 @@ module _ (s : Numbers) (cone : ℕ) (history : List Packet) (events : List Item)
       sym (get_or-map (λ (row : List BinAt). map (λ (bin : BinAt). bin.frame) row) rows (level - 1) [] [] (omega (arith, at.levels, first, last)))
       ∙ ap (λ (directory : List (List ℕ)). get_or directory (level - 1) []) (sym log_of.directory_is)
 
-  directory : (file : List ℕ) → HoldsBins s written events rows file → HoldsDirectory s (take (last_n0 logged) (events_of history)) (last_directory s logged) file
+  directory : (file : List ℕ) → HoldsBins s version events rows file → HoldsDirectory version s (take (last_n0 logged) (events_of history)) (last_directory s logged) file
   directory file holds = record {
     each = λ level first last.
-        subst (λ (frames : List ℕ). HoldFrames s level file frames (bins_of weighed s (take (last_n0 logged) (events_of history)) level)) (row_frames level first last)
-        (subst (λ (bs : List Bin). HoldFrames s level file (map (λ (bin : BinAt). bin.frame) (row_of rows level)) bs) (row_bins level first last)
-        (to_frames s events file level (row_of rows level) (holds level first last)));
+        subst (λ (frames : List ℕ). HoldFrames version s level file frames (bins_of weighed s (take (last_n0 logged) (events_of history)) level)) (row_frames level first last)
+        (subst (λ (bs : List Bin). HoldFrames version s level file (map (λ (bin : BinAt). bin.frame) (row_of rows level)) bs) (row_bins level first last)
+        (to_frames version s events file level (row_of rows level) (holds level first last)));
   }
 
   -- the reports
@@ -170,8 +173,10 @@ module _ (s : Numbers) (cone : ℕ) (history : List Packet) (events : List Item)
     | inr running ↦ omega (arith, n0_running running, partway.late)
   ]
 
-  pub sound_of : (files : Files) → IsJournal s cone history (files 0) → HasLog s cone (files 1) logged gate → HoldsBins s written events rows (files 2) → IsSound s cone history files
+  pub sound_of : (files : Files) → IsJournal version s cone history (files 0) → HasLog s cone (files 1) logged gate → HoldsBins s version events rows (files 2) → IsSound s cone history files
   sound_of files journal log holds = record {
+    version = version;
+    known = is_known;
     journal = journal;
     logged = logged;
     log_end = gate;
@@ -184,7 +189,7 @@ module _ (s : Numbers) (cone : ℕ) (history : List Packet) (events : List Item)
     begins = begins;
   }
 
-  pub sound_as : events ≡ events_of history → (files : Files) → IsJournal s cone history (files 0) → HasLog s cone (files 1) logged gate → HoldsBins s written events rows (files 2) →
+  pub sound_as : events ≡ events_of history → (files : Files) → IsJournal version s cone history (files 0) → HasLog s cone (files 1) logged gate → HoldsBins s version events rows (files 2) →
       IsSoundAs s cone closed history files
   unfolding sound_of
   sound_as all files journal log holds = record {

@@ -12,6 +12,7 @@ use Rattle.lert_cone.specs.declared.tally.TakeFault.TheVariants.{Failed as TakeF
 use Rattle.lert_cone.specs.{Sound.{IsKept, IsSoundOver}, Stands.{Standing, IsSameCone, IsWhole, is_broken, is_refusal, broken_by, cone_fault}, Steps.StepsCone, Tally.Shows, Wrote.Anything}
 use Rattle.lert_cone.proofs.{FaultLaws.{by_bay_of, by_read_of, failed_of, is_broken_by, kept_since, no_refusal, turns_as, unsound_of, untold}, SoundLaws.turns_back}
 use Rattle.lert_cone.proofs.{Refusals.{fault_as, no_failed, no_fault, no_unsound, one_fault}, StandLaws.stands_broken, StateLaws.{broke_broken, broke_closed, passed_broken, passed_closed}}
+use Rattle.lert_cone.specs.Stands.{StandsFor}
 
 -- what a test says of its fault is so of that of the call
 pub same_fault : {T U A : Type 0} {tested : Result T ConeFault} {fault y : ConeFault} → tested ≡ Err fault → ◌↔◌ (IsErrOf tested y) A → ◌↔◌ (IsErrOf {T = U} (Err fault) y) A
@@ -54,25 +55,27 @@ module _ {B : Type 0} {bays : Bays B} (lawful : IsLawful bays) {old : Standing B
     pub breaks : {T U : Type 0} {fault : TakeFault} {given : Result U ConeFault} → new.state ≡ broken_by fault → given ≡ Err (cone_fault fault) → new.events ≡ old.events →
         bays.faults old.made ≤ bays.faults old.bay → KeepsBay bays old.bay new.bay (IsErrOf {T = T} (Err fault) TakeFailed) →
         ((image : Files) → bays.leaves new.bay image → bays.left_since new.bay (bays.moment old.bay) image) →
-        IfTold (bays.files old.bay) (λ was. (h : List Packet) → IsWhole (bays.leaves old.bay) was old.listing old.rows old.reports old.gate old.log h →
+        IfTold (bays.files old.bay) (λ was. (h : List Packet) → StandsFor bays.files bays.leaves bays.faults old h → IsWhole (bays.leaves old.bay) was old.listing old.rows old.reports old.gate
+        old.log h →
         (file at : ℕ) → ◌≢◌ {A = Result T TakeFault} (Err fault) (Err (TakeUnsound file at))) →
-        IfTold (bays.files old.bay) (λ was. (h : List Packet) → IsWhole (bays.leaves old.bay) was old.listing old.rows old.reports old.gate old.log h →
+        IfTold (bays.files old.bay) (λ was. (h : List Packet) → StandsFor bays.files bays.leaves bays.faults old h → IsWhole (bays.leaves old.bay) was old.listing old.rows old.reports old.gate
+        old.log h →
         (image : Files) → bays.left_since new.bay (bays.moment old.bay) image → IsSoundOver old.listing.settings old.listing.cone h new.over image) →
         IfTold (bays.files new.bay) (λ then. (file at : ℕ) → IsErrOf {T = T} (Err fault) (TakeUnsound file at) →
-        Shows new.listing.settings new.rows new.reports (then FRAMES) file at) →
+        Shows new.listing.version new.listing.settings new.rows new.reports (then FRAMES) file at) →
         StepsCone bays old new given
     breaks {fault = fault} state_is given_is events_are risen kept now sound each shows = subst (StepsCone bays old new) (sym given_is) (record {
       same_cone = same;
       stays = λ h stands. stands_broken same (ap is_broken state_is ∙ is_broken_by fault) events_are
           (λ by_bay. subst (λ (made : B). HasRisen (bays.faults made) (bays.faults new.bay)) (sym same.made) (risen_since (bays.faults old.made) (bays.faults old.bay) (bays.faults new.bay)
           risen kept.never_falls (kept.failed (ap Err (by_bay_of fault (sym state_is ∙ by_bay))))))
-          (λ file at by_read was_sound. seen.untold (untold (bays.files old.bay) (λ was told. sound was told h (stands.whole (ap is_broken running) was_sound was told) file at
+          (λ file at by_read was_sound. seen.untold (untold (bays.files old.bay) (λ was told. sound was told h stands (stands.whole (ap is_broken running) was_sound was told) file at
           (ap Err (by_read_of fault file at (sym state_is ∙ by_read))))))
           (λ was_sound then told.
           let was = turns_back seen then told in
           subst (λ (s : Numbers). IsKept (bays.leaves new.bay) then (IsSoundOver s new.listing.cone h new.over)) (sym same.settings)
           (subst (λ (cone : ℕ). IsKept (bays.leaves new.bay) then (IsSoundOver old.listing.settings cone h new.over)) (sym same.cone)
-          (kept_since (lawful.as_read new.bay then told) now (each was.0 was.1 h (stands.whole (ap is_broken running) was_sound was.0 was.1)))))
+          (kept_since (lawful.as_read new.bay then told) now (each was.0 was.1 h stands (stands.whole (ap is_broken running) was_sound was.0 was.1)))))
           stands;
       unchanged = λ refusal. absurd (false≢true (sym (no_refusal fault) ∙ refusal));
       closed = broke_closed (cone_fault fault) old.state (no_refusal fault) running;
@@ -81,7 +84,7 @@ module _ {B : Type 0} {bays : Bays B} (lawful : IsLawful bays) {old : Standing B
       unsound = λ file at given.
           let is = unsound_of fault file at (one_fault given) in (
             state_is ∙ ap broken_by is,
-            λ h stands was_sound. untold (bays.files old.bay) (λ was told. sound was told h (stands.whole (ap is_broken running) was_sound was told) file at (ap Err is)),
+            λ h stands was_sound. untold (bays.files old.bay) (λ was told. sound was told h stands (stands.whole (ap is_broken running) was_sound was told) file at (ap Err is)),
           );
       shows = λ file at given then told. shows then told file at (ap Err (unsound_of fault file at (one_fault given)));
       seen = seen;

@@ -11,12 +11,13 @@ use Rattle.lert_spec.proofs.TallyLaws.{tally_table}
 use Rattle.lert_levels.specs.{declared.rows.bin_at.BinAt.BinAt, declared.rows.fault.FlushFault.FlushFault, declared.rows.fault.FlushFault.TheVariants.{Failed as FlushFailed, Malformed}}
 use Rattle.lert_levels.specs.{rows.Loading.{RowBreaks, OneBreaks}, rows.Ranges.young_bins, rows.Rows.{IsAt, AreRows, HoldsBins}, rows.Young.{AreLight, Young, with_event}}
 use Rattle.lert_cone.specs.{declared.tally.TakeFault.TakeFault, declared.tally.TakeFault.TheVariants.Unsound, Due.{Dues, TookFrom, due_reports, started}, Framed.HoldsSome}
-use Rattle.lert_cone.specs.Tally.{Tallied, IsCounted, IsHeld, AreYoung, Shows, totals_at, take_fault}
+use Rattle.lert_cone.specs.Tally.{Tallied, IsCounted, IsHeld, IsLightWith, AreYoung, Shows, totals_at, take_fault}
 use Rattle.lert_cone.proofs.{KeyLemmas.{HaveKeys-push, IsPartOf-push, AreOfVersion-push}}
-use Rattle.lert_cone.proofs.{RoomLaws.{look_fits, closing_fits, few_weigh}, SomeLaws.{with_key, with_key_len, with_key_light, with_key_young, with_key_holds, with_key_some}}
+use Rattle.lert_cone.proofs.{RoomLaws.{look_fits, closing_fits}, SomeLaws.{with_key, with_key_len, with_key_light, with_key_young, with_key_holds, with_key_some}}
 use Rattle.lert_cone.proofs.{TallyLaws.{next_from, next_bins, frames_more, young_light}, TotalLaws.{closing_is, totals_table, look_is}}
 use Rattle.lert_levels.proofs.rows.WeightLaws.{weigh_some, version_weigh}
-use Rattle.lert_cone.specs.History.{written}
+use Rattle.lert_spec.specs.{Counts.weight_of, Edges.weight_room}
+use Rattle.std.proofs.Common.{append-nil}
 
 -- what a taker's state says of the definition: the totals of a start bring the definition's reports, or too many
 module _ (s : Numbers) (cone at : ℕ) (before all : List Report) (pieces : List Piece) (start due : Dues)
@@ -48,15 +49,16 @@ pub record IsTaking (t : Tallied) (ls : Numbers) (item : Item) (tail m : ℕ) (y
   pub tail_is : tail ≡ tail_of t.listing.settings item.key
   pub m_is : m ≡ suc (length t.listing.events)
   pub some : 1 ≤ item.weight
-  pub light : item.weight ≤ most_weight written
+  pub light : item.weight ≤ most_weight t.listing.version
   pub added : young ≡ with_event t.young tail item.weight m
 
 -- where the cone was asked for as it is seen
 pub to_take : {t seen : Tallied} {ls : Numbers} {item : Item} {tail len : ℕ} {young : Young} → t ≡ seen → IsCounted seen → length seen.listing.events < capacity seen.listing.settings →
     ls ≡ t.listing.settings → IsValid t.listing.settings → t.listing.cone < 2 ^ t.listing.settings.cone_bits → t.young.settings ≡ t.listing.settings →
-    tail ≡ tail_of t.listing.settings item.key → len ≡ length t.listing.events → 1 ≤ item.weight → item.weight ≤ most_weight written → young ≡ with_event t.young tail item.weight (len + 1) →
+    tail ≡ tail_of t.listing.settings item.key → len ≡ length t.listing.events → 1 ≤ item.weight → item.weight ≤ most_weight seen.listing.version →
+    young ≡ with_event t.young tail item.weight (len + 1) →
     IsTaking t ls item tail (len + 1) young
-to_take same counted fits levels_are valid named young_settings tail_is len_is some light added = record {
+to_take {item = item} same counted fits levels_are valid named young_settings tail_is len_is some light added = record {
   levels_are = levels_are;
   valid = valid;
   named = named;
@@ -66,7 +68,7 @@ to_take same counted fits levels_are valid named young_settings tail_is len_is s
   tail_is = tail_is;
   m_is = omega (arith, len_is);
   some = some;
-  light = light;
+  light = subst (λ (v : Tallied). item.weight ≤ most_weight v.listing.version) (sym same) light;
   added = added;
 }
 
@@ -98,28 +100,28 @@ module _ {t : Tallied} {ls : Numbers} {item : Item} {tail m : ℕ} {young : Youn
             ∙ ap₂ (λ (v : Numbers) (p : ℕ). young_bins v all p) (sym taking.levels_are) (sym from_now);
       }
 
-  pub light_now : AreOfVersion written (t.listing.events ++ item ∷ [])
-  light_now = AreOfVersion-push written t.listing.events item taking.counted.light taking.some taking.light
+  pub light_now : AreOfVersion t.listing.version (t.listing.events ++ item ∷ [])
+  light_now = AreOfVersion-push t.listing.version t.listing.events item taking.counted.light taking.some taking.light
 
   -- level 0 may go into frames of the version that is written
-  pub bins_light : AreLight written young.bins
-  bins_light = subst (AreLight written) (sym young_now.is) (young_light ls all young.from written light_now)
+  pub bins_light : AreLight t.listing.version young.bins
+  bins_light = subst (AreLight t.listing.version) (sym young_now.is) (young_light ls all young.from t.listing.version light_now)
 
-  pub frames_now : (seen : Files) → IsHeld t seen → HoldsBins ls written all t.rows (seen 2)
+  pub frames_now : (seen : Files) → IsHeld t seen → HoldsBins ls t.listing.version all t.rows (seen 2)
   frames_now seen held =
-      subst (λ (v : Numbers). HoldsBins v written all t.rows (seen 2)) (sym taking.levels_are)
-      (frames_more t.listing.settings taking.valid t.listing.events (item ∷ []) t.rows (seen 2) taking.counted.rows held.frames)
+      subst (λ (v : Numbers). HoldsBins v t.listing.version all t.rows (seen 2)) (sym taking.levels_are)
+      (frames_more t.listing.settings taking.valid t.listing.events (item ∷ []) t.rows (seen 2) taking.counted.rows t.listing.version held.frames)
 
   -- where the frames hold the bins of some events, whatever these are, level 0 has those of the same ones with the cone's newest
   -- behind them
-  module _ (file : List ℕ) (some : HoldsSome t.listing.settings (length t.listing.events) t.rows file) where
+  module _ (file : List ℕ) (some : HoldsSome t.listing.version t.listing.settings (length t.listing.events) t.rows file) where
     abbrev pub others : List Item
     others = with_key t.listing.settings taking.valid t.listing.events item t.rows file taking.counted.rows some
 
     pub others_long : length others ≡ m
     others_long = with_key_len t.listing.settings taking.valid t.listing.events item t.rows file taking.counted.rows some ∙ sym taking.m_is
 
-    pub others_light : AreOfVersion written others
+    pub others_light : AreOfVersion t.listing.version others
     others_light = with_key_light t.listing.settings taking.valid t.listing.events item t.rows file taking.counted.rows some light_now
 
     pub others_young : AreYoung ls others young.from young.bins
@@ -130,16 +132,17 @@ module _ {t : Tallied} {ls : Numbers} {item : Item} {tail m : ℕ} {young : Youn
           ∙ ap₂ (λ (v : Numbers) (p : ℕ). young_bins v others p) (sym taking.levels_are) (sym from_now);
     }
 
-    pub others_frames : HoldsBins ls written others t.rows file
-    others_frames = subst (λ (v : Numbers). HoldsBins v written others t.rows file) (sym taking.levels_are)
+    pub others_frames : HoldsBins ls t.listing.version others t.rows file
+    others_frames = subst (λ (v : Numbers). HoldsBins v t.listing.version others t.rows file) (sym taking.levels_are)
         (with_key_holds t.listing.settings taking.valid t.listing.events item t.rows file taking.counted.rows some)
 
-    pub others_next : (rows : List (List BinAt)) (after : List ℕ) → IsAt ls m rows → HoldsBins ls written others rows after → HoldsSome t.listing.settings (length all) rows after
+    pub others_next : (rows : List (List BinAt)) (after : List ℕ) → IsAt ls m rows → HoldsBins ls t.listing.version others rows after →
+        HoldsSome t.listing.version t.listing.settings (length all) rows after
     others_next rows after at holds =
-        subst (λ n. HoldsSome t.listing.settings n rows after) (sym taking.m_is ∙ sym all_long)
+        subst (λ n. HoldsSome t.listing.version t.listing.settings n rows after) (sym taking.m_is ∙ sym all_long)
         (with_key_some t.listing.settings taking.valid t.listing.events item t.rows file taking.counted.rows some rows after
         (subst (λ n. IsAt t.listing.settings n rows) taking.m_is (subst (λ (v : Numbers). IsAt v m rows) taking.levels_are at)) light_now
-        (subst (λ (v : Numbers). HoldsBins v written others rows after) taking.levels_are holds))
+        (subst (λ (v : Numbers). HoldsBins v t.listing.version others rows after) taking.levels_are holds))
 
   module _ (below : item.key < key_limit t.listing.settings) (own : cone_of t.listing.settings item.key ≡ t.listing.cone) (start due : Dues) (start_is : start ≡ started t.due m) where
     start_settings : start.settings ≡ t.listing.settings
@@ -158,6 +161,7 @@ module _ {t : Tallied} {ls : Numbers} {item : Item} {tail m : ℕ} {young : Youn
           fits = omega (arith, all_long, taking.m_is);
           keys = HaveKeys-push t.listing.settings t.listing.events item taking.counted.keys below;
           own = IsPartOf-push t.listing.settings t.listing.cone t.listing.events item taking.counted.own own;
+          known = taking.counted.known;
           light = light_now;
           from = from ∙ ap₂ (λ (v : Numbers) (p : ℕ). edge v 0 p) taking.levels_are (sym all_long);
           to = to ∙ sym all_long;
@@ -180,29 +184,29 @@ module _ {t : Tallied} {ls : Numbers} {item : Item} {tail m : ℕ} {young : Youn
           ((λ i. totals_at (taking.levels_are i) all (taking.m_is i) (taking.tail_is i))) took
 
       table : IsTable (2 ^ tail_bits t.listing.settings) (totals_at t.listing.settings all (suc (length t.listing.events)) (tail_of t.listing.settings item.key))
-      table = totals_table t.listing.settings t.listing.cone t.listing.events taking.valid taking.named taking.counted.keys taking.counted.own (version_weigh written t.listing.events
+      table = totals_table t.listing.settings t.listing.cone t.listing.events taking.valid taking.named taking.counted.keys taking.counted.own (version_weigh t.listing.version t.listing.events
           taking.counted.light) item below own taking.some
 
       all_looked : look_of weighed t.listing.settings all ≡ look_of weighed t.listing.settings t.listing.events ++ due_reports t.listing.settings t.listing.cone (look_of weighed
           t.listing.settings t.listing.events) (suc
           (length t.listing.events)) (totals_at t.listing.settings all (suc (length t.listing.events)) (tail_of t.listing.settings item.key))
-      all_looked = look_is t.listing.settings t.listing.cone t.listing.events taking.valid taking.named taking.counted.keys taking.counted.own (version_weigh written t.listing.events
+      all_looked = look_is t.listing.settings t.listing.cone t.listing.events taking.valid taking.named taking.counted.keys taking.counted.own (version_weigh t.listing.version t.listing.events
           taking.counted.light) item below own taking.some
 
-      pub never_full : due.is_full ≡ true → ⊥
-      never_full full =
+      pub never_full : IsLightWith t (item ∷ []) → due.is_full ≡ true → ⊥
+      never_full weighs full =
           let over = too_many t.listing.settings t.listing.cone (suc (length t.listing.events)) (look_of weighed t.listing.settings t.listing.events) (look_of weighed t.listing.settings all)
           (totals_at t.listing.settings all (suc (length t.listing.events)) (tail_of t.listing.settings item.key)) start due
           start_settings start_cone (ap (λ (d : Dues). d.before) start_is ∙ looked) (ap (λ (d : Dues). d.at) start_is ∙ taking.m_is) table took_here all_looked full in
           let all_fits : length all ≤ capacity t.listing.settings = omega (arith, all_long, taking.m_is) in
-          omega (arith, look_fits t.listing.settings all taking.valid all_fits (few_weigh t.listing.settings all all_fits light_now))
+          omega (arith, look_fits t.listing.settings all taking.valid all_fits weighs)
 
       pub held_next : (next : Young) (rows : List (List BinAt)) (now : Tallied) (after : Files) →
           now ≡ record { listing = record t.listing { events = all }; young = next; rows = rows; due = due } →
-          due.is_full ≡ false → HoldsBins ls written all rows (after 2) → IsHeld now after
+          due.is_full ≡ false → HoldsBins ls t.listing.version all rows (after 2) → IsHeld now after
       held_next next rows now after now_is room frames =
           subst (λ (v : Tallied). IsHeld v after) (sym now_is) (record {
-            frames = subst (λ (v : Numbers). HoldsBins v written all rows (after 2)) taking.levels_are frames;
+            frames = subst (λ (v : Numbers). HoldsBins v t.listing.version all rows (after 2)) taking.levels_are frames;
             reports = reports_are t.listing.settings t.listing.cone (suc (length t.listing.events)) (look_of weighed t.listing.settings t.listing.events) (look_of weighed t.listing.settings all)
                 (totals_at t.listing.settings all (suc (length t.listing.events)) (tail_of t.listing.settings item.key)) start due
                 start_settings start_cone (ap (λ (d : Dues). d.before) start_is ∙ looked) (ap (λ (d : Dues). d.at) start_is ∙ taking.m_is) table took_here all_looked room
@@ -224,8 +228,8 @@ module _ (t : Tallied) (ls : Numbers) (levels_are : ls ≡ t.listing.settings) (
   pub young_end : AreYoung ls t.listing.events t.young.from t.young.bins
   young_end = record { is = counted.bins.is ∙ (λ i. young_bins (sym levels_are i) t.listing.events (sym counted.from i)) }
 
-  pub frames_end : (seen : Files) → IsHeld t seen → HoldsBins ls written t.listing.events t.rows (seen 2)
-  frames_end seen held = subst (λ (v : Numbers). HoldsBins v written t.listing.events t.rows (seen 2)) (sym levels_are) held.frames
+  pub frames_end : (seen : Files) → IsHeld t seen → HoldsBins ls t.listing.version t.listing.events t.rows (seen 2)
+  frames_end seen held = subst (λ (v : Numbers). HoldsBins v t.listing.version t.listing.events t.rows (seen 2)) (sym levels_are) held.frames
 
   module _ (at : ℕ) (at_is : at ≡ length t.listing.events) (start due : Dues) (start_is : start ≡ started t.due at) where
     settings_end : start.settings ≡ t.listing.settings
@@ -240,6 +244,7 @@ module _ (t : Tallied) (ls : Numbers) (levels_are : ls ≡ t.listing.settings) (
       fits = counted.fits;
       keys = counted.keys;
       own = counted.own;
+      known = counted.known;
       light = counted.light;
       from = counted.from;
       to = counted.to;
@@ -257,21 +262,27 @@ module _ (t : Tallied) (ls : Numbers) (levels_are : ls ≡ t.listing.settings) (
       took_end : TookFrom start due (tally weighed t.listing.settings t.listing.events)
       took_end = subst (λ (v : Numbers). TookFrom start due (tally weighed v t.listing.events)) levels_are took
 
-      pub never_full_end : due.is_full ≡ true → ⊥
-      never_full_end full =
+      pub never_full_end : IsLightWith t [] → due.is_full ≡ true → ⊥
+      never_full_end weighs full =
           let over = too_many t.listing.settings t.listing.cone (length t.listing.events) (look_of weighed t.listing.settings t.listing.events) (closing_of weighed t.listing.settings t.listing.events)
           (tally weighed t.listing.settings t.listing.events) start due settings_end cone_end (ap (λ (d : Dues). d.before) start_is ∙ looked_end) (ap (λ (d : Dues). d.at) start_is ∙ at_is)
-          (tally_table weighed t.listing.settings t.listing.events (weigh_some t.listing.events (version_weigh written t.listing.events counted.light))) took_end (closing_is t.listing.settings
-          t.listing.cone t.listing.events valid named counted.keys counted.own (version_weigh written t.listing.events counted.light)) full in
-          omega (arith, closing_fits t.listing.settings t.listing.events valid counted.fits (few_weigh t.listing.settings t.listing.events counted.fits counted.light))
+          (tally_table weighed t.listing.settings t.listing.events (weigh_some t.listing.events (version_weigh t.listing.version t.listing.events counted.light))) took_end (closing_is
+          t.listing.settings
+          t.listing.cone t.listing.events valid named counted.keys counted.own (version_weigh t.listing.version t.listing.events counted.light)) full in
+          omega (
+            arith,
+            closing_fits t.listing.settings t.listing.events valid counted.fits (subst (λ (all : List Item). weight_of weighed all ≤ weight_room t.listing.settings) (append-nil t.listing.events)
+                weighs),
+          )
 
       pub held_end : due.is_full ≡ false → IsHeld (record t { listing = record t.listing { closed = true }; due = due }) seen
       held_end room = record {
         frames = held.frames;
         reports = reports_are t.listing.settings t.listing.cone (length t.listing.events) (look_of weighed t.listing.settings t.listing.events) (closing_of weighed t.listing.settings t.listing.events)
             (tally weighed t.listing.settings t.listing.events) start due settings_end cone_end (ap (λ (d : Dues). d.before) start_is ∙ looked_end) (ap (λ (d : Dues). d.at) start_is ∙ at_is)
-            (tally_table weighed t.listing.settings t.listing.events (weigh_some t.listing.events (version_weigh written t.listing.events counted.light))) took_end (closing_is t.listing.settings
-            t.listing.cone t.listing.events valid named counted.keys counted.own (version_weigh written t.listing.events counted.light)) room;
+            (tally_table weighed t.listing.settings t.listing.events (weigh_some t.listing.events (version_weigh t.listing.version t.listing.events counted.light))) took_end (closing_is
+            t.listing.settings
+            t.listing.cone t.listing.events valid named counted.keys counted.own (version_weigh t.listing.version t.listing.events counted.light)) room;
       }
 
 -- a fault that isn't of a frame
@@ -279,28 +290,21 @@ pub sound_fault : (fault : FlushFault) → ((at : ℕ) → fault ≢ Malformed a
 sound_fault FlushFailed fine file at same = cc
 sound_fault (Malformed place) fine file at same = fine place refl
 
--- and what a call that hands on a fault answers
-pub err_is : (result : Result (Unit {0}) TakeFault) (fault : FlushFault) → IsErrAnd result (λ taken. taken ≡ take_fault fault) → ((at : ℕ) → fault ≢ Malformed at) →
-    (file at : ℕ) → result ≢ Err
-    (Unsound file at)
-err_is (Ok done) fault is fine file at same = cc
-err_is (Err taken) fault is fine file at same = sound_fault fault fine file at (sym is ∙ (let inner : taken ≡ Unsound file at = cc in inner))
-
 -- what a call that hands on a fault shows, where the fault is of a frame
-pub shows_frame : (result : Result (Unit {0}) TakeFault) (fault : FlushFault) → IsErrAnd result (λ taken. taken ≡ take_fault fault) →
-    (s : Numbers) (rows : List (List BinAt)) (reports : List Report) (frames : List ℕ) → ((at : ℕ) → fault ≡ Malformed at → OneBreaks s written rows frames at) →
-    (file at : ℕ) → IsErrOf result (Unsound file at) → Shows s rows reports frames file at
+pub shows_frame : {version : ℕ} (result : Result (Unit {0}) TakeFault) (fault : FlushFault) → IsErrAnd result (λ taken. taken ≡ take_fault fault) →
+    (s : Numbers) (rows : List (List BinAt)) (reports : List Report) (frames : List ℕ) → ((at : ℕ) → fault ≡ Malformed at → OneBreaks s version rows frames at) →
+    (file at : ℕ) → IsErrOf result (Unsound file at) → Shows version s rows reports frames file at
 shows_frame (Ok done) fault is s rows reports frames breaks file at same = absurd is
 shows_frame (Err taken) FlushFailed is s rows reports frames breaks file at same = cc
-shows_frame (Err taken) (Malformed place) is s rows reports frames breaks file at same =
+shows_frame {version} (Err taken) (Malformed place) is s rows reports frames breaks file at same =
     let frame : Unsound 2 place ≡ Unsound file at = cc in
     let number : file ≡ 2 = cc in
     let place_is : place ≡ at = cc in
-    inl (number, subst (OneBreaks s written rows frames) place_is (breaks place refl))
+    inl (number, subst (OneBreaks s version rows frames) place_is (breaks place refl))
 
 -- and what a report shows that finds no room
-pub shows_full : (s : Numbers) (rows : List (List BinAt)) (reports : List Report) (frames : List ℕ) → length reports ≡ s.room →
-    (file at : ℕ) → ◌≡◌ {A = Result (Unit {0}) TakeFault} (Err (Unsound 1 0)) (Err (Unsound file at)) → Shows s rows reports frames file at
+pub shows_full : {version : ℕ} (s : Numbers) (rows : List (List BinAt)) (reports : List Report) (frames : List ℕ) → length reports ≡ s.room →
+    (file at : ℕ) → ◌≡◌ {A = Result (Unit {0}) TakeFault} (Err (Unsound 1 0)) (Err (Unsound file at)) → Shows version s rows reports frames file at
 shows_full s rows reports frames filled file at same =
     let number : file ≡ 1 = cc in
     let place : at ≡ 0 = cc in

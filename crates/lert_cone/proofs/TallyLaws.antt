@@ -16,7 +16,6 @@ use Rattle.lert_levels.proofs.{rows.RangeLaws.{IsCut, cuts_are, depth_moves, dep
 use Rattle.lert_cone.specs.Tally.{AreYoung, totals_at}
 use Rattle.lert_cone.proofs.TotalLaws.{edge_within}
 use Rattle.lert_levels.proofs.rows.WeightLaws.{WeighAll, costs_number, version_slice, version_weigh, weight_least, window_length}
-use Rattle.lert_cone.specs.History.{written}
 
 -- what holds of the bins of all intervals holds of those that aren't empty
 bins_kept : (P : Bin → Type 0) (f : ℕ → Bin) (ks : List ℕ) → ((k : ℕ) → P (f k)) → All P (filter (λ (bin : Bin). ltb bin.from bin.to) (map f ks))
@@ -170,9 +169,9 @@ module _ (s : Numbers) (valid : IsValid s) where
     slice_same level first last k d within =
         slice_range-append events others (get_or (row_of rows level) k d).from (get_or (row_of rows level) k d).to (ends (length events) rows at level first last k d within)
 
-    pub frames_more : HoldsBins s written events rows file → HoldsBins s written (events ++ others) rows file
-    frames_more holds level first last k d within =
-        subst (λ keys. HoldsFrame s written level (get_or (row_of rows level) k d).frame file (tally weighed s keys)) (sym (slice_same level first last k d within))
+    pub frames_more : (version : ℕ) → HoldsBins s version events rows file → HoldsBins s version (events ++ others) rows file
+    frames_more version holds level first last k d within =
+        subst (λ keys. HoldsFrame s version level (get_or (row_of rows level) k d).frame file (tally weighed s keys)) (sym (slice_same level first last k d within))
         (holds level first last k d within)
 
   -- before the first event no level has a bin

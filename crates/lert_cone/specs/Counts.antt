@@ -7,8 +7,7 @@ use Rattle.lert_levels.specs.{rows.Landing.KeepsRest, rows.Rows.{IsAt, AreRows, 
 use Rattle.lert_spec.specs.{declared.piece.Piece.Piece, Bins.tally, Edges.{edge, lookback, capacity}}
 use Rattle.lert_cone.specs.{declared.tally.TakeFault.TakeFault, declared.tally.TakeFault.TheVariants.{Failed, Unsound}, Due.{Dues, TookFrom}, Framed.HoldsSome}
 use Rattle.lert_spec.specs.{Counts.weighed, Items.AreOfVersion, declared.item.Item.Item}
-use Rattle.lert_cone.specs.History.{written}
-use Rattle.lert_cone.specs.Tally.{Tallied, AreYoung, IsCounted, IsHeld, Shows, totals_at}
+use Rattle.lert_cone.specs.Tally.{Tallied, AreYoung, IsCounted, IsHeld, IsLightWith, Shows, totals_at}
 
 -- the levels are flushed at position m, with the reports as the taker of the totals
 pub record Flushes {B : Type 0} (bays : Bays B) (start : Dues) (m : ℕ) (bay bay_after : B) (zero : Young) (levels levels_after : OnDisk) (due : Dues) (result : Result
@@ -78,7 +77,8 @@ pub record Scans {B : Type 0} (bays : Bays B) (start : Dues) (bay bay_after : B)
 
 -- An item is counted. Where the edge of level 0 stays the rows stay, and no call of the bay is made; the frames that the rows named stay in any case. Where
 -- the files are told, and the frames and reports are those of the items so far, they are so again, in every image too, and no
--- frame is found malformed; that holds too where the frames hold the bins of some events, whatever these are.
+-- frame is found malformed, nor is the store full, where the items weigh no more than a cone takes; no frame is malformed also
+-- where the frames hold the bins of some events, whatever these are.
 pub record CountsItem {B : Type 0} (bays : Bays B) (item : Item) (bay bay_after : B) (old new : Tallied) (result : Result (Unit {0}) TakeFault) : Type 0 where
   pub listing : new.listing ≡ record old.listing { events = new.listing.events }
   pub taken : OnOk result (new.listing.events ≡ old.listing.events ++ item ∷ [])
@@ -87,14 +87,14 @@ pub record CountsItem {B : Type 0} (bays : Bays B) (item : Item) (bay bay_after 
   pub still : edge old.listing.settings 0 (length old.listing.events + 1) ≡ edge old.listing.settings 0 (length old.listing.events) → OnOk result (new.rows ≡ old.rows)
   pub unflushed : edge old.listing.settings 0 (length old.listing.events + 1) ≡ edge old.listing.settings 0 (length old.listing.events) → bay_after ≡ bay
   pub held : IfTold (bays.files bay) (λ seen. IsHeld old seen → OnOk result (IfTold (bays.files bay_after) (λ after. IsHeld new after)))
-  pub sound : IfTold (bays.files bay) (λ seen. IsHeld old seen → (file at : ℕ) → result ≢ Err (Unsound file at))
-  pub shows : IfTold (bays.files bay_after) (λ seen. (file at : ℕ) → IsErrOf result (Unsound file at) → Shows new.listing.settings new.rows new.due.reports (seen FRAMES) file at)
-  pub framed : IfTold (bays.files bay) (λ seen. HoldsSome old.listing.settings (length old.listing.events) old.rows (seen FRAMES) →
-      OnOk result (IfTold (bays.files bay_after) (λ after. HoldsSome new.listing.settings (length new.listing.events) new.rows (after FRAMES))))
-  pub whole : IfTold (bays.files bay) (λ seen. HoldsSome old.listing.settings (length old.listing.events) old.rows (seen FRAMES) → (at : ℕ) → result ≢ Err (Unsound FRAMES at))
-  pub images : IfTold (bays.files bay) (λ seen. IsHeld old seen → InEach (bays.leaves bay) FRAMES (HoldsBins old.listing.settings written old.listing.events old.rows) →
-      OnOk result (IfTold (bays.files bay_after) (λ _. InEach (bays.leaves bay_after) FRAMES (HoldsBins new.listing.settings written new.listing.events new.rows))))
-  pub rest : KeepsRest bays (InNamed old.listing.settings written old.rows) bay bay_after
+  pub sound : IfTold (bays.files bay) (λ seen. IsHeld old seen → IsLightWith old (item ∷ []) → (file at : ℕ) → result ≢ Err (Unsound file at))
+  pub shows : IfTold (bays.files bay_after) (λ seen. (file at : ℕ) → IsErrOf result (Unsound file at) → Shows new.listing.version new.listing.settings new.rows new.due.reports (seen FRAMES) file at)
+  pub framed : IfTold (bays.files bay) (λ seen. HoldsSome old.listing.version old.listing.settings (length old.listing.events) old.rows (seen FRAMES) →
+      OnOk result (IfTold (bays.files bay_after) (λ after. HoldsSome new.listing.version new.listing.settings (length new.listing.events) new.rows (after FRAMES))))
+  pub whole : IfTold (bays.files bay) (λ seen. HoldsSome old.listing.version old.listing.settings (length old.listing.events) old.rows (seen FRAMES) → (at : ℕ) → result ≢ Err (Unsound FRAMES at))
+  pub images : IfTold (bays.files bay) (λ seen. IsHeld old seen → InEach (bays.leaves bay) FRAMES (HoldsBins old.listing.settings old.listing.version old.listing.events old.rows) →
+      OnOk result (IfTold (bays.files bay_after) (λ _. InEach (bays.leaves bay_after) FRAMES (HoldsBins new.listing.settings new.listing.version new.listing.events new.rows))))
+  pub rest : KeepsRest bays (InNamed old.listing.settings old.listing.version old.rows) bay bay_after
   pub kept : KeepsBay bays bay bay_after (IsErrOf result Failed)
 
 -- All levels are scanned, and the reports listed that are left. It writes nothing.
@@ -106,7 +106,7 @@ pub record CountsEnd {B : Type 0} (bays : Bays B) (bay bay_after : B) (old new :
   pub grows : OnOk result (length old.due.reports ≤ length new.due.reports)
   pub counted : OnOk result (IsCounted new)
   pub held : IfTold (bays.files bay) (λ seen. IsHeld old seen → OnOk result (IsHeld new seen))
-  pub whole : IfTold (bays.files bay) (λ seen. OnOk result (rows_left old.listing.settings written (seen FRAMES) old.rows ≡ None))
-  pub sound : IfTold (bays.files bay) (λ seen. IsHeld old seen → (file at : ℕ) → result ≢ Err (Unsound file at))
-  pub shows : IfTold (bays.files bay_after) (λ seen. (file at : ℕ) → IsErrOf result (Unsound file at) → Shows new.listing.settings new.rows new.due.reports (seen FRAMES) file at)
+  pub whole : IfTold (bays.files bay) (λ seen. OnOk result (rows_left old.listing.settings old.listing.version (seen FRAMES) old.rows ≡ None))
+  pub sound : IfTold (bays.files bay) (λ seen. IsHeld old seen → IsLightWith old [] → (file at : ℕ) → result ≢ Err (Unsound file at))
+  pub shows : IfTold (bays.files bay_after) (λ seen. (file at : ℕ) → IsErrOf result (Unsound file at) → Shows new.listing.version new.listing.settings new.rows new.due.reports (seen FRAMES) file at)
   pub reads : OnlyReads bays bay bay_after (IsErrOf result Failed)

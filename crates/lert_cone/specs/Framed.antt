@@ -2,7 +2,6 @@
 use Rattle.std.specs.Prelude.{◌≡◌, ℕ, zero, suc, ◌==◌, List, length, take, if◌then◌else◌}
 use Rattle.lert_levels.specs.{declared.rows.bin_at.BinAt.BinAt, rows.Rows.HoldsBins}
 use Rattle.lert_spec.specs.{declared.item.Item.Item, declared.numbers.Numbers.Numbers, Edges.edge, Items.AreOfVersion}
-use Rattle.lert_cone.specs.History.{written}
 
 -- the last flush position that is at most n, or 0 where there is none
 abbrev pub last_flush : Numbers → ℕ → ℕ
@@ -15,8 +14,8 @@ flushed s events = take (last_flush s (length events)) events
 
 -- the frames that the rows name hold the bins of some events, as many as the older levels have after n events, whatever
 -- events these are
-pub record HoldsSome (s : Numbers) (n : ℕ) (rows : List (List BinAt)) (file : List ℕ) : Type 0 where
+pub record HoldsSome (version : ℕ) (s : Numbers) (n : ℕ) (rows : List (List BinAt)) (file : List ℕ) : Type 0 where
   pub events : List Item
   pub len : length events ≡ edge s 0 n
-  pub light : AreOfVersion written events
-  pub holds : HoldsBins s written events rows file
+  pub light : AreOfVersion version events
+  pub holds : HoldsBins s version events rows file

@@ -9,7 +9,6 @@ use Rattle.lert_reports.specs.{Log.{HasLog, last_n0, listed_in, most_record}, Lo
 use Rattle.lert_spec.specs.{declared.numbers.Numbers.Numbers, declared.report.Report.Report, Edges.edge}
 use Rattle.lert_cone.specs.{Framed.last_flush, Listing.{Listing, reports_of}, Logged.IsLogOf, JournalPlaces.{ArePlacesIn, NamesRecord, last_place}, Record.LogPlace, Sound.{IsJournal, but_last}}
 use Rattle.lert_cone.specs.Tally.{Tallied}
-use Rattle.lert_cone.specs.History.{written}
 
 -- In every image the journal has these packets, the log has the records of the items so far, and the frames that the rows
 -- name hold their bins. The journal and the log are settled from their first byte to their last. The records name as
@@ -20,14 +19,14 @@ pub record IsInStep (leaves : Files → Type 0) (seen : Files) (history : List P
   pub logged : List LogRecord
   pub log_of : IsLogOf listing.settings listing.cone listing.events rows listing.closed logged
   pub named_is : log.named ≡ length (listed_in logged)
-  pub journal : InEach leaves JOURNAL (IsJournal listing.settings listing.cone history)
+  pub journal : InEach leaves JOURNAL (IsJournal listing.version listing.settings listing.cone history)
   pub log_there : InEach leaves LOG (λ bytes. HasLog listing.settings listing.cone bytes logged log.gate)
-  pub frames : InEach leaves FRAMES (HoldsBins listing.settings written listing.events rows)
+  pub frames : InEach leaves FRAMES (HoldsBins listing.settings listing.version listing.events rows)
   pub journal_settled : IsWhollySettled leaves seen JOURNAL
   pub log_settled : IsWhollySettled leaves seen LOG
   pub reports_are : reports ≡ reports_of listing
-  pub begins : NamesRecord listing.settings history (last_n0 logged) (last_place logged)
-  pub placed : ArePlacesIn history log.places
+  pub begins : NamesRecord listing.version listing.settings history (last_n0 logged) (last_place logged)
+  pub placed : ArePlacesIn listing.version history log.places
   pub reach : log.places.from ≤ edge listing.settings 0 (length listing.events) + 1
 
 -- these items and then these begin those of the packets, and no flush of an earlier packet than the last one is left
@@ -47,8 +46,8 @@ pub record IsLogging (tally : Tallied) (log : LogPlace) (room : ℕ) : Type 0 wh
   pub passed : log.places.passed ≡ length tally.listing.events
 
 -- the files as they are made: in every image the journal has no packet and the log no record, and both are settled
-pub record AreNew (s : Numbers) (cone : ℕ) (leaves : Files → Type 0) (seen : Files) : Type 0 where
-  pub journal : InEach leaves JOURNAL (IsJournal s cone [])
+pub record AreNew (version : ℕ) (s : Numbers) (cone : ℕ) (leaves : Files → Type 0) (seen : Files) : Type 0 where
+  pub journal : InEach leaves JOURNAL (IsJournal version s cone [])
   pub log_there : InEach leaves LOG (λ bytes. HasLog s cone bytes [] 8)
   pub journal_settled : IsWhollySettled leaves seen JOURNAL
   pub log_settled : IsWhollySettled leaves seen LOG

@@ -12,33 +12,33 @@ abbrev pub first_place : JournalPlace
 first_place = record { gate = 32; first = 1 }
 
 -- in the journal of these packets the record that begins at a place is that of one of them, and holds the item at position p
-pub record HoldsPosition (history : List Packet) (place : JournalPlace) (p : ℕ) : Type 0 where
+pub record HoldsPosition (version : ℕ) (history : List Packet) (place : JournalPlace) (p : ℕ) : Type 0 where
   pub done : List Packet
   pub packet : Packet
   pub rest : List Packet
   pub is : history ≡ done ++ packet ∷ rest
-  pub gate_is : place.gate ≡ end_of done
+  pub gate_is : place.gate ≡ end_of version done
   pub first_is : place.first ≡ length (events_of done) + 1
   pub from : place.first ≤ p
   pub to : p < place.first + length packet.items
 
 -- and so for each position behind n up to the last one
-pub record AreOfRecord (history : List Packet) (place : JournalPlace) (n last : ℕ) : Type 0 where
-  pub each : (p : ℕ) → n < p → p ≤ last → HoldsPosition history place p
+pub record AreOfRecord (version : ℕ) (history : List Packet) (place : JournalPlace) (n last : ℕ) : Type 0 where
+  pub each : (p : ℕ) → n < p → p ≤ last → HoldsPosition version history place p
 
 -- a log's record that was written after n0 events names the journal's record that holds the first position of level 0, or
 -- the first record, where there is no event
-pub record NamesRecord (s : Numbers) (history : List Packet) (n0 : ℕ) (place : JournalPlace) : Type 0 where
+pub record NamesRecord (version : ℕ) (s : Numbers) (history : List Packet) (n0 : ℕ) (place : JournalPlace) : Type 0 where
   pub none : n0 ≡ 0 → place ≡ first_place
-  pub some : 0 < n0 → HoldsPosition history place (edge s 0 n0 + 1)
+  pub some : 0 < n0 → HoldsPosition version history place (edge s 0 n0 + 1)
 
 -- a place names a packet of a list, or the end of the list: in its journal that packet's record begins at the place's gate, with the
 -- place's position
-pub record IsPlaceIn (history : List Packet) (place : JournalPlace) : Type 0 where
+pub record IsPlaceIn (version : ℕ) (history : List Packet) (place : JournalPlace) : Type 0 where
   pub done : List Packet
   pub rest : List Packet
   pub is : history ≡ done ++ rest
-  pub gate_is : place.gate ≡ end_of done
+  pub gate_is : place.gate ≡ end_of version done
   pub first_is : place.first ≡ length (events_of done) + 1
 
 -- what the rules of a log let such a record name
@@ -76,10 +76,10 @@ places_at_start s = places_from s 0
 
 -- Bin k is the one that begins behind k spans. Where it is known and has begun, and j others behind it, which are no more than a
 -- level has, the record at the j-th place holds its first position. Bins that begin before `from` aren't known
-pub record ArePlacesIn (history : List Packet) (places : Places) : Type 0 where
+pub record ArePlacesIn (version : ℕ) (history : List Packet) (places : Places) : Type 0 where
   pub each : (k j : ℕ) → places.from ≤ k * span places.settings 0 + 1 → j ≤ places.settings.bins → (k + j) * span places.settings 0 < places.passed →
       places.passed ≤ (k + j + 1) * span places.settings 0 →
-      HoldsPosition history (slice_index_or places.places j first_place) (k * span places.settings 0 + 1)
+      HoldsPosition version history (slice_index_or places.places j first_place) (k * span places.settings 0 + 1)
 
 -- how many bins have begun behind the first one of level 0
 abbrev pub bins_behind : Numbers → ℕ → ℕ
@@ -95,7 +95,7 @@ pub record HasPassed (last : ℕ) (place : JournalPlace) (old new : Places) : Ty
   pub settings : new.settings ≡ old.settings
   pub passed : new.passed ≡ last
   pub from : new.from ≡ old.from
-  pub places : (history : List Packet) → AreOfRecord history place old.passed last → ArePlacesIn history old → ArePlacesIn history new
+  pub places : (version : ℕ) (history : List Packet) → AreOfRecord version history place old.passed last → ArePlacesIn version history old → ArePlacesIn version history new
 
 -- what stands between two calls: the next bin begins behind those that have begun, and as many places are kept as any level may ask for
 pub record IsRing (s : Numbers) (places : List JournalPlace) (passed next : ℕ) : Type 0 where

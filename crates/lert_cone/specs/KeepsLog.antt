@@ -7,19 +7,18 @@ use Rattle.lert_levels.specs.{declared.rows.bin_at.BinAt.BinAt, rows.Rows.IsAt}
 use Rattle.lert_reports.specs.{declared.log.LogKind.LogKind, Log.{HasRecords, last_n0, last_directory}, LogRules.AreFrames, LogText.LogRecord}
 use Rattle.lert_spec.specs.{declared.numbers.Numbers.Numbers, Edges.{edge, capacity}}
 use Rattle.lert_cone.specs.{Framed.HoldsSome, Logged.frames_of, Replaying.Replaying}
-use Rattle.lert_cone.specs.History.{written}
 
 -- ---- the frames that a log names
 
 -- a range of the file of frames stands in a frame that a directory names
-pub record InDirectory (s : Numbers) (directory : List (List ℕ)) (from to : ℕ) : Type 0 where
+pub record InDirectory (version : ℕ) (s : Numbers) (directory : List (List ℕ)) (from to : ℕ) : Type 0 where
   pub level : ℕ
   pub first : 1 ≤ level
   pub last : level ≤ s.levels
   pub frame : ℕ
   pub named : Contains (slice_index_or directory (level - 1) []) frame
-  pub above : frame_place s written level frame ≤ from
-  pub below : to ≤ frame_place s written level frame + frame_len s written level
+  pub above : frame_place s version level frame ≤ from
+  pub below : to ≤ frame_place s version level frame + frame_len s version level
 
 -- the last of some records names the frames of these rows, which have the bins of the levels after the events that it speaks of
 pub record NamesRows (s : Numbers) (records : List LogRecord) (rows : List (List BinAt)) : Type 0 where
@@ -27,10 +26,10 @@ pub record NamesRows (s : Numbers) (records : List LogRecord) (rows : List (List
   pub at : IsAt s (last_n0 records) rows
 
 -- the frames that it names hold the bins of some events, whatever these are
-pub record HoldsNamed (s : Numbers) (records : List LogRecord) (file : List ℕ) : Type 0 where
+pub record HoldsNamed (version : ℕ) (s : Numbers) (records : List LogRecord) (file : List ℕ) : Type 0 where
   pub rows : List (List BinAt)
   pub names : NamesRows s records rows
-  pub some : HoldsSome s (last_n0 records) rows file
+  pub some : HoldsSome version s (last_n0 records) rows file
 
 -- ---- what is kept
 
@@ -62,12 +61,12 @@ pub record KeepsRecords (s : Numbers) (records : List LogRecord) (gate : ℕ) (b
 -- From some files to others the log keeps its records, to which others may have come. As long as none came, the frames that the
 -- last one names are as they were, byte for byte. And where those hold the bins of some events, whatever these are, so do the
 -- frames that the last one names by then.
-pub record KeepsLog (s : Numbers) (records : List LogRecord) (gate : ℕ) (before after : Files) : Type 0 where
+pub record KeepsLog (version : ℕ) (s : Numbers) (records : List LogRecord) (gate : ℕ) (before after : Files) : Type 0 where
   pub log : KeepsRecords s records gate (before LOG) (after LOG)
   pub longer : length (before FRAMES) ≤ length (after FRAMES)
-  pub same : log.more ≡ [] → (from to : ℕ) → InDirectory s (last_directory s records) from to → to ≤ length (before FRAMES) →
+  pub same : log.more ≡ [] → (from to : ℕ) → InDirectory version s (last_directory s records) from to → to ≤ length (before FRAMES) →
       part (after FRAMES) from to ≡ part (before FRAMES) from to
-  pub frames : HoldsNamed s records (before FRAMES) → HoldsNamed s (records ++ log.more) (after FRAMES)
+  pub frames : HoldsNamed version s records (before FRAMES) → HoldsNamed version s (records ++ log.more) (after FRAMES)
 
 -- ---- while memory goes on with it
 
@@ -85,15 +84,15 @@ pub record IsHeadOf (s : Numbers) (records : List LogRecord) (head : LogHead) (b
 
 -- From one state of a bay to another the log keeps its records, as the bay then reads, and the log alone in every image of each
 -- moment between. After Ok memory goes on with what stands there.
-pub record StaysLogged {B T E : Type 0} (bays : Bays B) (s : Numbers) (records : List LogRecord) (seen : Files) (old new : LogHead) (before after : B) (result : Result T E) : Type 0
+pub record StaysLogged {B T E : Type 0} (bays : Bays B) (version : ℕ) (s : Numbers) (records : List LogRecord) (seen : Files) (old new : LogHead) (before after : B) (result : Result T E) : Type 0
   where
-    pub read : IfTold (bays.files after) (λ now. (kept : KeepsLog s records old.gate seen now) × OnOk result (IsHeadOf s (records ++ kept.log.more) new (now LOG)))
+    pub read : IfTold (bays.files after) (λ now. (kept : KeepsLog version s records old.gate seen now) × OnOk result (IsHeadOf s (records ++ kept.log.more) new (now LOG)))
     pub each_moment : InEach (bays.left_since after (bays.moment before)) LOG (KeepsRecords s records old.gate (seen LOG))
 
 -- so of all records with which memory went on before, where the bay tells its files
-abbrev pub KeepsLogOf : {B T E : Type 0} → Bays B → Numbers → LogHead → LogHead → B → B → Result T E → Type 0
-KeepsLogOf bays s old new before after result =
-    IfTold (bays.files before) (λ seen. (records : List LogRecord) → IsHeadOf s records old (seen LOG) → StaysLogged bays s records seen old new before after result)
+abbrev pub KeepsLogOf : {B T E : Type 0} → Bays B → ℕ → Numbers → LogHead → LogHead → B → B → Result T E → Type 0
+KeepsLogOf bays version s old new before after result =
+    IfTold (bays.files before) (λ seen. (records : List LogRecord) → IsHeadOf s records old (seen LOG) → StaysLogged bays version s records seen old new before after result)
 
 -- what a cone whose journal is read again goes on with
 abbrev pub head_of : {B : Type 0} → Replaying B → LogHead

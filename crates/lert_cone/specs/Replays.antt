@@ -1,36 +1,39 @@
 -- What the record at a gate makes of a cone whose journal is read again.
-use Rattle.std.specs.Prelude.{◌≡◌, ℕ, ◌+◌, ◌≤◌, max, List, [], ◌∷◌, ◌++◌, length, Option, Some, None, Result, Ok, Err}
-use Rattle.lert_cone.specs.History.{written}
-use Rattle.lert_base.specs.Packet.{Packet}
+use Rattle.std.specs.Prelude.{◌≡◌, ℕ, ◌+◌, ◌≤◌, max, List, [], ◌∷◌, ◌++◌, length, take, Option, Some, None, Result, Ok, Err}
+use Rattle.lert_base.specs.Packet.{Packet, events_of}
+use Rattle.lert_spec.specs.{Counts.{weighed, weight_of}, Edges.edge}
 use Rattle.lert_bay.specs.{Files.{Files, IfTold}, Images.KeepsImages, Kept.Bays, declared.bay.TheConstants.JOURNAL}
 use Rattle.lert_gatelog.specs.{declared.fault.LogFault.LogFault, declared.fault.LogFault.TheVariants.{Failed as LogFailed, Malformed as LogMalformed}, Gated.{IsClosed, next_gate}}
 use Rattle.lert_journal.specs.{Journal.HoldsPacket, Payload.{IsJournaled, payload_of}}
 use Rattle.lert_levels.specs.declared.rows.bin_at.BinAt.{BinAt}
 use Rattle.lert_spec.specs.declared.report.Report.{Report}
 use Rattle.lert_cone.specs.{declared.refusal.ReplayFault.ReplayFault, declared.refusal.ReplayFault.TheVariants.{Failed, Malformed, Unsound}, declared.tally.TakeFault.TakeFault}
-use Rattle.lert_cone.specs.{declared.tally.TakeFault.TheVariants.{Failed as TakeFailed, Unsound as TakeUnsound}, Framed.last_flush, History.most_payload, Record.LogPlace}
-use Rattle.lert_cone.specs.{Replay.{IsOnWay, IsPast, MayFollow, ReplayLeavesAt}, Replaying.Replaying, Wrote.IsShutIfTold}
+use Rattle.lert_cone.specs.{declared.tally.TakeFault.TheVariants.{Failed as TakeFailed, Unsound as TakeUnsound}, Framed.last_flush, Record.LogPlace}
+use Rattle.lert_cone.specs.{Replay.{IsOnWay, IsPast, MayFollow, ReplayLeavesAt, weight_behind}, Replaying.Replaying, Wrote.IsShutIfTold}
+use Rattle.lert_journal.specs.Payload.{most_payload}
 
 -- the cone has the items of the first packets of its journal, which is that of a history, and where its bay tells its files, these and
--- its memory are on their way through it
+-- its memory are on their way through it, and what the named frames hold weighs what the history's items do that they hold
 pub record Replays {B : Type 0} (files : B → Option Files) (leaves : B → Files → Type 0) (cone : Replaying B) (history done : List Packet) : Type 0 where
   pub taking : cone.stopped ≡ None
-  pub past : IsPast history done cone.listing.events cone.gate
+  pub past : IsPast cone.listing.version history done cone.listing.events cone.gate
   pub on_way : IfTold (files cone.bay) (λ seen. IsOnWay (leaves cone.bay) seen history cone.listing cone.rows cone.reports cone.log cone.last.n0)
+  pub weighed_is : IfTold (files cone.bay) (λ _. weight_of weighed (take (edge cone.listing.settings 0 cone.last.n0) (events_of history)) ≡ cone.last.weight)
 
 -- a packet that this cone's journal may hold stands in a file at a gate
 abbrev pub HoldsNext : {B : Type 0} → Replaying B → List ℕ → ℕ → Packet → Type 0
-HoldsNext cone bytes gate packet = HoldsPacket written cone.listing.settings cone.listing.cone (most_payload cone.listing.settings) bytes gate packet
+HoldsNext cone bytes gate packet = HoldsPacket cone.listing.version cone.listing.settings cone.listing.cone (most_payload cone.listing.version cone.listing.settings) bytes gate packet
 
 -- and may stand behind the items that the cone has
 abbrev pub MayTake : {B : Type 0} → Replaying B → Packet → Type 0
-MayTake cone packet = MayFollow cone.listing.settings cone.last.n0 cone.last.closed (length cone.listing.events) packet
+MayTake cone packet = MayFollow cone.listing.settings cone.last.n0 cone.last.closed (length cone.listing.events) cone.weight packet
 
 -- the place at which what stands at a gate leaves the format, behind the items that the cone has
 abbrev pub LeavesBehind : {B : Type 0} → Replaying B → List ℕ → ℕ → ℕ → Type 0
-LeavesBehind cone bytes gate at = ReplayLeavesAt cone.listing.settings cone.listing.cone cone.last.n0 cone.last.closed (length cone.listing.events) bytes gate at
+LeavesBehind cone bytes gate at = ReplayLeavesAt cone.listing.version cone.listing.settings cone.listing.cone cone.last.n0 cone.last.closed (length cone.listing.events) cone.weight bytes gate at
 
--- a cone with the items of a packet more, and what that makes of the rest
+-- a cone with the items of a packet more, and what that makes of the rest: those up to the edge of level 0 at the log's last record are
+-- in the frames' weight already
 abbrev pub with_packet : {B : Type 0} → Replaying B → Packet → ℕ → B → List (List BinAt) → List Report → LogPlace → Replaying B
 with_packet cone packet gate bay rows reports log = record cone {
   bay = bay;
@@ -38,6 +41,7 @@ with_packet cone packet gate bay rows reports log = record cone {
   rows = rows;
   reports = reports;
   events = cone.events + length packet.items;
+  weight = cone.weight + weight_behind (edge cone.listing.settings 0 cone.last.n0) (length cone.listing.events) packet.items;
   gate = gate;
   log = log;
 }
@@ -46,9 +50,9 @@ with_packet cone packet gate bay rows reports log = record cone {
 pub record HasTaken {B : Type 0} (files : B → Option Files) (old new : Replaying B) (gate next : ℕ) : Type 0 where
   pub packet : Packet
   pub stands : IfTold (files old.bay) (λ seen. HoldsNext old (seen JOURNAL) gate packet)
-  pub journaled : IsJournaled written old.listing.settings old.listing.cone packet
+  pub journaled : IsJournaled old.listing.version old.listing.settings old.listing.cone packet
   pub follows : MayTake old packet
-  pub next_is : next ≡ next_gate gate (payload_of written packet)
+  pub next_is : next ≡ next_gate gate (payload_of old.listing.version packet)
   pub is : new ≡ with_packet old packet next new.bay new.rows new.reports new.log
 
 -- a closed gate was found, where the files are told, behind enough items, and nothing else changed

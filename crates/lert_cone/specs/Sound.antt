@@ -5,11 +5,12 @@ use Rattle.lert_base.specs.Packet.{keys_of, Packet, events_of}
 use Rattle.lert_bay.specs.{Files.{Files, IfTold}, Kept.Bays, Settled.part, declared.bay.TheConstants.{JOURNAL, LOG, FRAMES}}
 use Rattle.lert_frames.specs.Frame.{HoldsFrame}
 use Rattle.lert_gatelog.specs.Kept.{IsWhollySettled}
-use Rattle.lert_journal.specs.{Header.{magic, header}, Journal.HasPackets, Payload.IsJournaled}
+use Rattle.lert_journal.specs.{Header.{magic, header}, Journal.HasPackets, Payload.{IsJournaled, most_payload}}
 use Rattle.lert_reports.specs.{Log.{HasLog, listed_in, last_n0, last_directory, is_closed}, LogText.LogRecord}
-use Rattle.lert_spec.specs.{Counts.weighed, declared.item.Item.Item, declared.numbers.Numbers.Numbers, Bins.{Bin, bins_of}, Edges.{key_limit, capacity}, Look.{look_of, closing_of}}
-use Rattle.lert_cone.specs.{Framed.last_flush, History.{most_payload, end_of}, JournalPlaces.{NamesRecord, last_place}}
-use Rattle.lert_cone.specs.History.{written}
+use Rattle.lert_spec.specs.{Counts.{weighed, weight_of}, declared.item.Item.Item, declared.numbers.Numbers.Numbers}
+use Rattle.lert_spec.specs.{Bins.{Bin, bins_of}, Edges.{key_limit, capacity, weight_room}, Look.{look_of, closing_of}}
+use Rattle.lert_cone.specs.{Framed.last_flush, History.{end_of}, JournalPlaces.{NamesRecord, last_place}}
+use Rattle.lert_spec.specs.Items.{IsVersion}
 
 -- ---- the journal
 
@@ -17,14 +18,15 @@ use Rattle.lert_cone.specs.History.{written}
 abbrev pub KeysFit : Numbers → List Packet → Type 0
 KeysFit s history = All (λ packet. All (λ key. key < key_limit s) (keys_of packet)) history
 
--- the bytes are the journal of a list of packets: the header of the cone, and open records of these packets, each of which
--- a journal may hold, and which together have no more items than a cone takes
-pub record IsJournal (s : Numbers) (cone : ℕ) (history : List Packet) (bytes : List ℕ) : Type 0 where
-  pub headed : part bytes 0 32 ≡ header (magic written) s cone
-  pub records : HasPackets written (most_payload s) bytes 32 history (end_of history)
-  pub journaled : All (IsJournaled written s cone) history
+-- the bytes are the journal of a list of packets, of a version: the header of the cone, and open records of these packets, each of which
+-- a journal may hold, and which together have no more items than a cone takes, and weigh no more
+pub record IsJournal (version : ℕ) (s : Numbers) (cone : ℕ) (history : List Packet) (bytes : List ℕ) : Type 0 where
+  pub headed : part bytes 0 32 ≡ header (magic version) s cone
+  pub records : HasPackets version (most_payload version s) bytes 32 history (end_of version history)
+  pub journaled : All (IsJournaled version s cone) history
   pub fit : KeysFit s history
   pub within : length (events_of history) ≤ capacity s
+  pub light : weight_of weighed (events_of history) ≤ weight_room s
 
 -- all packets but the last
 abbrev pub but_last : List Packet → List Packet
@@ -33,16 +35,16 @@ but_last history = take (length history - 1) history
 -- ---- the frames
 
 -- the frames of a level with these numbers hold these bins, one after another
-abbrev pub HoldFrames : Numbers → ℕ → List ℕ → List ℕ → List Bin → Type 0
-HoldFrames s level file [] [] = Unit {0}
-HoldFrames s level file [] (bin ∷ bins) = ⊥
-HoldFrames s level file (frame ∷ frames) [] = ⊥
-HoldFrames s level file (frame ∷ frames) (bin ∷ bins) =
-    HoldsFrame s written level frame file bin.pieces × HoldFrames s level file frames bins
+abbrev pub HoldFrames : ℕ → Numbers → ℕ → List ℕ → List ℕ → List Bin → Type 0
+HoldFrames version s level file [] [] = Unit {0}
+HoldFrames version s level file [] (bin ∷ bins) = ⊥
+HoldFrames version s level file (frame ∷ frames) [] = ⊥
+HoldFrames version s level file (frame ∷ frames) (bin ∷ bins) =
+    HoldsFrame s version level frame file bin.pieces × HoldFrames version s level file frames bins
 
 -- those that a directory names hold the bins of each level from 1 on after these events
-pub record HoldsDirectory (s : Numbers) (events : List Item) (directory : List (List ℕ)) (file : List ℕ) : Type 0 where
-  pub each : (level : ℕ) → 1 ≤ level → level ≤ s.levels → HoldFrames s level file (slice_index_or directory (level - 1) []) (bins_of weighed s events level)
+pub record HoldsDirectory (version : ℕ) (s : Numbers) (events : List Item) (directory : List (List ℕ)) (file : List ℕ) : Type 0 where
+  pub each : (level : ℕ) → 1 ≤ level → level ≤ s.levels → HoldFrames version s level file (slice_index_or directory (level - 1) []) (bins_of weighed s events level)
 
 -- ---- all three files
 
@@ -53,16 +55,18 @@ pub record HoldsDirectory (s : Numbers) (events : List Item) (directory : List (
 -- stands behind all events, those at the end. The last record says where the journal's record begins that holds the first item
 -- of level 0 after n0 events.
 pub record IsSound (s : Numbers) (cone : ℕ) (history : List Packet) (files : Files) : Type 0 where
-  pub journal : IsJournal s cone history (files JOURNAL)
+  pub version : ℕ
+  pub known : IsVersion version
+  pub journal : IsJournal version s cone history (files JOURNAL)
   pub logged : List LogRecord
   pub log_end : ℕ
   pub log : HasLog s cone (files LOG) logged log_end
   pub n0_most : last_n0 logged ≤ length (events_of history)
   pub n0_least : last_flush s (length (events_of (but_last history))) ≤ last_n0 logged
-  pub frames : HoldsDirectory s (take (last_n0 logged) (events_of history)) (last_directory s logged) (files FRAMES)
+  pub frames : HoldsDirectory version s (take (last_n0 logged) (events_of history)) (last_directory s logged) (files FRAMES)
   pub reports_are : listed_in logged ≡ (if is_closed logged then closing_of weighed s (events_of history) else look_of weighed s (take (last_n0 logged) (events_of history)))
   pub closed_behind : is_closed logged ≡ true → last_n0 logged ≡ length (events_of history)
-  pub begins : NamesRecord s history (last_n0 logged) (last_place logged)
+  pub begins : NamesRecord version s history (last_n0 logged) (last_place logged)
 
 -- sound, and its last record is a closing one or not: a closing one stands behind all events, and where there is none the
 -- last one stands at the last flush position

@@ -7,12 +7,14 @@ use Rattle.lert_bay.specs.{Files.{Files, IfTold, Turns}, declared.bay.TheConstan
 use Rattle.lert_gatelog.specs.Gated.{Log}
 use Rattle.lert_io.specs.Fault.{HasRisen}
 use Rattle.lert_levels.specs.declared.rows.bin_at.BinAt.{BinAt}
-use Rattle.lert_spec.specs.{declared.numbers.Numbers.Numbers, declared.report.Report.Report, Edges.{capacity, weight_room}, Limits.IsValid, Look.look_of}
+use Rattle.lert_spec.specs.{declared.numbers.Numbers.Numbers, declared.report.Report.Report, Edges.{capacity}, Limits.IsValid, Look.look_of}
 use Rattle.lert_cone.specs.{declared.state.ConeState.ConeState, declared.state.ConeState.TheVariants.{Running, Finished, BrokenByBay, BrokenByRead}, declared.acked.Acked.Acked}
-use Rattle.lert_cone.specs.{History.{most_payload, end_of, written}, InStep.{IsInStep, IsLogging}, Listing.Listing, Record.LogPlace, Room.room_of}
+use Rattle.lert_cone.specs.{History.{end_of}, InStep.{IsInStep, IsLogging}, Listing.Listing, Record.LogPlace, Room.{room_of, weight_from}}
 use Rattle.lert_cone.specs.{Sound.{IsSound, IsSoundAs, IsSoundOver, IsKept, IsKeptWhole}, Tally.{Tallied, IsCounted}, Wrote.{Anything, IsShutIfTold}, declared.tally.TakeFault.TakeFault}
 use Rattle.lert_cone.specs.declared.tally.TakeFault.TheVariants.{Failed as TakeFailed, Unsound as TakeUnsound}
 use Rattle.lert_reports.specs.declared.log_point.LogPoint.{LogPoint}
+use Rattle.lert_journal.specs.Payload.{most_payload}
+use Rattle.lert_levels.specs.rows.Checked.{IsWeightOf}
 
 -- a call broke off in the middle, and none writes any more
 abbrev pub is_broken : ConeState → Bool
@@ -76,7 +78,7 @@ pub record IsSameCone {B : Type 0} (old new : Standing B) : Type 0 where
 
 -- the version of its files
 abbrev pub version_of : {B : Type 0} → Standing B → ℕ
-version_of cone = written
+version_of cone = cone.last.version
 
 -- What a cone shows of itself under a lock, and no packet changes: its settings, its number, the version of its files, its bay as it
 -- was when the cone was made, off which it is read whether that told its files, whether the cone is finished, and that bay's count of
@@ -120,15 +122,16 @@ WasSound files cone = WereSoundAs files cone.listing.settings cone.listing.cone 
 pub record IsWhole (leaves : Files → Type 0) (seen : Files) (listing : Listing) (rows : List (List BinAt)) (reports : List Report) (gate : ℕ) (log : LogPlace) (history : List Packet) : Type 0
   where
     pub files : IsKeptWhole leaves seen (IsSoundAs listing.settings listing.cone listing.closed history)
-    pub gate_is : gate ≡ end_of history
+    pub gate_is : gate ≡ end_of listing.version history
     pub keys : listing.events ≡ events_of history
     pub in_step : IsInStep leaves seen history listing rows reports log
 
 -- A cone stands for a list of packets. Each has an item, and together they have as many as the cone acknowledged, which are
--- no more than it takes, and weigh as much; of a broken cone's weight nothing is said. Where its bay tells its files, they are sound for the list; of a broken cone for
--- the list or for the list and the packet that was left over. It is broken by its bay only where the bay's count of faults
--- rose since the cone was made, and by a read only where the bay doesn't tell its files. Where the bay told files that were
--- sound for no list when the cone was made, nothing is said of them, as of files that aren't told.
+-- no more than it takes, and weigh as much; of a broken cone's weight nothing is said. Where its bay tells its files, they are
+-- sound for the list; of a broken cone for the list or for the list and the packet that was left over. It is broken by its bay
+-- only where the bay's count of faults rose since the cone was made, and by a read only where the bay doesn't tell its files.
+-- Where the bay told files that were sound for no list when the cone was made, nothing is said of them, as of files that aren't
+-- told.
 pub record StandsFor {B : Type 0} (files : B → Option Files) (leaves : B → Files → Type 0) (faults : B → ℕ) (cone : Standing B) (history : List Packet) : Type 0 where
   pub some : All (λ packet. 0 < length packet.items) history
   pub counted : length (events_of history) ≡ cone.events
@@ -145,16 +148,20 @@ pub record StandsFor {B : Type 0} (files : B → Option Files) (leaves : B → F
 
 -- what is so of every cone, of its journal's place and of the rooms of its buffer and of its list of keys. Its bay is the one
 -- that it was made with, which tells its files exactly where it did then. A cone that isn't broken has nothing left over, its
--- counts are those of its items, and an item takes at most 21 bytes of its journal. It weighs no more than it may. The gates of a running one are closed in
--- every image, and the journal and the log are settled
+-- counts are those of its items, its weight is that of the frames that the log named as it was made and of the items behind
+-- them, and an item takes at most 22 bytes of its journal. Its weight is one that so many items of its version may have, and
+-- they are no fewer than those of the log's record that it began with. The gates of a running one are closed in every image,
+-- and the journal and the log are settled
 pub record IsCone {B : Type 0} (files : B → Option Files) (leaves : B → Files → Type 0) (faults mark : B → ℕ) (cone : Standing B) (tally : Tallied) (journal : Log) (room keys_room : ℕ)
     : Type 0 where
   pub file : journal.file ≡ JOURNAL
-  pub most : journal.most ≡ most_payload cone.listing.settings
+  pub most : journal.most ≡ most_payload cone.listing.version cone.listing.settings
   pub roomy : room ≡ room_of cone.listing.settings
   pub keys_roomy : keys_room ≡ 4 * cone.listing.settings.packet
   pub within : cone.events ≤ capacity cone.listing.settings
-  pub light : cone.weight ≤ weight_room cone.listing.settings
+  pub weighs : IsWeightOf cone.last.version cone.events cone.weight
+  pub passed : cone.last.n0 ≤ cone.events
+  pub version : cone.listing.version ≡ cone.last.version
   pub valid : IsValid cone.listing.settings
   pub never_falls : faults cone.made ≤ faults cone.bay
   pub marked : mark cone.bay ≡ mark cone.made
@@ -162,10 +169,10 @@ pub record IsCone {B : Type 0} (files : B → Option Files) (leaves : B → File
   pub by_bay : cone.state ≡ BrokenByBay → HasRisen (faults cone.made) (faults cone.bay)
   pub none_over : is_broken cone.state ≡ false → cone.over ≡ None
   pub counted : is_broken cone.state ≡ false → length cone.listing.events ≡ cone.events
-  pub weight_is : is_broken cone.state ≡ false → weight_of weighed cone.listing.events ≡ cone.weight
+  pub weight_is : is_broken cone.state ≡ false → cone.weight ≡ weight_from cone.listing.settings cone.last cone.listing.events
   pub tallied : is_broken cone.state ≡ false → IsCounted tally
   pub closed : is_broken cone.state ≡ false → cone.listing.closed ≡ is_finished cone.state
-  pub near : is_broken cone.state ≡ false → cone.gate ≤ 2 ^ 62 + 21 * cone.events
+  pub near : is_broken cone.state ≡ false → cone.gate ≤ 2 ^ 62 + 22 * cone.events
   pub shut : cone.state ≡ Running → IsShutIfTold (files cone.bay) (leaves cone.bay) JOURNAL cone.gate
   pub logging : cone.state ≡ Running → IsLogging tally cone.log room
   pub log_shut : cone.state ≡ Running → IsShutIfTold (files cone.bay) (leaves cone.bay) LOG cone.log.gate

@@ -24,7 +24,7 @@ pub record StepsCone {B T : Type 0} (bays : Bays B) (old new : Standing B) (resu
   pub unsound : (file at : ℕ) → IsErrOf result (Unsound file at) → (new.state ≡ BrokenByRead file at)
       × ((h : List Packet) → StandsFor bays.files bays.leaves bays.faults old h → WasSound bays.files old → bays.files old.bay ≡ None)
   -- and, where they are told, shows there: a frame that the levels name breaks, or no report has room
-  pub shows : (file at : ℕ) → IsErrOf result (Unsound file at) → IfTold (bays.files new.bay) (λ seen. Shows new.listing.settings new.rows new.reports (seen FRAMES) file at)
+  pub shows : (file at : ℕ) → IsErrOf result (Unsound file at) → IfTold (bays.files new.bay) (λ seen. Shows new.listing.version new.listing.settings new.rows new.reports (seen FRAMES) file at)
   -- files that are told stay told
   pub seen : Turns Anything (bays.files old.bay) (bays.files new.bay)
   -- time goes on, faults are counted, the mark stays, and no byte of the journal is read

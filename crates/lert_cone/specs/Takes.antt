@@ -5,11 +5,11 @@ use Rattle.lert_bay.specs.{Kept.{Bays, KeepsBay}, Files.{Files, IfTold, Turns}, 
 use Rattle.lert_gatelog.specs.Gated.{Log, next_gate}
 use Rattle.lert_journal.specs.Payload.{IsJournaled, payload_of}
 use Rattle.lert_levels.specs.rows.Checked.{rows_left}
-use Rattle.lert_spec.specs.{declared.item.Item.Item, Edges.capacity, Items.AreOfVersion, Mix.cone_of}
+use Rattle.lert_spec.specs.{declared.item.Item.Item, Counts.{weighed, weight_of}, Edges.{capacity, weight_room}, Items.AreOfVersion, Mix.cone_of}
 use Rattle.lert_cone.specs.{declared.journal_places.JournalPlace.JournalPlace, declared.tally.TakeFault.TakeFault, declared.tally.TakeFault.TheVariants.{Failed, Unsound}}
-use Rattle.lert_cone.specs.{Framed.{HoldsSome, last_flush}, History.most_payload, InStep.{IsInStep, IsLogging, IsPartway}, KeepsLog.{LogHead, KeepsLogOf}, JournalPlaces.AreOfRecord, Record.LogPlace}
-use Rattle.lert_cone.specs.{Replay.IsOnWay, Sound.{IsSound, IsSoundOver}, Stands.IsWhole, Tally.{Tallied, IsCounted, IsRecounted, Shows}, Wrote.{Anything, LeavesAlone, IsShutIfTold}}
-use Rattle.lert_cone.specs.History.{written}
+use Rattle.lert_cone.specs.{Framed.{HoldsSome, last_flush}, InStep.{IsInStep, IsLogging, IsPartway}, KeepsLog.{LogHead, KeepsLogOf}, JournalPlaces.AreOfRecord, Record.LogPlace}
+use Rattle.lert_cone.specs.{Replay.IsOnWay, Sound.{IsSound, IsSoundOver}, Stands.IsWhole, Tally.{Tallied, IsCounted, IsLightWith, IsRecounted, Shows}, Wrote.{Anything, LeavesAlone, IsShutIfTold}}
+use Rattle.lert_journal.specs.Payload.{most_payload}
 
 -- what items are taken over: the bay, the counts, the log, and the length of the buffer
 pub record Workplace (B : Type 0) : Type 0 where
@@ -37,7 +37,7 @@ replayed_head n0 at = record { rows = at.counts.rows; events = max n0 (length at
 pub record CanTake {B : Type 0} (bays : Bays B) (items : List Item) (at : Workplace B) : Type 0 where
   pub still : at.counts.listing.closed ≡ false
   pub own : All (λ item. cone_of at.counts.listing.settings item.key ≡ at.counts.listing.cone) items
-  pub light : AreOfVersion written items
+  pub light : AreOfVersion at.counts.listing.version items
   pub fits : length at.counts.listing.events + length items ≤ capacity at.counts.listing.settings
   pub counted : IsCounted at.counts
   pub can_log : CanLog bays at
@@ -48,16 +48,21 @@ AreInStep bays at seen history = IsInStep (bays.leaves at.bay) seen history at.c
 
 -- the next items, so many, are those of the journal's record at a place
 abbrev pub AreNext : {B : Type 0} → List Packet → JournalPlace → Workplace B → List Item → Type 0
-AreNext history place at items = AreOfRecord history place (length at.counts.listing.events) (length at.counts.listing.events + length items)
+AreNext history place at items = AreOfRecord at.counts.listing.version history place (length at.counts.listing.events) (length at.counts.listing.events + length items)
 
 -- and the journal is that of these packets, up to its gate
 abbrev pub IsWholeAt : {B : Type 0} → Bays B → Workplace B → Log → Files → List Packet → Type 0
 IsWholeAt bays at journal seen history = IsWhole (bays.leaves at.bay) seen at.counts.listing at.counts.rows at.counts.due.reports journal.gate at.log history
 
+-- and it can hold one more: with it they weigh no more than a cone takes
+pub record CanHold {B : Type 0} (bays : Bays B) (at : Workplace B) (journal : Log) (seen : Files) (history : List Packet) (packet : Packet) : Type 0 where
+  pub whole : IsWholeAt bays at journal seen history
+  pub light : weight_of weighed (events_of (history ++ packet ∷ [])) ≤ weight_room at.counts.listing.settings
+
 -- the journal stays as it is, and no frame is found malformed but where it shows so
 pub record KeepsJournal {B : Type 0} (bays : Bays B) (old new : Workplace B) (result : Result (Unit {0}) TakeFault) : Type 0 where
   pub shows : IfTold (bays.files new.bay) (λ seen. (file at : ℕ) → IsErrOf result (Unsound file at) →
-      Shows new.counts.listing.settings new.counts.rows new.counts.due.reports (seen FRAMES) file at)
+      Shows new.counts.listing.version new.counts.listing.settings new.counts.rows new.counts.due.reports (seen FRAMES) file at)
   pub journal : LeavesAlone bays JOURNAL old.bay new.bay
   pub most : new.log.most ≡ old.log.most
   pub kept : KeepsBay bays old.bay new.bay (IsErrOf result Failed)
@@ -76,24 +81,24 @@ pub record TakesItems {B : Type 0} (bays : Bays B) (place : JournalPlace) (items
   pub each_moment : IfTold (bays.files old.bay) (λ seen. (history : List Packet) → AreNext history place old items →
       IsPartway old.counts.listing.settings history old.counts.listing.events items → AreInStep bays old seen history →
       (image : Files) → bays.left_since new.bay (bays.moment old.bay) image → IsSound old.counts.listing.settings old.counts.listing.cone history image)
-  pub sound : IfTold (bays.files old.bay) (λ seen. (history : List Packet) → AreNext history place old items → AreInStep bays old seen history →
+  pub sound : IfTold (bays.files old.bay) (λ seen. (history : List Packet) → AreNext history place old items → AreInStep bays old seen history → IsLightWith old.counts items →
       (file at : ℕ) → result ≢ Err (Unsound file at))
-  pub framed : IfTold (bays.files old.bay) (λ seen. HoldsSome old.counts.listing.settings (length old.counts.listing.events) old.counts.rows (seen FRAMES) →
-      OnOk result (IfTold (bays.files new.bay) (λ after. HoldsSome new.counts.listing.settings (length new.counts.listing.events) new.counts.rows (after FRAMES))))
-  pub whole : IfTold (bays.files old.bay) (λ seen. HoldsSome old.counts.listing.settings (length old.counts.listing.events) old.counts.rows (seen FRAMES) → (at : ℕ) →
+  pub framed : IfTold (bays.files old.bay) (λ seen. HoldsSome old.counts.listing.version old.counts.listing.settings (length old.counts.listing.events) old.counts.rows (seen FRAMES) →
+      OnOk result (IfTold (bays.files new.bay) (λ after. HoldsSome new.counts.listing.version new.counts.listing.settings (length new.counts.listing.events) new.counts.rows (after FRAMES))))
+  pub whole : IfTold (bays.files old.bay) (λ seen. HoldsSome old.counts.listing.version old.counts.listing.settings (length old.counts.listing.events) old.counts.rows (seen FRAMES) → (at : ℕ) →
       result ≢ Err (Unsound FRAMES at))
   pub unflushed : last_flush old.counts.listing.settings (length old.counts.listing.events + length items) ≤ length old.counts.listing.events → new.bay ≡ old.bay
-  pub log : KeepsLogOf bays old.counts.listing.settings (taken_head old) (taken_head new) old.bay new.bay result
+  pub log : KeepsLogOf bays old.counts.listing.version old.counts.listing.settings (taken_head old) (taken_head new) old.bay new.bay result
   pub keeps : KeepsJournal bays old new result
 
 -- a packet may be taken: the journal may hold it, its gate is closed in every image, and its items may be taken
 pub record CanTakePacket {B : Type 0} (bays : Bays B) (packet : Packet) (at : Workplace B) (journal : Log) : Type 0 where
   pub file : journal.file ≡ JOURNAL
-  pub most : journal.most ≡ most_payload at.counts.listing.settings
+  pub most : journal.most ≡ most_payload at.counts.listing.version at.counts.listing.settings
   pub roomy : journal.most + 5 ≤ at.room
-  pub reach : journal.gate + 14 + 8 * length packet.items < 2 ^ 63
+  pub reach : journal.gate + 14 + 9 * length packet.items < 2 ^ 63
   pub shut : IsShutIfTold (bays.files at.bay) (bays.leaves at.bay) JOURNAL journal.gate
-  pub journaled : IsJournaled written at.counts.listing.settings at.counts.listing.cone packet
+  pub journaled : IsJournaled at.counts.listing.version at.counts.listing.settings at.counts.listing.cone packet
   pub fits : length at.counts.listing.events + length packet.items ≤ capacity at.counts.listing.settings
   pub still : at.counts.listing.closed ≡ false
   pub counted : IsCounted at.counts
@@ -107,17 +112,17 @@ pub record TakesPacket {B : Type 0} (bays : Bays B) (packet : Packet) (old new :
   pub taken : OnOk result (new.counts.listing.events ≡ old.counts.listing.events ++ packet.items)
   pub counted : OnOk result (IsCounted new.counts)
   pub can_log : OnOk result (CanLog bays new)
-  pub moved : OnOk result (journal_after ≡ record journal { gate = next_gate journal.gate (payload_of written packet) })
+  pub moved : OnOk result (journal_after ≡ record journal { gate = next_gate journal.gate (payload_of old.counts.listing.version packet) })
   pub file : journal_after.file ≡ journal.file
   pub most : journal_after.most ≡ journal.most
   pub shut : OnOk result (IsShutIfTold (bays.files new.bay) (bays.leaves new.bay) JOURNAL journal_after.gate)
-  pub in_step : IfTold (bays.files old.bay) (λ seen. (history : List Packet) → IsWholeAt bays old journal seen history →
+  pub in_step : IfTold (bays.files old.bay) (λ seen. (history : List Packet) → CanHold bays old journal seen history packet →
       OnOk result (IfTold (bays.files new.bay) (λ after. AreInStep bays new after (history ++ packet ∷ []))))
-  pub each_moment : IfTold (bays.files old.bay) (λ seen. (history : List Packet) → IsWholeAt bays old journal seen history →
+  pub each_moment : IfTold (bays.files old.bay) (λ seen. (history : List Packet) → CanHold bays old journal seen history packet →
       (image : Files) → bays.left_since new.bay (bays.moment old.bay) image → IsSoundOver old.counts.listing.settings old.counts.listing.cone history (Some packet) image)
-  pub sound : IfTold (bays.files old.bay) (λ seen. (history : List Packet) → IsWholeAt bays old journal seen history → (file at : ℕ) → result ≢ Err (Unsound file at))
+  pub sound : IfTold (bays.files old.bay) (λ seen. (history : List Packet) → CanHold bays old journal seen history packet → (file at : ℕ) → result ≢ Err (Unsound file at))
   pub shows : IfTold (bays.files new.bay) (λ seen. (file at : ℕ) → IsErrOf result (Unsound file at) →
-      Shows new.counts.listing.settings new.counts.rows new.counts.due.reports (seen FRAMES) file at)
+      Shows new.counts.listing.version new.counts.listing.settings new.counts.rows new.counts.due.reports (seen FRAMES) file at)
   pub seen : Turns Anything (bays.files old.bay) (bays.files new.bay)
   pub now : (image : Files) → bays.leaves new.bay image → bays.left_since new.bay (bays.moment old.bay) image
   pub kept : KeepsBay bays old.bay new.bay (IsErrOf result Failed)
@@ -125,7 +130,7 @@ pub record TakesPacket {B : Type 0} (bays : Bays B) (packet : Packet) (old new :
 -- these items of a journal may be taken again, of which those up to n0, the place of the log's last record, are counted again
 pub record CanReplay {B : Type 0} (bays : Bays B) (n0 : ℕ) (items : List Item) (at : Workplace B) : Type 0 where
   pub own : All (λ item. cone_of at.counts.listing.settings item.key ≡ at.counts.listing.cone) items
-  pub light : AreOfVersion written items
+  pub light : AreOfVersion at.counts.listing.version items
   pub fits : length at.counts.listing.events + length items ≤ capacity at.counts.listing.settings
   pub before_closing : at.counts.listing.closed ≡ true → length at.counts.listing.events + length items ≤ n0
   pub recounted : IsRecounted at.counts n0
@@ -152,11 +157,11 @@ pub record ReplaysItems {B : Type 0} (bays : Bays B) (n0 : ℕ) (place : Journal
       IsOnWay (bays.leaves old.bay) seen history old.counts.listing old.counts.rows old.counts.due.reports old.log n0 →
       (image : Files) → bays.left_since new.bay (bays.moment old.bay) image → IsSound old.counts.listing.settings old.counts.listing.cone history image)
   pub unflushed : last_flush old.counts.listing.settings (length old.counts.listing.events + length items) ≤ max n0 (length old.counts.listing.events) → new.bay ≡ old.bay
-  pub framed : IfTold (bays.files old.bay) (λ seen. HoldsSome old.counts.listing.settings (max n0 (length old.counts.listing.events)) old.counts.rows (seen FRAMES) →
-      OnOk result (IfTold (bays.files new.bay) (λ after. HoldsSome new.counts.listing.settings (max n0 (length new.counts.listing.events)) new.counts.rows (after FRAMES))))
-  pub whole : IfTold (bays.files old.bay) (λ seen. HoldsSome old.counts.listing.settings (max n0 (length old.counts.listing.events)) old.counts.rows (seen FRAMES) →
+  pub framed : IfTold (bays.files old.bay) (λ seen. HoldsSome old.counts.listing.version old.counts.listing.settings (max n0 (length old.counts.listing.events)) old.counts.rows (seen FRAMES) →
+      OnOk result (IfTold (bays.files new.bay) (λ after. HoldsSome new.counts.listing.version new.counts.listing.settings (max n0 (length new.counts.listing.events)) new.counts.rows (after FRAMES))))
+  pub whole : IfTold (bays.files old.bay) (λ seen. HoldsSome old.counts.listing.version old.counts.listing.settings (max n0 (length old.counts.listing.events)) old.counts.rows (seen FRAMES) →
       (at : ℕ) → result ≢ Err (Unsound FRAMES at))
-  pub log : KeepsLogOf bays old.counts.listing.settings (replayed_head n0 old) (replayed_head n0 new) old.bay new.bay result
+  pub log : KeepsLogOf bays old.counts.listing.version old.counts.listing.settings (replayed_head n0 old) (replayed_head n0 new) old.bay new.bay result
   pub keeps : KeepsJournal bays old new result
 
 -- The end: all levels are scanned, the reports listed that are left, and the closing record appended.
@@ -169,7 +174,7 @@ pub record TakesEnd {B : Type 0} (bays : Bays B) (old new : Workplace B) (result
       OnOk result (IfTold (bays.files new.bay) (λ after. AreInStep bays new after history)))
   pub each_moment : IfTold (bays.files old.bay) (λ seen. (history : List Packet) → old.counts.listing.events ≡ events_of history → AreInStep bays old seen history →
       (image : Files) → bays.left_since new.bay (bays.moment old.bay) image → IsSound old.counts.listing.settings old.counts.listing.cone history image)
-  pub sound : IfTold (bays.files old.bay) (λ seen. (history : List Packet) → AreInStep bays old seen history → (file at : ℕ) → result ≢ Err (Unsound file at))
-  pub whole : IfTold (bays.files old.bay) (λ seen. OnOk result (rows_left old.counts.listing.settings written (seen FRAMES) old.counts.rows ≡ None))
+  pub sound : IfTold (bays.files old.bay) (λ seen. (history : List Packet) → AreInStep bays old seen history → IsLightWith old.counts [] → (file at : ℕ) → result ≢ Err (Unsound file at))
+  pub whole : IfTold (bays.files old.bay) (λ seen. OnOk result (rows_left old.counts.listing.settings old.counts.listing.version (seen FRAMES) old.counts.rows ≡ None))
   pub room : new.room ≡ old.room
   pub keeps : KeepsJournal bays old new result

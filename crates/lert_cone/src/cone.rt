@@ -3,7 +3,7 @@
 ghost use Rattle.std.specs.Prelude.{◌≡◌, ℕ, ◌+◌, ◌<◌, ◌≤◌, ◌^◌, ◌↔◌, ◌++◌, [], ◌∷◌, true, false, List, length, replicate, Some, None, Err, IfOk, IfErr, MatchResult, OnOk, OnErr, IsErrOf};
 ghost use Rattle.lert_spec.specs.Counts.{weighed, weight_of};
 ghost use Rattle.lert_spec.specs.Items.{keys_in};
-ghost use Rattle.lert_cone.specs.History.{most_version, written};
+ghost use Rattle.lert_cone.specs.History.{most_version};
 ghost use Rattle.lert_base.specs.Entries.{packet_of};
 ghost use Rattle.lert_base.specs.Packet.{Packet, events_of};
 ghost use Rattle.lert_bay.specs.Files.{Files, IfTold, Turns};
@@ -16,18 +16,19 @@ ghost use Rattle.lert_io.specs.Fault.{HasRisen};
 ghost use Rattle.lert_journal.specs.Payload.{IsJournaled, payload_of};
 ghost use Rattle.lert_spec.specs.Edges.{capacity, weight_room};
 ghost use Rattle.lert_spec.specs.Timely.{IsTimelySoFarIn};
-ghost use Rattle.lert_cone.specs.History.{most_payload};
 ghost use Rattle.lert_cone.specs.InStep.{AreNew};
 ghost use Rattle.lert_cone.specs.JournalPlaces.{places_at_start};
-ghost use Rattle.lert_cone.specs.Room.{IsRoom};
+ghost use Rattle.lert_cone.specs.Room.{IsRoom, weight_from};
+ghost use Rattle.lert_levels.specs.rows.Checked.{IsWeightOf};
 ghost use Rattle.lert_cone.specs.Sound.{AreEmpty, FramesStay, IsSoundOver};
 ghost use Rattle.lert_cone.specs.Stands.{StandsFor, WasSound, Answers, is_broken, is_finished, is_refusal, broken_by, version_of};
 ghost use Rattle.lert_cone.specs.Refuses.{first_weighed};
 ghost use Rattle.lert_cone.specs.Steps.{StepsCone};
 ghost use Rattle.lert_cone.specs.Wrote.{Anything};
+ghost use Rattle.lert_journal.specs.Payload.{most_payload};
 
 use crate::acked::Acked;
-use crate::headers::{is_fresh, write_headers};
+use crate::headers::{MOST_VERSION, is_fresh, write_headers};
 use crate::keys::take_packet;
 use crate::refusal::{CreateFault, CreateRefused};
 use crate::report_log::ReportLog;
@@ -108,9 +109,9 @@ impl<B: Bay, T: CountTable> Model for Cone<B, T> {
 }
 
 impl<B: Bay, T: CountTable> Cone<B, T> {
-    /// A cone without a packet, over a room as `new` made it: writes and syncs the headers and the first gates of the journal
-    /// and the log. Takes no memory. A refusal hands the bay and the room back; after `Failed` any bytes may stand in these
-    /// two files.
+    /// A cone without a packet, over a room as `new` made it: writes and syncs the headers and the first gates of the
+    /// journal and the log, of files of version 2. Takes no memory. A refusal hands the bay and the room back; after
+    /// `Failed` any bytes may stand in these two files.
     pub fn create(
         room: ConeRoom<T>,
         cone: u32,
@@ -121,7 +122,7 @@ impl<B: Bay, T: CountTable> Cone<B, T> {
         ensures made { IfOk result (λ c. c ≡ record {
           bay = c.bay;
           made = c.bay;
-          listing = record { settings = room.settings; cone = cone; events = []; closed = false };
+          listing = record { settings = room.settings; version = most_version; cone = cone; events = []; closed = false };
           rows = replicate room.settings.levels [];
           reports = [];
           events = 0;
@@ -130,7 +131,7 @@ impl<B: Bay, T: CountTable> Cone<B, T> {
           over = None;
           gate = 32;
           log = record { gate = 8; most = most_record room.settings; named = 0; places = places_at_start room.settings };
-          last = record { n0 = 0; offset = 32; first = 1; closed = false; log_end = 8 };
+          last = record { n0 = 0; offset = 32; first = 1; closed = false; log_end = 8; version = most_version; weight = 0 };
         }) }
         ensures was_sound { IfOk result (λ c. WasSound B.files c) }
         ensures stands_for { IfOk result (λ c. StandsFor B.files B.leaves B.faults c []) }
@@ -154,7 +155,7 @@ impl<B: Bay, T: CountTable> Cone<B, T> {
                     bay,
                     tally,
                     journal,
-                    last: LogPoint::without_record(log.gate()),
+                    last: LogPoint::without_record(log.gate(), MOST_VERSION),
                     log,
                     entry,
                     buffer,
@@ -168,12 +169,13 @@ impl<B: Bay, T: CountTable> Cone<B, T> {
         }
     }
 
-    /// Takes the packet of an entry, whose items weigh 1 to 255 each: appends it to the journal, and then takes its items, one after another. At a flush position
-    /// the log gets a record. Ok comes when the packet is on the disk and its items are counted. No clause tells in which order
-    /// journal and memory take a packet without a flush, since memory is lost with the machine. What it says of its refusals, of
-    /// a fault in the middle and of the bay is what each call says that steps a cone on: `StepsCone`. It refuses before its first
-    /// step, tested in this order: `Closed` or `Broken`, `CapacityFull`, `WeightFull`, and `OldJournal`, where its files are of
-    /// version 1 and an item weighs another amount than 1.
+    /// Takes the packet of an entry, whose items weigh 1 to 255 each: appends it to the journal, and then takes its items,
+    /// one after another. At a flush position the log gets a record. Ok comes when the packet is on the disk and its items
+    /// are counted. No clause tells in which order journal and memory take a packet without a flush, since memory is lost
+    /// with the machine. What it says of its refusals, of a fault in the middle and of the bay is what each call says that
+    /// steps a cone on: `StepsCone`. It refuses before its first step, tested in this order: `Closed` or `Broken`,
+    /// `CapacityFull`, `WeightFull`, and `OldJournal`, where its files are of version 1 and an item weighs another amount
+    /// than 1.
     pub fn admit(&mut self, entry: &Entry) -> Result<Acked, ConeFault>
         requires fits { IsJournaled most_version self.old.listing.settings self.old.listing.cone (packet_of entry.now) }
 
@@ -194,7 +196,7 @@ impl<B: Bay, T: CountTable> Cone<B, T> {
           reports = self.new.reports;
           events = self.old.events + length entry.now.keys.items;
           weight = self.old.weight + weight_of weighed entry.now.keys.items;
-          gate = next_gate self.old.gate (payload_of written (packet_of entry.now));
+          gate = next_gate self.old.gate (payload_of self.old.listing.version (packet_of entry.now));
           log = self.new.log;
         }) }
 
@@ -274,12 +276,13 @@ impl<B: Bay, T: CountTable> Cone<B, T> {
         self.events
     }
 
-    /// What these items weigh together: from 0 to the threshold for each key that it has room to report, which is below 2^54. Of a
-    /// broken cone it says no more.
+    /// What these items weigh together, 1 to 255 each, or 1 in files of version 1. Of a cone that was opened again it is the
+    /// sum of the frames that the log's last record named then, and what the items behind these weigh. Of a broken cone it
+    /// says no more than that so many items may weigh so much.
     pub fn weight(&self) -> u64
         ensures value { result ≡ self.now.weight }
-        ensures within { result ≤ weight_room self.now.listing.settings }
-        ensures memory { is_broken self.now.state ≡ false → result ≡ weight_of weighed self.now.listing.events }
+        ensures within { IsWeightOf (version_of self.now) self.now.events result }
+        ensures memory { is_broken self.now.state ≡ false → result ≡ weight_from self.now.listing.settings self.now.last self.now.listing.events }
     {
         self.weight
     }
@@ -312,9 +315,9 @@ fn begin<B: Bay>(
     cone: u32,
 ) -> Result<(GateLog, ReportLog), CreateFault>
     requires named { cone < 2 ^ settings.now.cone_bits }
-    ensures journal { IfOk result (λ logs. logs.0 ≡ record { file = JOURNAL; gate = 32; most = most_payload settings.now }) }
+    ensures journal { IfOk result (λ logs. logs.0 ≡ record { file = JOURNAL; gate = 32; most = most_payload most_version settings.now }) }
     ensures log { IfOk result (λ logs. logs.1 ≡ record { gate = 8; most = most_record settings.now; named = 0; places = places_at_start settings.now }) }
-    ensures begun { OnOk result (IfTold (B.files bay.new) (λ seen. AreNew settings.now cone (B.leaves bay.new) seen)) }
+    ensures begun { OnOk result (IfTold (B.files bay.new) (λ seen. AreNew most_version settings.now cone (B.leaves bay.new) seen)) }
     ensures fresh { IfTold (B.files bay.old) (λ seen. OnOk result (AreEmpty seen)) }
     ensures not_fresh { IfTold (B.files bay.old) (λ seen. IsErrOf result CreateFault.NotFresh → AreEmpty seen → ⊥) }
     ensures unwritten { IfTold (B.files bay.old) (λ seen. OnErr result ((AreEmpty seen → ⊥) →

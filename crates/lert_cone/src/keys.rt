@@ -3,7 +3,6 @@
 ghost use Rattle.std.specs.Prelude.{◌≡◌, ℕ, ◌+◌, ◌≤◌, ◌<◌, [], ◌∷◌, ◌++◌, length, All};
 ghost use Rattle.lert_spec.specs.Edges.{key_limit};
 ghost use Rattle.lert_spec.specs.Items.{AreOfVersion};
-ghost use Rattle.lert_cone.specs.History.{written};
 ghost use Rattle.lert_base.specs.Entries.{packet_of};
 ghost use Rattle.lert_levels.specs.rows.Rows.{directory_text};
 ghost use Rattle.lert_spec.specs.Mix.{cone_of};
@@ -11,7 +10,6 @@ ghost use Rattle.lert_cone.specs.Appends.{AppendsRecord};
 ghost use Rattle.lert_cone.specs.Takes.{CanLog, CanReplay, CanTake, CanTakePacket, ReplaysItems, TakesEnd, TakesItems, TakesPacket};
 ghost use Rattle.lert_cone.specs.Tally.{IsCounted, IsRecounted};
 
-use crate::headers::WRITTEN;
 use crate::items::Items;
 use crate::journal_places::JournalPlace;
 use crate::report_log::ReportLog;
@@ -42,7 +40,7 @@ pub fn take_packet<B: Bay, T: CountTable>(
         first: tally.len() + 1,
     };
     // The journal before the items are counted: a flush among them writes a record that counts on the packet.
-    append_entry(journal, bay, entry, buffer, WRITTEN)?;
+    append_entry(journal, bay, entry, buffer, tally.version())?;
     take_items(tally, log, bay, place, &items, buffer)
 }
 
@@ -110,8 +108,8 @@ fn write_record<B: Bay, T: CountTable>(
     log.append(bay, kind, n0, tally.directory(), reports, buffer)
 }
 
-/// Takes items that are read from the journal's record at `place`: those up to `n0`, where the log's last record was written, are only
-/// counted again, and those behind it are taken.
+/// Takes items that are read from the journal's record at `place`: those up to `n0`, where the log's last record was
+/// written, are only counted again, and those behind it are taken.
 pub fn replay_items<B: Bay, T: CountTable>(
     tally: &mut Tally<B, T>,
     log: &mut ReportLog,
@@ -139,7 +137,7 @@ pub fn replay_items<B: Bay, T: CountTable>(
 // Counts items again, none of which is behind n0.
 fn count_again<B: Bay, T: CountTable>(tally: &mut Tally<B, T>, n0: u64, items: &Items<'_>)
     requires own { All (λ item. cone_of tally.old.listing.settings item.key ≡ tally.old.listing.cone) items.now }
-    requires light { AreOfVersion written items.now }
+    requires light { AreOfVersion tally.old.listing.version items.now }
     requires within { 0 < length items.now → length tally.old.listing.events + length items.now ≤ n0 }
     requires recounted { IsRecounted tally.old n0 }
     ensures listing { tally.new.listing ≡ record tally.old.listing { events = tally.old.listing.events ++ items.now } }

@@ -26,7 +26,7 @@ mod unread;
 
 pub use acked::Acked;
 pub use cone::{Cone, ConeTerms, ReplayingCone};
-pub use headers::{WRITTEN, greatest_payload, is_fresh};
+pub use headers::{MOST_VERSION, greatest_payload, is_fresh};
 pub use lert_base::ConeFault;
 pub use lert_reports::LogPoint;
 pub use packets::{end_left, packet_left};

@@ -28,8 +28,8 @@ pub enum ReplayFault {
     /// A call of the bay failed.
     Failed,
     /// What stands at the gate leaves the format at byte `at` of the journal: as a record of this cone's journal; at the
-    /// gate, where that is closed and the log's last record has more items, or where the record goes past a closing one; or
-    /// at the record's length, where the cone would have more items than it takes.
+    /// gate, where that is closed and the log's last record has more items, or where the record goes past a closing one;
+    /// or at the record's length, where the cone would have more items than it takes, or these would weigh more.
     Malformed { at: u64 },
     /// As of a packet that is admitted.
     Unsound { file: u8, at: u64 },

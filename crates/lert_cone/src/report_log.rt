@@ -81,9 +81,10 @@ impl ReportLog {
         self.places.pass(last, place);
     }
 
-    /// Appends a record behind `n0` events: it names the journal's record that holds the first item of level 0, the frames of the
-    /// directory, and the reports behind those that earlier records name. `buffer` holds five bytes more than the greatest payload; any bytes are in it afterwards. After
-    /// `Failed` the log stands where it stood. Four calls of the bay, two of them syncs. Takes no memory.
+    /// Appends a record behind `n0` events: it names the journal's record that holds the first item of level 0, the frames
+    /// of the directory, and the reports behind those that earlier records name. `buffer` holds five bytes more than the
+    /// greatest payload; any bytes are in it afterwards. After `Failed` the log stands where it stood. Four calls of the
+    /// bay, two of them syncs. Takes no memory.
     pub fn append<B: Bay>(
         &mut self,
         bay: &mut B,

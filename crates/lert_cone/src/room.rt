@@ -2,11 +2,12 @@
 
 ghost use Rattle.std.specs.Prelude.{◌≡◌, ◌*◌, ◌^◌, ◌<◌, [], false, length, IfOk, replicate};
 ghost use Rattle.lert_bay.specs.Files.{Files};
+ghost use Rattle.lert_cone.specs.History.{most_version};
 ghost use Rattle.lert_cone.specs.Room.{IsRoom, room_of};
 ghost use Rattle.lert_cone.specs.Tally.{IsCounted, IsHeld};
 ghost use Rattle.lert_spec.specs.Limits.{IsValid};
 
-use crate::headers::greatest_payload;
+use crate::headers::{MOST_VERSION, greatest_payload};
 use crate::tally::Tally;
 use crate::unread::Unread;
 use lert_base::{CountTable, Entry, KeyList, Settings};
@@ -39,7 +40,8 @@ impl<T: CountTable> ConeRoom<T> {
         ensures room { IfOk result (λ room. IsRoom room.settings room.zero room.levels room.store room.entry.keys (length room.buffer.items)) }
     {
         let most_keys = PACKETS * settings.numbers().packet as usize;
-        let most_text = 5 + greatest_payload(settings).max(greatest_record(settings)) as usize;
+        let most_text = 5
+            + greatest_payload(settings, MOST_VERSION).max(greatest_record(settings)) as usize;
         Ok(ConeRoom {
             settings: *settings,
             entry: Entry::new(0, 0, KeyList::with_room(alloc, most_keys)?),
@@ -65,7 +67,7 @@ impl<T: CountTable> ConeRoom<T> {
     pub(crate) fn into_parts<B: Bay>(self, bay: &B, cone: u32) -> (Tally<B, T>, Entry, Vec<u8>)
         requires named { cone < 2 ^ self.settings.cone_bits }
         requires room { IsRoom self.settings self.zero self.levels self.store self.entry.keys (length self.buffer.items) }
-        ensures listing { result.0.listing ≡ record { settings = self.settings; cone = cone; events = []; closed = false } }
+        ensures listing { result.0.listing ≡ record { settings = self.settings; version = most_version; cone = cone; events = []; closed = false } }
         ensures rows { result.0.rows ≡ replicate self.settings.levels [] }
         ensures none { result.0.due.reports ≡ [] }
         ensures counted { IsCounted result.0 }
@@ -81,9 +83,9 @@ impl<T: CountTable> ConeRoom<T> {
             entry,
             buffer,
         } = self;
-        let unread = Unread::of(bay, &settings, cone, 0);
+        let unread = Unread::of(bay, &settings, MOST_VERSION, cone, 0);
         (
-            Tally::new(&settings, cone, zero, levels, store, unread),
+            Tally::new(&settings, MOST_VERSION, cone, zero, levels, store, unread),
             entry,
             buffer,
         )

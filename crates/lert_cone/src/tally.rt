@@ -5,10 +5,9 @@ ghost use Rattle.lert_bay.specs.Files.{Files};
 ghost use Rattle.lert_spec.specs.Edges.{key_limit, edge, capacity};
 ghost use Rattle.lert_spec.specs.Mix.{cone_of};
 ghost use Rattle.lert_spec.specs.Counts.{weighed};
-ghost use Rattle.lert_spec.specs.Items.{most_weight, AreOfVersion};
+ghost use Rattle.lert_spec.specs.Items.{most_weight, AreOfVersion, IsVersion};
 ghost use Rattle.lert_spec.proofs.LookLaws.{HaveKeys};
 ghost use Rattle.lert_spec.proofs.TailLaws.{IsPartOf};
-ghost use Rattle.lert_cone.specs.History.{written};
 ghost use Rattle.lert_levels.specs.rows.Rows.{IsAt, AreRows, directory_text};
 
 use crate::due::Due;
@@ -67,6 +66,8 @@ impl From<Failed> for TakeFault {
 #[derive(Drop)]
 pub struct Tally<B: Bay, T: CountTable> {
     settings: Settings,
+    // That of the cone's files.
+    version: u8,
     cone: u32,
     zero: Zero<T>,
     levels: Levels<T>,
@@ -87,14 +88,14 @@ impl<B: Bay, T: CountTable> Model for Tally<B, T> {
     ghost Value = { Tallied };
 
     ghost view = { λ t. record {
-      listing = record { settings = t.settings; cone = t.cone; events = t.unread ++ t.taken; closed = t.closed };
+      listing = record { settings = t.settings; version = t.version; cone = t.cone; events = t.unread ++ t.taken; closed = t.closed };
       young = t.zero;
       rows = t.levels.rows;
       due = due_in t.due;
     } };
 
     ghost invariant = { λ t. IsTally (record {
-      listing = record { settings = t.settings; cone = t.cone; events = t.unread ++ t.taken; closed = t.closed };
+      listing = record { settings = t.settings; version = t.version; cone = t.cone; events = t.unread ++ t.taken; closed = t.closed };
       young = t.zero;
       rows = t.levels.rows;
       due = due_in t.due;
@@ -105,9 +106,10 @@ impl<B: Bay, T: CountTable> Tally<B, T> {
     ghost use Rattle.lert_cone.specs.Tally.{IsCounted, IsHeld, IsRecounted};
     ghost use Rattle.lert_cone.specs.Counts.{CountsEnd, CountsItem};
 
-    /// No item yet.
+    /// No item yet, in files of `version`.
     pub fn new(
         settings: &Settings,
+        version: u8,
         cone: u32,
         zero: Zero<T>,
         levels: Levels<T>,
@@ -115,24 +117,26 @@ impl<B: Bay, T: CountTable> Tally<B, T> {
         unread: Unread<B>,
     ) -> Tally<B, T>
         requires named { cone < 2 ^ settings.now.cone_bits }
+        requires known { IsVersion version }
         requires zero { zero ≡ record { settings = settings.now; from = 0; to = 0; bins = [] } }
-        requires levels { levels ≡ record { settings = settings.now; version = written; rows = replicate settings.now.levels [] } }
+        requires levels { levels ≡ record { settings = settings.now; version = version; rows = replicate settings.now.levels [] } }
         requires store { store ≡ record { settings = settings.now; reports = [] } }
         requires unread { unread ≡ [] }
-        ensures listing { result.listing ≡ record { settings = settings.now; cone = cone; events = []; closed = false } }
+        ensures listing { result.listing ≡ record { settings = settings.now; version = version; cone = cone; events = []; closed = false } }
         ensures rows { result.rows ≡ replicate settings.now.levels [] }
         ensures none { result.due.reports ≡ [] }
         ensures counted { IsCounted result }
         ensures held { (seen : Files) → IsHeld result seen }
     {
         let _valid = settings.numbers();
-        Tally::adopted(settings, cone, zero, levels, store, unread, false)
+        Tally::adopted(settings, version, cone, zero, levels, store, unread, false)
     }
 
     /// The items that aren't read, none of which level 0 has, over levels and reports as a log's last record has them.
     /// `recount` takes the items behind them up to that record again.
     pub fn adopted(
         settings: &Settings,
+        version: u8,
         cone: u32,
         zero: Zero<T>,
         levels: Levels<T>,
@@ -141,17 +145,18 @@ impl<B: Bay, T: CountTable> Tally<B, T> {
         closed: bool,
     ) -> Tally<B, T>
         requires named { cone < 2 ^ settings.now.cone_bits }
+        requires known { IsVersion version }
         requires zero { zero ≡ record { settings = settings.now; from = 0; to = 0; bins = [] } }
         requires levels { levels.settings ≡ settings.now }
-        requires version { levels.version ≡ written }
+        requires version { levels.version ≡ version }
         requires are { AreRows settings.now levels.rows }
         requires store { store.settings ≡ settings.now }
         requires own { All (λ report. cone_of settings.now report.key ≡ cone) store.reports }
         requires keys { HaveKeys settings.now weighed unread }
         requires keys_own { IsPartOf weighed settings.now cone unread }
-        requires light { AreOfVersion written unread }
+        requires light { AreOfVersion version unread }
         requires within { length unread ≤ capacity settings.now }
-        ensures listing { result.listing ≡ record { settings = settings.now; cone = cone; events = unread; closed = closed } }
+        ensures listing { result.listing ≡ record { settings = settings.now; version = version; cone = cone; events = unread; closed = closed } }
         ensures young { result.young ≡ zero }
         ensures rows { result.rows ≡ levels.rows }
         ensures reports { result.due.reports ≡ store.reports }
@@ -161,6 +166,7 @@ impl<B: Bay, T: CountTable> Tally<B, T> {
         let len = unread.len();
         Tally {
             settings: *settings,
+            version,
             cone,
             zero,
             levels,
@@ -178,6 +184,14 @@ impl<B: Bay, T: CountTable> Tally<B, T> {
         ensures { result.now ≡ self.now.listing.settings }
     {
         &self.settings
+    }
+
+    /// The version of its files: 1, in which each item weighs 1, or 2.
+    pub fn version(&self) -> u8
+        ensures value { result ≡ self.now.listing.version }
+        ensures known { IsVersion result }
+    {
+        self.version
     }
 
     /// The number of the cone.
@@ -228,7 +242,7 @@ impl<B: Bay, T: CountTable> Tally<B, T> {
         requires own { cone_of self.old.listing.settings item.key ≡ self.old.listing.cone }
         requires below { item.key < key_limit self.old.listing.settings }
         requires some { 1 ≤ item.weight }
-        requires light { item.weight ≤ most_weight written }
+        requires light { item.weight ≤ most_weight self.old.listing.version }
         requires fits { length self.old.listing.events < capacity self.old.listing.settings }
         requires counted { IsCounted self.old }
         ensures { CountsItem B.Bay item bay.old bay.new self.old self.new result }

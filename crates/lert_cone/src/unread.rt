@@ -13,6 +13,7 @@ use std::snapshot::Snapshot;
 #[derive(Drop)]
 pub struct Unread<B: Bay> {
     settings: Settings,
+    version: u8,
     cone: u32,
     len: u64,
     made: Snapshot<B>,
@@ -25,16 +26,17 @@ impl<B: Bay> Model for Unread<B> {
 
     ghost Value = { List Item };
 
-    ghost view = { λ u. unread u.settings u.cone u.len (B.files u.made.value) };
+    ghost view = { λ u. unread u.version u.settings u.cone u.len (B.files u.made.value) };
 }
 
 impl<B: Bay> Unread<B> {
     /// So many items from the first one of a bay's journal on. Makes no call of the bay.
-    pub fn of(bay: &B, settings: &Settings, cone: u32, len: u64) -> Unread<B>
-        ensures { result ≡ unread settings.now cone len (B.files bay.now) }
+    pub fn of(bay: &B, settings: &Settings, version: u8, cone: u32, len: u64) -> Unread<B>
+        ensures { result ≡ unread version settings.now cone len (B.files bay.now) }
     {
         Unread {
             settings: *settings,
+            version,
             cone,
             len,
             made: Snapshot::of(bay),

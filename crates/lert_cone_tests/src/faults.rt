@@ -109,7 +109,7 @@ fn a_failed_flush_or_record_breaks_the_cone_and_leaves_the_packet(rt: HostRuntim
     // the four that append its record.
     for call in 56..62 {
         let journal = left_broken(&rt, rt.alloc(), call, &keys, &[7]);
-        assert!(rt; journal.len() == 33 + 12 * 21, "call {call}");
+        assert!(rt; journal.len() == 33 + 12 * 22, "call {call}");
     }
 }
 

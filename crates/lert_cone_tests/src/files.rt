@@ -14,8 +14,8 @@ use std::alloc::Global;
 use std::process::Abort;
 
 // The journal of one packet of three keys 7.
-pub const JOURNAL_TEXT: [u8; 70] =
-    *b"LERTJ\x01\0\0\x03\0\0\0\x20\0\0\0\x04\0\0\0\x08\0\0\0\x03\x02\x02\0\0\0\0\0\x01\x20\0\0\0\0\0\0\0\0\0\0\0\x07\0\0\0\0\0\0\0\x07\0\0\0\0\0\0\0\x07\0\0\0\0\0\0\0\0";
+pub const JOURNAL_TEXT: [u8; 73] =
+    *b"LERTJ\x02\0\0\x03\0\0\0\x20\0\0\0\x04\0\0\0\x08\0\0\0\x03\x02\x02\0\0\0\0\0\x01\x23\0\0\0\0\0\0\0\0\0\0\0\x07\0\0\0\0\0\0\0\x01\x07\0\0\0\0\0\0\0\x01\x07\0\0\0\0\0\0\0\x01\0";
 
 // The log that they leave: the closing record after three events, which names no frame, and one report.
 const LOG_TEXT: [u8; 61] =

@@ -12,20 +12,23 @@ const OTHERS: Numbers = Numbers {
     ..SMALL
 };
 
-// A header of these numbers, and a closed gate behind it.
+// A header of these numbers, and a closed gate behind it, also of the first version.
 const TEXT: [u8; 33] =
+    *b"LERTJ\x02\0\0\x03\0\0\0\x20\0\0\0\x04\0\0\0\x08\0\0\0\x03\x02\x02\0\0\0\0\0\0";
+
+const FIRST: [u8; 33] =
     *b"LERTJ\x01\0\0\x03\0\0\0\x20\0\0\0\x04\0\0\0\x08\0\0\0\x03\x02\x02\0\0\0\0\0\0";
 
 const SECOND_CONE: [u8; 33] =
-    *b"LERTJ\x01\0\0\x03\0\0\0\x20\0\0\0\x04\0\0\0\x08\0\0\0\x03\x02\x02\0\x01\0\0\0\0";
+    *b"LERTJ\x02\0\0\x03\0\0\0\x20\0\0\0\x04\0\0\0\x08\0\0\0\x03\x02\x02\0\x01\0\0\0\0";
 
-// What is read of a journal of these bytes, with these numbers.
+// The version that is read of a journal of these bytes, with these numbers.
 fn answer_to(
     rt: &impl Abort,
     alloc: Global,
     numbers: Numbers,
     bytes: &[u8],
-) -> Result<(), ReopenFault> {
+) -> Result<u8, ReopenFault> {
     let settings = settings_of(rt, numbers);
     let mut bay = with_file(rt, alloc, JOURNAL, bytes);
     read_journal_header(&mut bay, &settings, 0)
@@ -33,24 +36,29 @@ fn answer_to(
 
 const OWN: Kept = Kept {
     cone: 0,
-    version: 1,
+    version: 2,
     numbers: SMALL,
 };
 
-const SECOND: Kept = Kept {
-    cone: 1,
-    version: 1,
-    numbers: SMALL,
-};
+const OLD: Kept = Kept { version: 1, ..OWN };
 
-// Numbers, a journal of which so many bytes are there, and what is read of it.
-const CASES: [(Numbers, &[u8], usize, Result<(), ReopenFault>); 7] = [
-    (SMALL, &TEXT, 33, Ok(())),
+const SECOND: Kept = Kept { cone: 1, ..OWN };
+
+// Numbers, a journal of which so many bytes are there, and the version that is read of it.
+const CASES: [(Numbers, &[u8], usize, Result<u8, ReopenFault>); 11] = [
+    (SMALL, &TEXT, 33, Ok(2)),
+    (SMALL, &FIRST, 33, Ok(1)),
     (
         OTHERS,
         &TEXT,
         33,
         Err(ReopenFault::OtherSettings { kept: OWN }),
+    ),
+    (
+        OTHERS,
+        &FIRST,
+        33,
+        Err(ReopenFault::OtherSettings { kept: OLD }),
     ),
     (
         SMALL,
@@ -74,6 +82,25 @@ const CASES: [(Numbers, &[u8], usize, Result<(), ReopenFault>); 7] = [
         Err(ReopenFault::Malformed {
             file: JOURNAL,
             at: 20,
+        }),
+    ),
+    // A third version, and another byte behind the second one.
+    (
+        SMALL,
+        b"LERTJ\x03\0\0",
+        8,
+        Err(ReopenFault::Malformed {
+            file: JOURNAL,
+            at: 5,
+        }),
+    ),
+    (
+        SMALL,
+        b"LERTJ\x02\x01\0",
+        8,
+        Err(ReopenFault::Malformed {
+            file: JOURNAL,
+            at: 6,
         }),
     ),
     (
@@ -101,7 +128,7 @@ fn check_header(
     alloc: Global,
     numbers: Numbers,
     bytes: &[u8],
-    wanted: Result<(), ReopenFault>,
+    wanted: Result<u8, ReopenFault>,
 ) {
     let answer = answer_to(rt, alloc, numbers, bytes);
     assert!(rt; answer == wanted, "of {} bytes", bytes.len());

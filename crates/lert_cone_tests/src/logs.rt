@@ -42,6 +42,7 @@ fn read_into<B: Bay>(
         bay,
         &settings_of(rt, SMALL),
         0,
+        2,
         store,
         directory,
         &mut buffer,
@@ -89,7 +90,8 @@ fn check_left(rt: &impl Abort, alloc: Global, bytes: &[u8], at: u64) {
     );
 }
 
-// Whole logs, with their end, their reports, and their directory.
+// Whole logs of cones whose files are of version 2, with their end, their reports, and their directory. What the frames
+// weigh isn't read there.
 const WHOLE: [(&[u8], LogPoint, &[Report], &[u8]); 3] = [
     (
         b"LERTL\x01\0\0\0\x01",
@@ -99,6 +101,8 @@ const WHOLE: [(&[u8], LogPoint, &[Report], &[u8]); 3] = [
             first: 1,
             closed: false,
             log_end: 8,
+            version: 2,
+            weight: 0,
         },
         &[],
         &[0, 0],
@@ -111,6 +115,8 @@ const WHOLE: [(&[u8], LogPoint, &[Report], &[u8]); 3] = [
             first: 1,
             closed: true,
             log_end: 60,
+            version: 2,
+            weight: 0,
         },
         &[Report { key: 7, at: 3 }],
         &[0, 0],
@@ -123,6 +129,8 @@ const WHOLE: [(&[u8], LogPoint, &[Report], &[u8]); 3] = [
             first: 2,
             closed: true,
             log_end: 114,
+            version: 2,
+            weight: 0,
         },
         &[Report { key: 7, at: 12 }, Report { key: 8, at: 13 }],
         &[1, 0, 0],

@@ -26,16 +26,16 @@ const LONG: Numbers = Numbers {
     packet: 1,
 };
 
-// A record of one key takes 21 bytes: behind a header of 32 those of 1,000 keys end at 21,032, where a closed gate
+// A record of one key takes 22 bytes: behind a header of 32 those of 1,000 keys end at 22,032, where a closed gate
 // stands. The last flush came with key 1,000. Behind it level 0 holds the keys from 993 on: the bins have four keys,
 // and 992 is the last multiple of four with eight keys behind it at least. The record of key 993 begins at 32 + 992 *
-// 21.
-const JOURNAL_LEN: usize = 21_033;
+// 22.
+const JOURNAL_LEN: usize = 22_033;
 
-const NAMED: usize = 20_864;
+const NAMED: usize = 21_856;
 
-// The header, the records of eight keys, and the closed gate. The contract allows 21 * (3 * 4 + 8 * 1) + 64 = 484.
-const READ: u64 = 32 + 8 * 21 + 1;
+// The header, the records of eight keys, and the closed gate. The contract allows 22 * (3 * 4 + 8 * 1) + 64 = 504.
+const READ: u64 = 32 + 8 * 22 + 1;
 
 // These two come three times, the second one twice among the keys that aren't read again.
 const EARLY: u64 = 5_000;
@@ -205,17 +205,19 @@ fn damaged(rt: &impl Abort, alloc: Global, bay: &MemBay, at: usize, byte: u8) ->
 }
 
 // A place of the journal, the byte there that is another one, and where the journal leaves its format then.
-const DAMAGES: [(usize, u8, Option<u64>); 7] = [
+const DAMAGES: [(usize, u8, Option<u64>); 9] = [
     // The first gate is closed, the second record has no byte, and key 10 is another one.
     (32, 0, None),
-    (54, 0, None),
-    (32 + 9 * 21 + 13, 255, None),
-    // The last byte that isn't read, and in the first record that is: its gate is closed, so that keys are missing,
-    // its length is too great, and there is no such caller.
+    (55, 0, None),
+    (32 + 9 * 22 + 13, 255, None),
+    // The last byte that isn't read, a weight that may be 0 there, and in the first record that is: its gate is closed, so
+    // that keys are missing, its length is too great, there is no such caller, and its key weighs nothing.
     (NAMED - 1, 255, None),
+    (NAMED - 1, 0, None),
     (NAMED, 0, Some(NAMED as u64)),
     (NAMED + 2, 255, Some(NAMED as u64 + 1)),
     (NAMED + 5, 64, Some(NAMED as u64 + 5)),
+    (NAMED + 21, 0, Some(NAMED as u64 + 21)),
 ];
 
 fn left_at(at: u64) -> ReopenFault {

@@ -86,17 +86,17 @@ const PACKETS: [&[u64]; 8] = [
     &[34, 35, 36, 37],
 ];
 
-// A record of n keys takes 13 + 8n bytes, the first one behind 32. The bins of level 0 have four keys: it begins behind
+// A record of n keys takes 13 + 9n bytes, the first one behind 32. The bins of level 0 have four keys: it begins behind
 // 4 at the flush at 12, behind 8 at 16, and so on, behind 28 at 36 and at the end.
 const DUE: [(u64, u64, u64); 8] = [
-    (12, 90, 5),
-    (16, 90, 5),
-    (20, 143, 10),
-    (24, 143, 10),
-    (28, 257, 21),
-    (32, 257, 21),
-    (36, 326, 28),
-    (37, 326, 28),
+    (12, 94, 5),
+    (16, 94, 5),
+    (20, 152, 10),
+    (24, 152, 10),
+    (28, 277, 21),
+    (32, 277, 21),
+    (36, 353, 28),
+    (37, 353, 28),
 ];
 
 #[test]

@@ -8,15 +8,19 @@ use lert_recover::{ReopenFault, reopen};
 use std::alloc::Global;
 use std::process::Abort;
 
-// The journal of a packet of three keys 7, of that and another one, and of one that reaches the first flush.
-const THREE: [u8; 70] =
-    *b"LERTJ\x01\0\0\x03\0\0\0 \0\0\0\x04\0\0\0\x08\0\0\0\x03\x02\x02\0\0\0\0\0\x01 \0\0\0\0\0\0\0\0\0\0\0\x07\0\0\0\0\0\0\0\x07\0\0\0\0\0\0\0\x07\0\0\0\0\0\0\0\0";
+// The journal of a packet of three keys 7, which the first version had without weights, of that and another one, and of one
+// that reaches the first flush.
+const THREE: [u8; 73] =
+    *b"LERTJ\x02\0\0\x03\0\0\0\x20\0\0\0\x04\0\0\0\x08\0\0\0\x03\x02\x02\0\0\0\0\0\x01\x23\0\0\0\0\0\0\0\0\0\0\0\x07\0\0\0\0\0\0\0\x01\x07\0\0\0\0\0\0\0\x01\x07\0\0\0\0\0\0\0\x01\0";
 
-const SIX: [u8; 107] =
-    *b"LERTJ\x01\0\0\x03\0\0\0 \0\0\0\x04\0\0\0\x08\0\0\0\x03\x02\x02\0\0\0\0\0\x01 \0\0\0\0\0\0\0\0\0\0\0\x07\0\0\0\0\0\0\0\x07\0\0\0\0\0\0\0\x07\0\0\0\0\0\0\0\x01 \0\0\0\0\0\0\0\0\0\0\0\x08\0\0\0\0\0\0\0\x09\0\0\0\0\0\0\0\x0a\0\0\0\0\0\0\0\0";
+const FIRST_THREE: [u8; 70] =
+    *b"LERTJ\x01\0\0\x03\0\0\0\x20\0\0\0\x04\0\0\0\x08\0\0\0\x03\x02\x02\0\0\0\0\0\x01\x20\0\0\0\0\0\0\0\0\0\0\0\x07\0\0\0\0\0\0\0\x07\0\0\0\0\0\0\0\x07\0\0\0\0\0\0\0\0";
 
-const TWELVE: [u8; 142] =
-    *b"LERTJ\x01\0\0\x03\0\0\0 \0\0\0\x04\0\0\0\x08\0\0\0\x03\x02\x02\0\0\0\0\0\x01h\0\0\0\0\0\0\0\0\0\0\0\x07\0\0\0\0\0\0\0\x07\0\0\0\0\0\0\0\x07\0\0\0\0\0\0\0\x01\0\0\0\0\0\0\0\x02\0\0\0\0\0\0\0\x03\0\0\0\0\0\0\0\x04\0\0\0\0\0\0\0\x05\0\0\0\0\0\0\0\x06\0\0\0\0\0\0\0\x08\0\0\0\0\0\0\0\x09\0\0\0\0\0\0\0\x0a\0\0\0\0\0\0\0\0";
+const SIX: [u8; 113] =
+    *b"LERTJ\x02\0\0\x03\0\0\0\x20\0\0\0\x04\0\0\0\x08\0\0\0\x03\x02\x02\0\0\0\0\0\x01\x23\0\0\0\0\0\0\0\0\0\0\0\x07\0\0\0\0\0\0\0\x01\x07\0\0\0\0\0\0\0\x01\x07\0\0\0\0\0\0\0\x01\x01\x23\0\0\0\0\0\0\0\0\0\0\0\x08\0\0\0\0\0\0\0\x01\x09\0\0\0\0\0\0\0\x01\x0a\0\0\0\0\0\0\0\x01\0";
+
+const TWELVE: [u8; 154] =
+    *b"LERTJ\x02\0\0\x03\0\0\0\x20\0\0\0\x04\0\0\0\x08\0\0\0\x03\x02\x02\0\0\0\0\0\x01\x74\0\0\0\0\0\0\0\0\0\0\0\x07\0\0\0\0\0\0\0\x01\x07\0\0\0\0\0\0\0\x01\x07\0\0\0\0\0\0\0\x01\x01\0\0\0\0\0\0\0\x01\x02\0\0\0\0\0\0\0\x01\x03\0\0\0\0\0\0\0\x01\x04\0\0\0\0\0\0\0\x01\x05\0\0\0\0\0\0\0\x01\x06\0\0\0\0\0\0\0\x01\x08\0\0\0\0\0\0\0\x01\x09\0\0\0\0\0\0\0\x01\x0a\0\0\0\0\0\0\0\x01\0";
 
 // A log without a record, one that was closed after three keys 7, and one with the record of the first flush.
 const BEGUN: [u8; 9] = *b"LERTL\x01\0\0\0";
@@ -26,6 +30,28 @@ const CLOSED: [u8; 61] =
 
 const FLUSHED: [u8; 62] =
     *b"LERTL\x01\0\0\x010\0\0\0\x01\x0c\0\0\0\0\0\0\0 \0\0\0\0\0\0\0\x01\0\0\0\0\0\0\0\x01\0\0\x01\0\0\0\x07\0\0\0\0\0\0\0\x03\0\0\0\0\0\0\0\0";
+
+// Journals of one packet of a key 7, as heavy as there is room for, 3 * 32, and by one heavier, and of two packets that are
+// too heavy together by one.
+const FULL: [u8; 55] =
+    *b"LERTJ\x02\0\0\x03\0\0\0\x20\0\0\0\x04\0\0\0\x08\0\0\0\x03\x02\x02\0\0\0\0\0\x01\x11\0\0\0\0\0\0\0\0\0\0\0\x07\0\0\0\0\0\0\0\x60\0";
+
+const OVER: [u8; 55] =
+    *b"LERTJ\x02\0\0\x03\0\0\0\x20\0\0\0\x04\0\0\0\x08\0\0\0\x03\x02\x02\0\0\0\0\0\x01\x11\0\0\0\0\0\0\0\0\0\0\0\x07\0\0\0\0\0\0\0\x61\0";
+
+const OVER_IN_TWO: [u8; 77] =
+    *b"LERTJ\x02\0\0\x03\0\0\0\x20\0\0\0\x04\0\0\0\x08\0\0\0\x03\x02\x02\0\0\0\0\0\x01\x11\0\0\0\0\0\0\0\0\0\0\0\x07\0\0\0\0\0\0\0\x5a\x01\x11\0\0\0\0\0\0\0\0\0\0\0\x08\0\0\0\0\0\0\0\x07\0";
+
+// The files of a cone behind its first flush that weighs 96 too: the journal, whose first four keys are 1 and weigh 22 each,
+// the log, and the frame that counts them.
+const HEAVY: [u8; 154] =
+    *b"LERTJ\x02\0\0\x03\0\0\0\x20\0\0\0\x04\0\0\0\x08\0\0\0\x03\x02\x02\0\0\0\0\0\x01\x74\0\0\0\0\0\0\0\0\0\0\0\x01\0\0\0\0\0\0\0\x16\x01\0\0\0\0\0\0\0\x16\x01\0\0\0\0\0\0\0\x16\x01\0\0\0\0\0\0\0\x16\x02\0\0\0\0\0\0\0\x01\x03\0\0\0\0\0\0\0\x01\x04\0\0\0\0\0\0\0\x01\x05\0\0\0\0\0\0\0\x01\x06\0\0\0\0\0\0\0\x01\x08\0\0\0\0\0\0\0\x01\x09\0\0\0\0\0\0\0\x01\x0a\0\0\0\0\0\0\0\x01\0";
+
+const HEAVY_LOG: [u8; 62] =
+    *b"LERTL\x01\0\0\x01\x30\0\0\0\x01\x0c\0\0\0\0\0\0\0\x20\0\0\0\0\0\0\0\x01\0\0\0\0\0\0\0\x01\0\0\x01\0\0\0\x01\0\0\0\0\0\0\0\x01\0\0\0\0\0\0\0\0";
+
+const HEAVY_FRAME: [u8; 44] =
+    *b"\0\0\0\0\0\x20\0\0\x03\0\0\0\x04\0\0\0\0\0\0\0\x2c\xcb\xc2\x34\xfc\xbc\x56\0\x56\0\0\0\0\0\0\0\x2c\xcb\xc2\x34\xfc\xbc\x56\0";
 
 fn bay(rt: &impl Abort, alloc: Global, files: &[&[u8]; 3]) -> MemBay {
     let mut bay = empty_bay(rt, alloc);
@@ -111,9 +137,18 @@ fn check_left(rt: &impl Abort, alloc: Global, files: &[&[u8]; 3], file: u8, at: 
 }
 
 // The files, and the state of the cone that they make, its keys and reports.
-const MAKE: [([&[u8]; 3], ConeState, u64, u64); 3] = [
+const MAKE: [([&[u8]; 3], ConeState, u64, u64); 7] = [
     ([&THREE, &BEGUN, &[]], ConeState::Running, 3, 1),
     ([&THREE, &CLOSED, &[]], ConeState::Finished, 3, 1),
+    ([&FIRST_THREE, &BEGUN, &[]], ConeState::Running, 3, 1),
+    ([&FIRST_THREE, &CLOSED, &[]], ConeState::Finished, 3, 1),
+    ([&FULL, &BEGUN, &[]], ConeState::Running, 1, 1),
+    (
+        [&HEAVY, &HEAVY_LOG, &HEAVY_FRAME],
+        ConeState::Running,
+        12,
+        1,
+    ),
     ([&TWELVE, &BEGUN, &[]], ConeState::Running, 12, 1),
 ];
 
@@ -125,11 +160,14 @@ fn check_all_made(rt: &impl Abort, alloc: Global) {
 }
 
 // The files, and which of them leaves its format, and where.
-const LEAVE: [([&[u8]; 3], u8, u64); 3] = [
+const LEAVE: [([&[u8]; 3], u8, u64); 5] = [
     ([&THREE, &[], &[]], LOG, 0),
     ([&TWELVE, &FLUSHED, &[]], FRAMES, 0),
     // The log was closed after three keys: a record goes past them.
-    ([&SIX, &CLOSED, &[]], JOURNAL, 69),
+    ([&SIX, &CLOSED, &[]], JOURNAL, 72),
+    // The packet with which the weight is too great is left at its length.
+    ([&OVER, &BEGUN, &[]], JOURNAL, 33),
+    ([&OVER_IN_TWO, &BEGUN, &[]], JOURNAL, 55),
 ];
 
 fn check_all_left(rt: &impl Abort, alloc: Global) {
@@ -139,8 +177,15 @@ fn check_all_left(rt: &impl Abort, alloc: Global) {
     }
 }
 
-// Another letter in the journal of three keys, and one of many callers.
-const OTHERS: [(usize, u8, u64); 2] = [(4, b'L', 4), (37, 64, 37)];
+// Other bytes in the journal of three keys, and where each is left: a letter, a third version, the first one though there
+// are weights, one of many callers, and a weight of 0.
+const OTHERS: [(usize, u8, u64); 5] = [
+    (4, b'L', 4),
+    (5, 3, 5),
+    (5, 1, 33),
+    (37, 64, 37),
+    (53, 0, 53),
+];
 
 fn check_other(rt: &impl Abort, alloc: Global, place: usize, byte: u8, at: u64) {
     let journal = changed(rt, alloc, &THREE, &[(place, byte)]);
@@ -154,6 +199,15 @@ fn check_others(rt: &impl Abort, alloc: Global) {
     }
 }
 
+// A frame that counts one more is too heavy with the eight keys behind it, and so are all twelve keys behind the frame, where
+// the log says that the first one has position 5.
+fn check_heavy(rt: &impl Abort, alloc: Global) {
+    let heavier = changed(rt, alloc, &HEAVY_FRAME, &[(28, 87)]);
+    check_left(rt, alloc, &[&HEAVY, &HEAVY_LOG, &heavier], JOURNAL, 33);
+    let misnamed = changed(rt, alloc, &HEAVY_LOG, &[(30, 5)]);
+    check_left(rt, alloc, &[&HEAVY, &misnamed, &HEAVY_FRAME], JOURNAL, 33);
+}
+
 // The log was closed after three keys, which are missing.
 fn check_missing(rt: &impl Abort, alloc: Global) {
     check_left(rt, alloc, &[&THREE[..32], &CLOSED, &[]], JOURNAL, 32);
@@ -164,6 +218,7 @@ fn files_make_a_cone_or_leave_their_format(rt: HostRuntime) {
     check_all_made(&rt, rt.alloc());
     check_all_left(&rt, rt.alloc());
     check_others(&rt, rt.alloc());
+    check_heavy(&rt, rt.alloc());
     check_missing(&rt, rt.alloc());
 }
 
@@ -189,8 +244,8 @@ fn a_flush_that_the_run_did_not_come_to(rt: HostRuntime) {
 }
 
 // Offsets of the journal that a log names, and where the journal leaves its format then. Byte 33 is no open gate and
-// 141 a closed one, before which the log's twelve keys are missing. There the journal ends.
-const NAMED: [(u8, u64); 4] = [(33, 33), (141, 141), (142, 142), (200, 142)];
+// 153 a closed one, before which the log's twelve keys are missing. There the journal ends.
+const NAMED: [(u8, u64); 4] = [(33, 33), (153, 153), (154, 154), (200, 154)];
 
 fn check_named(rt: &impl Abort, alloc: Global, frames: &[u8], offset: u8, at: u64) {
     let log = changed(rt, alloc, &FLUSHED, &[(22, offset)]);

@@ -1,4 +1,5 @@
-//! What a cone refuses for the weights of its items, and that a refusal leaves all as it was.
+//! What a cone takes of items with weights, and what it refuses for them, leaving all as it was: one whose files are of the
+//! second version, and one that was opened again over files of the first.
 
 ghost use Rattle.std.specs.Prelude.{◌≡◌, ◌*◌, ◌<◌, ◌≤◌, length};
 ghost use Rattle.lert_spec.specs.Mix.{cone_of};
@@ -6,14 +7,27 @@ ghost use Rattle.lert_base.specs.Entries.{packet_of};
 ghost use Rattle.lert_journal.specs.Payload.{IsJournaled};
 ghost use Rattle.lert_cone.specs.History.{most_version};
 
-use crate::cones::{check_given, check_listed, check_state, created, empty_bay, small, take};
-use lert_base::{Entry, Item, KeyList, Settings};
+use crate::cones::{
+    check_end, check_given, check_listed, check_state, created, empty_bay, small, take,
+};
+use lert_base::{Entry, Item, KeyList, Report, Settings};
 use lert_bay::{Bay, FRAMES, JOURNAL, LOG, MemBay};
-use lert_cone::{Acked, Cone, ConeFault, ConeState};
+use lert_cone::{Acked, Cone, ConeFault, ConeRoom, ConeState};
 use lert_mixer::cone_of;
 use lert_plain::PlainTable;
+use lert_recover::reopen;
 use std::alloc::Global;
 use std::process::Abort;
+
+// The files of cones of the first version: journals without a packet, with room for one report, and of three keys 7, with room
+// for 32, and a log without a record.
+const OLD_EMPTY: &[u8] =
+    b"LERTJ\x01\0\0\x03\0\0\0\x01\0\0\0\x04\0\0\0\x08\0\0\0\x03\x02\x02\0\0\0\0\0\0";
+
+const OLD_SEVENS: &[u8] =
+    b"LERTJ\x01\0\0\x03\0\0\0\x20\0\0\0\x04\0\0\0\x08\0\0\0\x03\x02\x02\0\0\0\0\0\x01\x20\0\0\0\0\0\0\0\0\0\0\0\x07\0\0\0\0\0\0\0\x07\0\0\0\0\0\0\0\x07\0\0\0\0\0\0\0\0";
+
+const BEGUN: &[u8] = b"LERTL\x01\0\0\0";
 
 // An entry with these items, all of the only cone.
 fn entry(rt: &impl Abort, alloc: Global, settings: &Settings, items: &[Item]) -> Entry
@@ -39,14 +53,14 @@ fn assert_fits(rt: &impl Abort, settings: &Settings, item: Item)
     assert!(rt; 1 <= item.weight);
 }
 
-// The only cone refuses these items in one packet so.
-fn check_refused<B: Bay>(
+// The only cone answers these items in one packet so.
+fn check_answer<B: Bay>(
     rt: &impl Abort,
     alloc: Global,
     settings: &Settings,
     cone: &mut Cone<B, PlainTable>,
     items: &[Item],
-    fault: ConeFault,
+    wanted: Result<Acked, ConeFault>,
 )
     requires eight { settings.now.packet ≡ 8 }
     requires settings { cone.old.listing.settings ≡ settings.now }
@@ -57,7 +71,7 @@ fn check_refused<B: Bay>(
     let len = items.len();
     assert!(rt; 0 < len && len <= 32);
     let packet = entry(rt, alloc, settings, items);
-    assert!(rt; cone.admit(&packet) == Err(fault));
+    assert!(rt; cone.admit(&packet) == wanted);
 }
 
 // The cone has these keys, which weigh 1 each.
@@ -67,22 +81,64 @@ fn check_weight<B: Bay>(rt: &impl Abort, cone: &Cone<B, PlainTable>, events: u64
     assert!(rt; cone.weight() == events);
 }
 
-// A cone over this bay, which is empty, takes these keys and refuses these items, if any, and then takes a key more.
-// Answers the bay that it leaves.
-fn left<B: Bay>(
+// A cone that takes a weight of 3 takes these keys and refuses these items, if any, and then takes a key more. Its files are
+// new ones, or old ones without a packet. Answers the bay that it leaves.
+fn left(
     rt: &impl Abort,
     alloc: Global,
-    bay: B,
+    is_new: bool,
     keys: &[u64],
     refused: Option<(&[Item], ConeFault)>,
-) -> B
-where
-    B: Drop,
-{
+) -> MemBay {
+    if is_new {
+        left_by_new(rt, alloc, keys, refused)
+    } else {
+        left_by_old(rt, alloc, keys, refused)
+    }
+}
+
+fn left_by_new(
+    rt: &impl Abort,
+    alloc: Global,
+    keys: &[u64],
+    refused: Option<(&[Item], ConeFault)>,
+) -> MemBay {
     let settings = small(rt, 1);
-    let mut cone = created(rt, alloc, &settings, bay);
+    let mut cone = created(rt, alloc, &settings, empty_bay(rt, alloc));
     check_row(rt, alloc, &settings, &mut cone, keys, refused);
     cone.into_bay()
+}
+
+fn left_by_old(
+    rt: &impl Abort,
+    alloc: Global,
+    keys: &[u64],
+    refused: Option<(&[Item], ConeFault)>,
+) -> MemBay {
+    let settings = small(rt, 1);
+    let mut cone = opened(rt, alloc, &settings, OLD_EMPTY);
+    check_row(rt, alloc, &settings, &mut cone, keys, refused);
+    cone.into_bay()
+}
+
+// The cone of this journal, and of a log without a record.
+fn opened(
+    rt: &impl Abort,
+    alloc: Global,
+    settings: &Settings,
+    journal: &[u8],
+) -> Cone<MemBay, PlainTable>
+    ensures settings { result.listing.settings ≡ settings.now }
+    ensures cone { result.listing.cone ≡ 0 }
+{
+    let mut bay = empty_bay(rt, alloc);
+    bay.load(JOURNAL, journal).expect(rt, "memory");
+    bay.load(LOG, BEGUN).expect(rt, "memory");
+    let room = ConeRoom::new(alloc, settings).expect(rt, "memory");
+    match reopen(room, 0, bay) {
+        Ok(cone) => cone,
+        Err(_) => panic!(rt; "the files are sound"),
+    }
 }
 
 fn check_row<B: Bay>(
@@ -103,7 +159,7 @@ fn check_row<B: Bay>(
         take(rt, alloc, settings, cone, keys);
     }
     if let Some((items, fault)) = refused {
-        check_refused(rt, alloc, settings, cone, items, fault);
+        check_answer(rt, alloc, settings, cone, items, Err(fault));
     }
     check_weight(rt, cone, n);
     let acked = Acked {
@@ -115,23 +171,10 @@ fn check_row<B: Bay>(
     check_weight(rt, cone, n + 1);
 }
 
-// The keys that a cone has which takes a weight of 3, the items of a packet, and how it refuses them.
-const ROWS: [(&[u64], &[Item], ConeFault); 7] = [
-    (
-        &[],
-        &[Item { key: 7, weight: 2 }, Item { key: 8, weight: 2 }],
-        ConeFault::WeightFull { weight: 0, more: 4 },
-    ),
-    (
-        &[],
-        &[Item { key: 9, weight: 2 }],
-        ConeFault::OldJournal { place: 1 },
-    ),
-    (
-        &[],
-        &[Item { key: 9, weight: 1 }, Item { key: 8, weight: 2 }],
-        ConeFault::OldJournal { place: 2 },
-    ),
+// The keys that a cone has, the items of a packet, and how it refuses them.
+type Row = (&'static [u64], &'static [Item], ConeFault);
+
+const TOO_MANY: [Row; 2] = [
     (
         &[],
         &[
@@ -143,19 +186,41 @@ const ROWS: [(&[u64], &[Item], ConeFault); 7] = [
         ConeFault::CapacityFull { n: 0, len: 4 },
     ),
     (
+        &[5, 6],
+        &[Item { key: 7, weight: 1 }, Item { key: 8, weight: 1 }],
+        ConeFault::CapacityFull { n: 2, len: 2 },
+    ),
+];
+
+const TOO_HEAVY: [Row; 2] = [
+    (
+        &[],
+        &[Item { key: 7, weight: 2 }, Item { key: 8, weight: 2 }],
+        ConeFault::WeightFull { weight: 0, more: 4 },
+    ),
+    (
         &[5],
         &[Item { key: 7, weight: 3 }],
         ConeFault::WeightFull { weight: 1, more: 3 },
+    ),
+];
+
+// How a journal without weights refuses some, for which there is room.
+const TOO_NEW: [Row; 3] = [
+    (
+        &[],
+        &[Item { key: 9, weight: 2 }],
+        ConeFault::OldJournal { place: 1 },
+    ),
+    (
+        &[],
+        &[Item { key: 9, weight: 1 }, Item { key: 8, weight: 2 }],
+        ConeFault::OldJournal { place: 2 },
     ),
     (
         &[5],
         &[Item { key: 7, weight: 2 }],
         ConeFault::OldJournal { place: 1 },
-    ),
-    (
-        &[5, 6],
-        &[Item { key: 7, weight: 1 }, Item { key: 8, weight: 1 }],
-        ConeFault::CapacityFull { n: 2, len: 2 },
     ),
 ];
 
@@ -166,16 +231,92 @@ fn are_same(one: &MemBay, other: &MemBay) -> bool {
         && one.bytes(FRAMES) == other.bytes(FRAMES)
 }
 
-fn check_left(rt: &impl Abort, alloc: Global, keys: &[u64], items: &[Item], fault: ConeFault) {
-    let tried = left(rt, alloc, empty_bay(rt, alloc), keys, Some((items, fault)));
-    let plain = left(rt, alloc, empty_bay(rt, alloc), keys, None);
+fn check_left(
+    rt: &impl Abort,
+    alloc: Global,
+    is_new: bool,
+    keys: &[u64],
+    items: &[Item],
+    fault: ConeFault,
+) {
+    let tried = left(rt, alloc, is_new, keys, Some((items, fault)));
+    let plain = left(rt, alloc, is_new, keys, None);
     assert!(rt; are_same(&tried, &plain));
+}
+
+fn check_rows(rt: &impl Abort, alloc: Global, is_new: bool, rows: &[Row]) {
+    for row in rows {
+        let (keys, items, fault) = *row;
+        check_left(rt, alloc, is_new, keys, items, fault);
+    }
 }
 
 #[test]
 fn a_packet_that_is_refused_for_its_weights_leaves_all(rt: HostRuntime) {
-    for row in &ROWS {
-        let (keys, items, fault) = *row;
-        check_left(&rt, rt.alloc(), keys, items, fault);
+    for is_new in [true, false] {
+        check_rows(&rt, rt.alloc(), is_new, &TOO_MANY);
+        check_rows(&rt, rt.alloc(), is_new, &TOO_HEAVY);
     }
+    check_rows(&rt, rt.alloc(), false, &TOO_NEW);
+}
+
+// The cone takes two items of key 7, which weigh 3 together, and no more than its threshold, and ends.
+fn check_weighed<B: Bay>(
+    rt: &impl Abort,
+    alloc: Global,
+    settings: &Settings,
+    cone: &mut Cone<B, PlainTable>,
+)
+    requires eight { settings.now.packet ≡ 8 }
+    requires settings { cone.old.listing.settings ≡ settings.now }
+    requires cone { cone.old.listing.cone ≡ 0 }
+{
+    let items = [Item { key: 7, weight: 1 }, Item { key: 7, weight: 2 }];
+    let acked = Acked {
+        from: 1,
+        to: 2,
+        reports: 1,
+    };
+    check_answer(rt, alloc, settings, cone, &items, Ok(acked));
+    assert!(rt; cone.weight() == 3);
+    check_state(rt, cone, ConeState::Running, 2);
+    check_end(rt, cone, Ok(1));
+    check_listed(rt, cone, &[Report { key: 7, at: 2 }]);
+}
+
+#[test]
+fn a_key_is_reported_once_its_weights_add_up(rt: HostRuntime) {
+    let settings = small(&rt, 32);
+    let mut cone = created(&rt, rt.alloc(), &settings, empty_bay(&rt, rt.alloc()));
+    check_weighed(&rt, rt.alloc(), &settings, &mut cone);
+}
+
+// A cone of three keys 7, whose journal has no weights, refuses one of 2, and takes one of 1.
+fn check_old<B: Bay>(
+    rt: &impl Abort,
+    alloc: Global,
+    settings: &Settings,
+    cone: &mut Cone<B, PlainTable>,
+)
+    requires eight { settings.now.packet ≡ 8 }
+    requires settings { cone.old.listing.settings ≡ settings.now }
+    requires cone { cone.old.listing.cone ≡ 0 }
+{
+    let heavy = [Item { key: 9, weight: 2 }];
+    let refusal = Err(ConeFault::OldJournal { place: 1 });
+    check_answer(rt, alloc, settings, cone, &heavy, refusal);
+    let acked = Acked {
+        from: 4,
+        to: 4,
+        reports: 1,
+    };
+    check_given(rt, alloc, settings, cone, &[9], Ok(acked));
+    assert!(rt; cone.weight() == 4);
+}
+
+#[test]
+fn a_journal_of_the_first_version_takes_no_weights(rt: HostRuntime) {
+    let settings = small(&rt, 32);
+    let mut cone = opened(&rt, rt.alloc(), &settings, OLD_SEVENS);
+    check_old(&rt, rt.alloc(), &settings, &mut cone);
 }

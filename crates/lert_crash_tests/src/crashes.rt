@@ -148,12 +148,12 @@ pub(crate) fn stopped(rt: &impl Abort, alloc: Global, keys: &[u64], call: u64) -
     }
 }
 
-// The header of the journal of these settings, and what stands in it before the eight keys of a packet: the open gate, how many bytes
-// come, the caller and the trace.
+// The header of the journal of these settings, and what stands in it before the eight keys of a packet, each with its weight: the open
+// gate, how many bytes come, the caller and the trace.
 const HEADER: [u8; 32] =
-    *b"LERTJ\x01\0\0\x03\0\0\0\x20\0\0\0\x04\0\0\0\x08\0\0\0\x03\x02\x02\0\0\0\0\0";
+    *b"LERTJ\x02\0\0\x03\0\0\0\x20\0\0\0\x04\0\0\0\x08\0\0\0\x03\x02\x02\0\0\0\0\0";
 
-const BEFORE_KEYS: [u8; 13] = *b"\x01\x48\0\0\0\0\0\0\0\0\0\0\0";
+const BEFORE_KEYS: [u8; 13] = *b"\x01\x50\0\0\0\0\0\0\0\0\0\0\0";
 
 // The journal of these keys, up to the gate behind its last packet.
 fn journal_of(rt: &impl Abort, alloc: Global, keys: &[u64]) -> Vec<u8> {
@@ -169,6 +169,7 @@ fn push_packet(rt: &impl Abort, text: &mut Vec<u8>, keys: &[u64]) {
     for key in keys {
         text.extend_from_slice(&key.to_le_bytes())
             .expect(rt, "memory");
+        text.push(1).expect(rt, "memory");
     }
 }
 

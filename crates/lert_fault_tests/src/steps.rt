@@ -17,13 +17,13 @@ pub fn recover_words() -> [&'static str; 18] {
 }
 
 // The journal of cone 0: eight keys of the first trace in one packet, a rest of four, and a key of the second trace. Its records end
-// at 109, 154 and 175.
-const FIRST_JOURNAL: [u8; 176] =
-    *b"LERTJ\x01\0\0\x03\0\0\0\x20\0\0\0\x04\0\0\0\x08\0\0\0\x03\x02\x02\x01\0\0\0\0\x01\x48\0\0\0\0\0\0\0\0\0\0\0\xff\xff\xff\xff\xff\xff\xff\xff\xff\xff\xff\xff\xff\xff\xff\xff\0\0\0\0\0\0\0\0\0\0\0\0\0\0\0\0\0\0\0\0\0\0\0\0\0\0\0\0\0\0\0\0\0\0\0\0\0\0\0\0\0\0\0\0\0\0\0\0\x01\x28\0\0\0\0\0\0\0\0\0\0\0\0\0\0\0\0\0\0\0\0\0\0\0\0\0\0\0\0\0\0\0\0\0\0\0\0\0\0\0\0\0\0\0\x01\x10\0\0\0\0\0\0\0\x01\0\0\0\xff\xff\xff\xff\xff\xff\xff\xff\0";
+// at 117, 166 and 188.
+const FIRST_JOURNAL: [u8; 189] =
+    *b"LERTJ\x02\0\0\x03\0\0\0\x20\0\0\0\x04\0\0\0\x08\0\0\0\x03\x02\x02\x01\0\0\0\0\x01\x50\0\0\0\0\0\0\0\0\0\0\0\xff\xff\xff\xff\xff\xff\xff\xff\x01\xff\xff\xff\xff\xff\xff\xff\xff\x01\0\0\0\0\0\0\0\0\x01\0\0\0\0\0\0\0\0\x01\0\0\0\0\0\0\0\0\x01\0\0\0\0\0\0\0\0\x01\0\0\0\0\0\0\0\0\x01\0\0\0\0\0\0\0\0\x01\x01\x2c\0\0\0\0\0\0\0\0\0\0\0\0\0\0\0\0\0\0\0\x01\0\0\0\0\0\0\0\0\x01\0\0\0\0\0\0\0\0\x01\0\0\0\0\0\0\0\0\x01\x01\x11\0\0\0\0\0\0\0\x01\0\0\0\xff\xff\xff\xff\xff\xff\xff\xff\x01\0";
 
-// The journal of cone 1: a key of the first trace, and two of the second one. Its records end at 53 and 82.
-const SECOND_JOURNAL: [u8; 83] =
-    *b"LERTJ\x01\0\0\x03\0\0\0\x20\0\0\0\x04\0\0\0\x08\0\0\0\x03\x02\x02\x01\x01\0\0\0\x01\x10\0\0\0\0\0\0\0\0\0\0\0\x01\0\0\0\0\0\0\0\x01\x18\0\0\0\0\0\0\0\x01\0\0\0\x01\0\0\0\0\0\0\0\x01\0\0\0\0\0\0\0\0";
+// The journal of cone 1: a key of the first trace, and two of the second one. Its records end at 54 and 85.
+const SECOND_JOURNAL: [u8; 86] =
+    *b"LERTJ\x02\0\0\x03\0\0\0\x20\0\0\0\x04\0\0\0\x08\0\0\0\x03\x02\x02\x01\x01\0\0\0\x01\x11\0\0\0\0\0\0\0\0\0\0\0\x01\0\0\0\0\0\0\0\x01\x01\x1a\0\0\0\0\0\0\0\x01\0\0\0\x01\0\0\0\0\0\0\0\x01\x01\0\0\0\0\0\0\0\x01\0";
 
 /// What a run printed that came to its end. Key 0 is due at its third place, and key 2^64 - 1 when the cone is closed: level 0
 /// holds the positions from 5 on then.
@@ -40,36 +40,36 @@ pub const STEPS: [(usize, usize, &str); 8] = [
         "cone 0 events 0 reports 0 open\ncone 1 events 0 reports 0 open\ntotal events 0 reports 0\n",
     ),
     (
-        109,
+        117,
         32,
         "cone 0 events 8 reports 1 open\n0 5\ncone 1 events 0 reports 0 open\ntotal events 8 reports 1\n",
     ),
     (
-        154,
+        166,
         32,
         "cone 0 events 12 reports 1 open\n0 5\ncone 1 events 0 reports 0 open\ntotal events 12 reports 1\n",
     ),
     (
-        154,
-        53,
+        166,
+        54,
         "cone 0 events 12 reports 1 open\n0 5\ncone 1 events 1 reports 0 open\ntotal events 13 reports 1\n",
     ),
     (
-        175,
-        53,
+        188,
+        54,
         "cone 0 events 13 reports 1 open\n0 5\ncone 1 events 1 reports 0 open\ntotal events 14 reports 1\n",
     ),
     (
-        175,
-        82,
+        188,
+        85,
         "cone 0 events 13 reports 1 open\n0 5\ncone 1 events 3 reports 1 open\n1 3\ntotal events 16 reports 2\n",
     ),
     (
-        175,
-        82,
+        188,
+        85,
         "cone 0 events 13 reports 2 closed\n0 5\n18446744073709551615 13\ncone 1 events 3 reports 1 open\n1 3\ntotal events 16 reports 3\n",
     ),
-    (175, 82, WHOLE),
+    (188, 85, WHOLE),
 ];
 
 /// Whether both journals have the packets up to these ends, and no more.

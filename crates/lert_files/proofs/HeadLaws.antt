@@ -1,18 +1,17 @@
 -- What the first bytes of a journal say is one of three: the header of this cone, another one, or a place at which they leave
 -- the format.
-use Rattle.std.proofs.Common.{ℕ, ◌≡◌, ◌≢◌, ◌+◌, ◌<◌, ◌≤◌, ◌^◌, min, nat_lt, Some, None, Result, Ok, Err, List, [], ◌∷◌, ◌++◌, length, take, drop, refl, ap, ap₂, sym, ◌∙◌, subst, arith, inl, inr, ◌⊎◌}
-use Rattle.std.proofs.{Common.length-take, Math.Seq.take-add, lemmas.Bool.{cases_lt, le-ltb}, lemmas.List.{drop_more, get_or-drop, length-drop, take_all, take-take}, lemmas.Option.none-some}
-use Rattle.std.specs.Prelude.{slice_index, if◌then◌else◌, MatchResult, IsErrAnd}
+use Rattle.std.proofs.Common.{ℕ, ◌≡◌, ◌+◌, ◌<◌, ◌≤◌, ◌^◌, min, Some, None, Result, Ok, Err, List, [], ◌∷◌, ◌++◌, length, take, drop, refl, ap, ap₂, sym, ◌∙◌, subst, arith, inl, inr, ◌⊎◌}
+use Rattle.std.proofs.{Common.length-take, Math.Seq.take-add, lemmas.Bool.{cases_lt}, lemmas.List.{drop_more, get_or-drop, length-drop, take_all, take-take}, lemmas.Option.none-some}
+use Rattle.std.specs.Prelude.{slice_index, MatchResult, IsErrAnd}
 use Rattle.byteorder.specs.Endian.{little_bytes}
 use Rattle.lert_base.specs.declared.kept.Kept.{Kept}
 use Rattle.lert_bay.specs.declared.bay.TheConstants.{JOURNAL}
-use Rattle.lert_spec.specs.{declared.numbers.Numbers.Numbers, Limits.IsInLimits, Agreed.agreed}
+use Rattle.lert_spec.specs.{declared.numbers.Numbers.Numbers, Items.IsVersion, Limits.IsInLimits}
 use Rattle.lert_spec.proofs.ByteLaws.{bytes_back}
-use Rattle.lert_journal.specs.Header.{magic, header, header_left, number_at, kept_in}
-use Rattle.lert_journal.proofs.HeaderLaws.{reads_back, begins}
+use Rattle.lert_journal.specs.Header.{magic, header, header_left, number_at, kept_in, version_in}
+use Rattle.lert_journal.proofs.{BeginningLaws.{begun_nowhere, headed_nowhere, version_headed}, HeaderLaws.reads_back}
 use Rattle.lert_files.specs.{declared.fault.ReopenFault.ReopenFault, declared.fault.ReopenFault.TheVariants.{Failed, Malformed, OtherSettings}}
-use Rattle.lert_files.specs.Headed.{written, BeginningLeaves, IsHeaded, HasOther, IsHeaderFault}
-use Rattle.lert_files.proofs.AgreedLaws.{agreed_whole}
+use Rattle.lert_files.specs.Headed.{BeginningLeaves, IsHeaded, IsOwn, HasOther, IsHeaderFault}
 
 -- ---- the header of what it says
 
@@ -36,11 +35,11 @@ module _ (bytes : List ℕ) (small : (k : ℕ) → slice_index bytes k < 256) (l
       (drop_more bytes 26 0 (omega (arith, long))
       ∙ ap (λ rest. slice_index bytes 26 ∷ rest) (drop_more bytes 27 0 (omega (arith, long))))))
 
-  -- bytes that say these numbers, and begin as a journal, are their header
-  pub header_of : (s : Numbers) (cone : ℕ) → take 8 bytes ≡ (magic written) → kept_in bytes ≡ record { cone = cone; version = written; numbers = s } → bytes ≡ header (magic written) s cone
-  header_of s cone begun kept =
-      let numbers : (kept_in bytes).numbers ≡ s = ap (λ (k : Kept). k.numbers) kept in
-      let cone_is : number_at bytes 28 ≡ cone = ap (λ (k : Kept). k.cone) kept in
+  -- bytes that say these numbers, and begin as a journal of a version, are their header
+  pub header_of : (version : ℕ) (s : Numbers) (cone : ℕ) → take 8 bytes ≡ magic version → IsOwn s cone (kept_in bytes) → bytes ≡ header (magic version) s cone
+  header_of version s cone begun own =
+      let numbers : (kept_in bytes).numbers ≡ s = own.1 in
+      let cone_is : number_at bytes 28 ≡ cone = own.0 in
       let a = ap (λ (n : Numbers). little_bytes 4 n.threshold) numbers in
       let b = ap (λ (n : Numbers). little_bytes 4 n.room) numbers in
       let c = ap (λ (n : Numbers). little_bytes 4 n.base) numbers in
@@ -57,29 +56,29 @@ module _ (bytes : List ℕ) (small : (k : ℕ) → slice_index bytes k < 256) (l
 
 -- ---- files by their first bytes
 
--- a file with a whole header leaves that nowhere
-pub whole_header : (file : List ℕ) → take 8 file ≡ (magic written) → 32 ≤ length file → header_left file ≡ None
-whole_header file begun long =
-    let same : agreed (magic written) file ≡ 8 = agreed_whole (magic written) file begun in
-    ap (λ b. if b then Some (agreed (magic written) file) else (if nat_lt (length file) 32 then Some (length file) else None)) (le-ltb (agreed (magic written) file) 8 (omega (arith, same)))
-    ∙ ap (λ b. if b then Some (length file) else None) (le-ltb (length file) 32 (omega (arith, long)))
-
 -- the first eight bytes by the first thirty-two
-first_eight : (file head : List ℕ) → head ≡ take 32 file → take 8 head ≡ (magic written) → take 8 file ≡ (magic written)
-first_eight file head is begun = sym (take-take 8 32 file (omega arith)) ∙ (ap (take 8) (sym is) ∙ begun)
+eight_of : (version : ℕ) (file head : List ℕ) → head ≡ take 32 file → take 8 head ≡ magic version → take 8 file ≡ magic version
+eight_of version file head is begun = sym (take-take 8 32 file (omega arith)) ∙ (ap (take 8) (sym is) ∙ begun)
+
+-- one that begins with the cone's header of a version that there is
+pub headed_of : (version : ℕ) (s : Numbers) (cone : ℕ) (file : List ℕ) → IsVersion version → take 32 file ≡ header (magic version) s cone → 32 < length file → IsHeaded s cone file
+headed_of version s cone file known is gate =
+    let same = sym (version_headed version s cone file is) in
+    record { headed = is ∙ ap (λ v. header (magic v) s cone) same; known = subst IsVersion same known; gate = gate }
 
 module _ (s : Numbers) (cone : ℕ) (limits : IsInLimits s) (below : cone < 2 ^ 32) (file : List ℕ) where
-  headed_says : IsHeaded s cone file → kept_in (take 32 file) ≡ record { cone = cone; version = written; numbers = s }
-  headed_says headed = ap kept_in headed.headed ∙ reads_back written s cone limits below
+  headed_says : IsHeaded s cone file → IsOwn s cone (kept_in (take 32 file))
+  headed_says headed =
+      let says = ap kept_in headed.headed ∙ reads_back (version_in file) s cone limits below in
+      (ap (λ (k : Kept). k.cone) says, ap (λ (k : Kept). k.numbers) says)
 
   pub headed_whole : IsHeaded s cone file → (at : ℕ) → BeginningLeaves s cone file at → ⊥
-  headed_whole headed at (inl left) =
-      none-some at (sym (whole_header file (first_eight file (header (magic written) s cone) (sym headed.headed) (begins written s cone)) (omega (arith, headed.gate))) ∙ left)
+  headed_whole headed at (inl left) = none-some at (sym (headed_nowhere (version_in file) s cone file headed.known headed.headed) ∙ left)
   headed_whole headed at (inr (gateless, is)) = absurd (omega (arith, headed.gate, gateless.short))
 
   pub headed_or_fault : (fault : ReopenFault) → IsHeaded s cone file → IsHeaderFault s cone file fault → ⊥
   headed_or_fault fault headed (inl (at, is, left)) = headed_whole headed at left
-  headed_or_fault fault headed (inr (kept, is, other)) = other.other (other.kept_is ∙ headed_says headed)
+  headed_or_fault fault headed (inr (kept, is, other)) = other.other (subst (IsOwn s cone) (sym other.kept_is) (headed_says headed))
 
   some_place : (m n : ℕ) → Some m ≡ Some n → m ≡ n
   some_place m n is = cc
@@ -93,7 +92,7 @@ module _ (s : Numbers) (cone : ℕ) (limits : IsInLimits s) (below : cone < 2 ^ 
 
   pub other_or_left : (kept : Kept) (at : ℕ) → HasOther s cone file kept → BeginningLeaves s cone file at → ⊥
   other_or_left kept at has (inl left) = none-some at (sym has.whole ∙ left)
-  other_or_left kept at has (inr (gateless, is)) = has.other (has.kept_is ∙ gateless.own)
+  other_or_left kept at has (inr (gateless, is)) = has.other (subst (IsOwn s cone) (sym has.kept_is) gateless.own)
 
   left_fault : (fault : ReopenFault) (at : ℕ) → BeginningLeaves s cone file at → IsHeaderFault s cone file fault → fault ≡ Malformed JOURNAL at
   left_fault fault at left (inl (other, is, too)) = is ∙ ap (Malformed JOURNAL) (one_beginning other at too left)
@@ -105,30 +104,32 @@ module _ (s : Numbers) (cone : ℕ) (limits : IsInLimits s) (below : cone < 2 ^ 
 
   -- ---- what an answer that is right says the other way round
 
-  module _ {T : Type 0} where
-    abbrev pub Told : Result T ReopenFault → Type 0
-    Told result = MatchResult result (λ _. IsHeaded s cone file) (λ fault. (fault ≡ Failed) ⊎ IsHeaderFault s cone file fault)
+  abbrev IsVersionThere : ℕ → Type 0
+  IsVersionThere version = IsHeaded s cone file × (version ≡ version_in file)
 
-    pub told : (result : Result T ReopenFault) → MatchResult result (λ _. IsHeaded s cone file) (IsHeaderFault s cone file) → Told result
-    told (Ok x) is = is
-    told (Err fault) is = inr is
+  abbrev pub Told : Result ℕ ReopenFault → Type 0
+  Told result = MatchResult result IsVersionThere (λ fault. (fault ≡ Failed) ⊎ IsHeaderFault s cone file fault)
 
-    pub headed_back : (result : Result T ReopenFault) → Told result → IsHeaded s cone file → MatchResult result (λ _. Unit {0}) (λ fault. fault ≡ Failed)
-    headed_back (Ok x) is headed = tt
-    headed_back (Err fault) (inl failed) headed = failed
-    headed_back (Err fault) (inr is) headed = absurd (headed_or_fault fault headed is)
+  pub told : (result : Result ℕ ReopenFault) → MatchResult result IsVersionThere (IsHeaderFault s cone file) → Told result
+  told (Ok version) is = is
+  told (Err fault) is = inr is
 
-    pub left_back : (result : Result T ReopenFault) → Told result → (at : ℕ) → BeginningLeaves s cone file at →
-        IsErrAnd result (λ fault. (fault ≡ Failed) ⊎ (fault ≡ Malformed JOURNAL at))
-    left_back (Ok x) is at left = headed_whole is at left
-    left_back (Err fault) (inl failed) at left = inl failed
-    left_back (Err fault) (inr is) at left = inr (left_fault fault at left is)
+  pub headed_back : (result : Result ℕ ReopenFault) → Told result → IsHeaded s cone file → MatchResult result (λ version. version ≡ version_in file) (λ fault. fault ≡ Failed)
+  headed_back (Ok version) is headed = is.1
+  headed_back (Err fault) (inl failed) headed = failed
+  headed_back (Err fault) (inr is) headed = absurd (headed_or_fault fault headed is)
 
-    pub other_back : (result : Result T ReopenFault) → Told result → (kept : Kept) → HasOther s cone file kept →
-        IsErrAnd result (λ fault. (fault ≡ Failed) ⊎ (fault ≡ OtherSettings kept))
-    other_back (Ok x) is kept has = has.other (has.kept_is ∙ headed_says is)
-    other_back (Err fault) (inl failed) kept has = inl failed
-    other_back (Err fault) (inr is) kept has = inr (other_fault fault kept has is)
+  pub left_back : (result : Result ℕ ReopenFault) → Told result → (at : ℕ) → BeginningLeaves s cone file at →
+      IsErrAnd result (λ fault. (fault ≡ Failed) ⊎ (fault ≡ Malformed JOURNAL at))
+  left_back (Ok version) is at left = headed_whole is.0 at left
+  left_back (Err fault) (inl failed) at left = inl failed
+  left_back (Err fault) (inr is) at left = inr (left_fault fault at left is)
+
+  pub other_back : (result : Result ℕ ReopenFault) → Told result → (kept : Kept) → HasOther s cone file kept →
+      IsErrAnd result (λ fault. (fault ≡ Failed) ⊎ (fault ≡ OtherSettings kept))
+  other_back (Ok version) is kept has = has.other (subst (IsOwn s cone) (sym has.kept_is) (headed_says is.0))
+  other_back (Err fault) (inl failed) kept has = inl failed
+  other_back (Err fault) (inr is) kept has = inr (other_fault fault kept has is)
 
 -- ---- from what was read to the file
 
@@ -154,30 +155,23 @@ front_read count head whole = sym (take-take 8 count head (omega (arith, whole, 
 pub whole_file : (count : ℕ) (head file : List ℕ) → take count head ≡ take 32 file → 32 ≤ length (take count head) → 32 ≤ length file
 whole_file count head file is whole = omega (arith, whole, ap (λ (xs : List ℕ). length xs) is, length-take 32 file)
 
-pub gateless_there : (s : Numbers) (cone at : ℕ) (head file : List ℕ) (kept : Kept) → head ≡ take 32 file → take 8 head ≡ (magic written) → 32 ≤ length file → at ≡ length file →
-    at ≤ 32 →
-    kept ≡ kept_in head →
-    kept ≡ record { cone = cone; version = written; numbers = s } → IsHeaderFault s cone file (Malformed JOURNAL at)
-gateless_there s cone at head file kept is begun long at_is short kept_is own =
-    inl (
-      at,
-      refl,
-      inr (
-        record {
-          whole = whole_header file (first_eight file head is begun) long;
-          own = sym (ap kept_in is) ∙ (sym kept_is ∙ own);
-          short = omega (arith, at_is, short);
-        },
-        at_is,
-      ),
-    )
+-- why a header that was read, that of a version, is refused, and what it says where it isn't
+module _ (s : Numbers) (cone version : ℕ) (head file : List ℕ) (kept : Kept) (known : IsVersion version) (is : head ≡ take 32 file) (begun : take 8 head ≡ magic version)
+    (whole : 32 ≤ length file) (kept_is : kept ≡ kept_in head) where
+  nowhere : header_left file ≡ None
+  nowhere = begun_nowhere version file known (eight_of version file head is begun) whole
 
-pub fault_there : (s : Numbers) (cone : ℕ) (head file : List ℕ) (kept : Kept) → head ≡ take 32 file → take 8 head ≡ (magic written) → 32 ≤ length file → kept ≡ kept_in head →
-    kept ≢ record { cone = cone; version = written; numbers = s } → IsHeaderFault s cone file (OtherSettings kept)
-fault_there s cone head file kept is begun long kept_is other =
-    inr (kept, refl, record { whole = whole_header file (first_eight file head is begun) long; kept_is = kept_is ∙ ap kept_in is; other = other })
+  own_there : IsOwn s cone kept → IsOwn s cone (kept_in (take 32 file))
+  own_there own = subst (IsOwn s cone) (kept_is ∙ ap kept_in is) own
 
-pub headed_there : (s : Numbers) (cone : ℕ) (head file : List ℕ) (kept : Kept) → ((k : ℕ) → slice_index head k < 256) → length head ≡ 32 → head ≡ take 32 file →
-    take 8 head ≡ (magic written) → 32 < length file → kept ≡ kept_in head → kept ≡ record { cone = cone; version = written; numbers = s } → IsHeaded s cone file
-headed_there s cone head file kept small long is begun gate kept_is own =
-    record { headed = sym is ∙ header_of head small long s cone begun (sym kept_is ∙ own); gate = gate }
+  pub gateless_there : (at : ℕ) → at ≡ length file → at ≤ 32 → IsOwn s cone kept → IsHeaderFault s cone file (Malformed JOURNAL at)
+  gateless_there at at_is short own =
+      inl (at, refl, inr (record { whole = nowhere; own = own_there own; short = omega (arith, at_is, short) }, at_is))
+
+  pub fault_there : ¬ IsOwn s cone kept → IsHeaderFault s cone file (OtherSettings kept)
+  fault_there other = inr (kept, refl, record { whole = nowhere; kept_is = kept_is ∙ ap kept_in is; other = other })
+
+  pub headed_there : ((k : ℕ) → slice_index head k < 256) → length head ≡ 32 → 32 < length file → IsOwn s cone kept → IsHeaded s cone file × (version ≡ version_in file)
+  headed_there small long gate own =
+      let begins = sym is ∙ header_of head small long version s cone begun (subst (IsOwn s cone) kept_is own) in
+      (headed_of version s cone file known begins gate, sym (version_headed version s cone file begins))

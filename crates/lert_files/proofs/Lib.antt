@@ -1,4 +1,3 @@
-pub mod AgreedLaws
 mod Examples
 pub mod GateLaws
 pub mod HeadLaws

@@ -4,6 +4,7 @@ use Rattle.std.proofs.{Common.{ℕ, ◌≡◌, ◌<◌, ◌^◌, Bool, Option, S
 use Rattle.std.specs.Prelude.{IfOk, MatchResult, IsErrOf, IsErrAnd}
 use Rattle.lert_base.specs.declared.kept.Kept.{Kept}
 use Rattle.lert_bay.specs.{declared.bay.TheConstants.{JOURNAL, LOG, FRAMES}, Files.Files}
+use Rattle.lert_journal.specs.Header.{version_in}
 use Rattle.lert_levels.specs.{declared.rows.bin_at.BinAt.BinAt, declared.rows.fault.FlushFault.FlushFault}
 use Rattle.lert_levels.specs.{declared.rows.fault.FlushFault.TheVariants.{Failed as CheckFailed, Malformed as CheckMalformed}, rows.Checked.rows_left, OnDisk.OnDisk}
 use Rattle.lert_levels.specs.rows.Rows.{IsAt, AreRows, directory_text}
@@ -12,7 +13,7 @@ use Rattle.lert_reports.specs.{Log.{last_directory, last_n0, HasLog, LogLeavesAt
 use Rattle.lert_reports.proofs.LogOnce.{one_log, log_or_left, one_left}
 use Rattle.lert_spec.specs.{declared.numbers.Numbers.Numbers, declared.report.Report.Report, Limits.IsValid}
 use Rattle.lert_files.specs.{declared.fault.ReopenFault.ReopenFault, declared.fault.ReopenFault.TheVariants.{Failed, Malformed, OtherSettings}}
-use Rattle.lert_files.specs.Headed.{written, BeginningLeaves, HasOther, IsHeaded, IsHeaderFault}
+use Rattle.lert_files.specs.Headed.{BeginningLeaves, HasOther, IsHeaded, IsHeaderFault}
 use Rattle.lert_files.specs.{Opened.{AreLastRows, AreOpened, checked_fault, IsRefused, By_call, By_place, By_header, LeaveAt, In_beginning, In_log, In_frame}, Read.IsReadOf}
 use Rattle.lert_files.proofs.HeadLaws.{headed_or_fault, headed_whole, one_beginning, other_or_left}
 
@@ -44,7 +45,8 @@ module _ (s : Numbers) (cone : ℕ) (valid : IsValid s) (below : cone < 2 ^ 32) 
   opened_or_left records log_end rows file at opened (In_beginning file_is left) = no_place opened.headed at left
   opened_or_left records log_end rows file at opened (In_log headed file_is leaves) = log_or_left s cone valid (seen LOG) records log_end at opened.log leaves
   opened_or_left records log_end rows file at opened (In_frame headed others other_end log other_rows named file_is left) =
-      none-some at (sym opened.frames ∙ ap (rows_left s written (seen FRAMES)) (same_last records others log_end other_end rows other_rows opened.log log opened.named named) ∙ left)
+      let same = same_last records others log_end other_end rows other_rows opened.log log opened.named named in
+      none-some at (sym opened.frames ∙ ap (rows_left s (version_in (seen JOURNAL)) (seen FRAMES)) same ∙ left)
 
   pub left_or_other : (file at : ℕ) (kept : Kept) → LeaveAt s cone seen file at → HasOther s cone (seen JOURNAL) kept → ⊥
   left_or_other file at kept (In_beginning file_is left) has = other_or_left s cone valid.limits below (seen JOURNAL) kept at has left
@@ -68,7 +70,7 @@ module _ (s : Numbers) (cone : ℕ) (valid : IsValid s) (below : cone < 2 ^ 32) 
   one_place file at other_file other (In_frame headed records log_end log rows named file_is left)
       (In_frame headed_too others other_end log_too other_rows named_too other_is left_too) = (
         file_is ∙ sym other_is,
-        some_place at other (sym left ∙ ap (rows_left s written (seen FRAMES))
+        some_place at other (sym left ∙ ap (rows_left s (version_in (seen JOURNAL)) (seen FRAMES))
             (same_last records others log_end other_end rows other_rows log log_too named named_too) ∙ left_too),
       )
 
@@ -171,11 +173,19 @@ module _ (s : Numbers) (cone : ℕ) (valid : IsValid s) (below : cone < 2 ^ 32) 
         )
     passes_told (Err fault) told records log_end own opened = outside_there fault records log_end own told opened
 
+-- what levels say by their own numbers and version, said by these
+pub by_own : (levels now : OnDisk) (s : Numbers) (version : ℕ) → levels.settings ≡ s → levels.version ≡ version → now ≡ levels →
+    (P : Numbers → ℕ → List (List BinAt) → Type 0) → P levels.settings levels.version levels.rows → P s version now.rows
+by_own levels now s version own version_is same P said =
+    subst (λ (disk : OnDisk). P s version disk.rows) (sym same)
+    (subst (λ (v : ℕ). P s v levels.rows) version_is
+    (subst (λ (numbers : Numbers). P numbers levels.version levels.rows) own said))
+
 -- ---- what was read of files in their format, by their parts
 
 module _ (s : Numbers) (cone : ℕ) (seen : Files) (n0 offset first : ℕ) (closed : Bool) (reports : List Report) (directory : List ℕ) (records : List LogRecord) (log_end : ℕ)
     (headed : IsHeaded s cone (seen JOURNAL)) (read : IsReadOf s cone n0 offset first closed reports directory records) (log : HasLog s cone (seen LOG) records log_end)
-    (levels : OnDisk) (own : levels.settings ≡ s) (version : levels.version ≡ written) (at : IsAt levels.settings n0 levels.rows) (are : AreRows levels.settings levels.rows)
+    (levels : OnDisk) (own : levels.settings ≡ s) (version : levels.version ≡ version_in (seen JOURNAL)) (at : IsAt levels.settings n0 levels.rows) (are : AreRows levels.settings levels.rows)
     (text : directory_text levels.rows ≡ directory) where
   named : AreLastRows s records levels.rows
   named = record {
@@ -185,7 +195,7 @@ module _ (s : Numbers) (cone : ℕ) (seen : Files) (n0 offset first : ℕ) (clos
   }
 
   -- what their own numbers say of their frames
-  frames_left : (left : Option ℕ) → rows_left levels.settings levels.version (seen FRAMES) levels.rows ≡ left → rows_left s written (seen FRAMES) levels.rows ≡ left
+  frames_left : (left : Option ℕ) → rows_left levels.settings levels.version (seen FRAMES) levels.rows ≡ left → rows_left s (version_in (seen JOURNAL)) (seen FRAMES) levels.rows ≡ left
   frames_left left is =
       subst (λ (v : ℕ). rows_left s v (seen FRAMES) levels.rows ≡ left) version
       (subst (λ (numbers : Numbers). rows_left numbers levels.version (seen FRAMES) levels.rows ≡ left) own is)

@@ -2,9 +2,10 @@
 use Rattle.std.specs.Prelude.{◌≡◌, ℕ, List, Some, None}
 use Rattle.lert_base.specs.declared.kept.Kept.{Kept}
 use Rattle.lert_bay.specs.{declared.bay.TheConstants.{JOURNAL, LOG, FRAMES}, Files.{Files, IfTold}, Kept.{Bays, CallsBay}}
+use Rattle.lert_journal.specs.Header.{version_in}
 use Rattle.lert_levels.specs.{declared.rows.bin_at.BinAt.BinAt, declared.rows.fault.FlushFault.FlushFault}
 use Rattle.lert_levels.specs.{declared.rows.fault.FlushFault.TheVariants.{Failed as CheckFailed, Malformed as CheckMalformed}, rows.Checked.rows_left, rows.Named.AreNamed}
-use Rattle.lert_files.specs.{declared.fault.ReopenFault.ReopenFault, declared.fault.ReopenFault.TheVariants.{Failed, Malformed, OtherSettings}, Headed.{written, BeginningLeaves, IsHeaded, HasOther}}
+use Rattle.lert_files.specs.{declared.fault.ReopenFault.ReopenFault, declared.fault.ReopenFault.TheVariants.{Failed, Malformed, OtherSettings}, Headed.{BeginningLeaves, IsHeaded, HasOther}}
 use Rattle.lert_reports.specs.{Log.{last_directory, last_n0, HasLog, LogLeavesAt}, LogText.{LogRecord, directory_bytes}}
 use Rattle.lert_spec.specs.declared.numbers.Numbers.{Numbers}
 
@@ -12,12 +13,13 @@ use Rattle.lert_spec.specs.declared.numbers.Numbers.{Numbers}
 abbrev pub AreLastRows : Numbers → List LogRecord → List (List BinAt) → Type 0
 AreLastRows s records rows = AreNamed s (last_n0 records) (directory_bytes (last_directory s records)) rows
 
--- the journal has the cone's header, the log is whole, and the frames that its last record names are in their format
+-- the journal has the cone's header, the log is whole, and the frames that its last record names are in their format, that of the
+-- header's version
 pub record AreOpened (s : Numbers) (cone : ℕ) (seen : Files) (records : List LogRecord) (log_end : ℕ) (rows : List (List BinAt)) : Type 0 where
   pub headed : IsHeaded s cone (seen JOURNAL)
   pub log : HasLog s cone (seen LOG) records log_end
   pub named : AreLastRows s records rows
-  pub frames : rows_left s written (seen FRAMES) rows ≡ None
+  pub frames : rows_left s (version_in (seen JOURNAL)) (seen FRAMES) rows ≡ None
 
 -- the files first leave their format at this place, in the order in which they are read: the beginning of the journal,
 -- behind the right one the log, and behind a whole log the frames that its last record names
@@ -25,7 +27,7 @@ pub data LeaveAt (s : Numbers) (cone : ℕ) (seen : Files) (file at : ℕ) : Typ
   In_beginning : file ≡ JOURNAL → BeginningLeaves s cone (seen JOURNAL) at → LeaveAt s cone seen file at
   In_log : IsHeaded s cone (seen JOURNAL) → file ≡ LOG → LogLeavesAt s cone (seen LOG) at → LeaveAt s cone seen file at
   In_frame : IsHeaded s cone (seen JOURNAL) → (records : List LogRecord) (log_end : ℕ) → HasLog s cone (seen LOG) records log_end →
-      (rows : List (List BinAt)) → AreLastRows s records rows → file ≡ FRAMES → rows_left s written (seen FRAMES) rows ≡ Some at → LeaveAt s cone seen file at
+      (rows : List (List BinAt)) → AreLastRows s records rows → file ≡ FRAMES → rows_left s (version_in (seen JOURNAL)) (seen FRAMES) rows ≡ Some at → LeaveAt s cone seen file at
 
 -- why files aren't read: a call failed, or what stands in them
 pub data IsRefused (s : Numbers) (cone : ℕ) (seen : Files) (fault : ReopenFault) : Type 0 where

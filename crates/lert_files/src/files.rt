@@ -1,21 +1,26 @@
 //! What is read of a cone's files before the records of its journal.
 
-ghost use Rattle.std.specs.Prelude.{◌≡◌, ◌⊎◌, ℕ, ◌+◌, ◌≤◌, ◌^◌, List, [], Some, None, length, IfOk, IfErr, OnOk, MatchResult, IsErr, IsErrOf, IsErrAnd};
+ghost use Rattle.std.specs.Prelude.{◌≡◌, ◌⊎◌, ℕ, ◌+◌, ◌≤◌, ◌^◌, List, [], length, take, IfOk, OnOk, MatchResult, IsErr, IsErrOf, IsErrAnd};
 ghost use Rattle.lert_base.specs.declared.kept.Kept.{Kept as KeptOf};
 ghost use Rattle.lert_bay.specs.declared.bay.TheConstants.{JOURNAL, FRAMES};
 ghost use Rattle.lert_bay.specs.Files.{Files, IfTold};
+ghost use Rattle.lert_journal.specs.Header.{version_in};
 ghost use Rattle.lert_levels.specs.declared.rows.bin_at.BinAt.{BinAt};
-ghost use Rattle.lert_levels.specs.rows.Checked.{EachStands};
-ghost use Rattle.lert_levels.specs.rows.Rows.{IsAt, AreRows, directory_text};
-ghost use Rattle.lert_files.specs.Headed.{written, HasOther};
+ghost use Rattle.lert_levels.specs.rows.Checked.{EachStands, IsWeightOf, rows_total};
+ghost use Rattle.lert_levels.specs.rows.Rows.{IsAt, AreRows, HoldsBins, directory_text};
+ghost use Rattle.lert_files.specs.Headed.{HasOther};
 ghost use Rattle.lert_files.specs.Opened.{AreOpened, IsAsRead, IsRefused, LeaveAt, WritesNothing};
 ghost use Rattle.lert_files.specs.Read.{IsReadOf, IsPoint, AreReportsUpTo};
 ghost use Rattle.lert_reports.specs.Log.{most_record};
 ghost use Rattle.lert_reports.specs.LogText.{LogRecord};
+ghost use Rattle.lert_spec.specs.Counts.{weight_of, weighed};
+ghost use Rattle.lert_spec.specs.Edges.{edge};
+ghost use Rattle.lert_spec.specs.Items.{AreOfVersion, IsVersion};
+ghost use Rattle.lert_spec.specs.declared.item.Item.{Item};
 
 use crate::directory::Directory;
 use crate::fault::ReopenFault;
-use crate::journal_header::{WRITTEN, read_journal_header};
+use crate::journal_header::read_journal_header;
 use crate::log::read_whole_log;
 use lert_base::{CountTable, Settings};
 use lert_bay::{Bay, FRAMES, JOURNAL, LOG};
@@ -23,9 +28,10 @@ use lert_io::Failed;
 use lert_levels::Levels;
 use lert_reports::{LogPoint, ReportStore};
 
-/// Makes the three files of a cone durable, and reads the header of its journal, its whole log, and each frame that the last
-/// record of the log names. The reports of all records come into the store, and the bins of that record into the levels. After
-/// a fault any of these may be in them, and any bytes are in `buffer`.
+/// Makes the three files of a cone durable, and reads the header of its journal, its whole log, and each frame that the
+/// last record of the log names. The reports of all records come into the store, and the bins of that record into the
+/// levels. The answer has the version of the files, and what the items weigh together that the frames hold, the sum of
+/// their counts. After a fault any of these may be in them, and any bytes are in `buffer`.
 ///
 /// Writes nothing and takes no memory. Costs a look-up a report, and reads each frame once, and of the journal 32 bytes.
 pub fn read_files<B: Bay, T: CountTable>(
@@ -41,19 +47,30 @@ pub fn read_files<B: Bay, T: CountTable>(
     requires empty { store.old.reports ≡ [] }
     requires room { most_record settings.now ≤ length buffer.old }
 
-    // Told or not, what was read keeps the rules.
+    // Told or not, what was read keeps the rules, and the weight is one that so many events may have.
     ensures point { IfOk result (λ end. IsPoint settings.now end.n0 end.offset end.first) }
     ensures reach { IfOk result (λ end. end.log_end ≤ 2 ^ 62) }
     ensures at { IfOk result (λ end. IsAt settings.now end.n0 levels.new.rows) }
     ensures rows { OnOk result (AreRows settings.now levels.new.rows) }
-    ensures version { OnOk result (levels.new.version ≡ written) }
+    ensures known { IfOk result (λ end. IsVersion end.version) }
+    ensures version { IfOk result (λ end. levels.new.version ≡ end.version) }
+    ensures weight { IfOk result (λ end. IsWeightOf end.version (edge settings.now 0 end.n0) end.weight) }
     ensures reports { IfOk result (λ end. AreReportsUpTo settings.now cone end.n0 store.new.reports) }
 
-    // Where the files are told, it is what stands in them, and every image is what a read gives.
+    // Where the files are told, it is what stands in them, and every image is what a read gives. The weight is the sum of
+    // the counts in the frames: of events whose bins these hold, it is what those weigh that the frames have.
     ensures opened { IfTold (B.files bay.old) (λ seen. IfOk result (λ end. (records : List LogRecord)
         × IsReadOf settings.now cone end.n0 end.offset end.first end.closed store.new.reports (directory_text levels.new.rows) records
         × AreOpened settings.now cone seen records end.log_end levels.new.rows)) }
-    ensures stand { IfTold (B.files bay.old) (λ seen. OnOk result (EachStands settings.now written (seen FRAMES) levels.new.rows)) }
+    ensures headed { IfTold (B.files bay.old) (λ seen. IfOk result (λ end. end.version ≡ version_in (seen JOURNAL))) }
+    ensures stand { IfTold (B.files bay.old) (λ seen. IfOk result (λ end.
+        EachStands settings.now end.version (seen FRAMES) levels.new.rows)) }
+    ensures sum { IfTold (B.files bay.old) (λ seen. IfOk result (λ end.
+        end.weight ≡ rows_total settings.now end.version (seen FRAMES) 1 levels.new.rows)) }
+    ensures weighs { IfTold (B.files bay.old) (λ seen. (events : List Item) → IfOk result (λ end.
+        edge settings.now 0 end.n0 ≤ length events → AreOfVersion end.version events →
+        HoldsBins settings.now end.version events levels.new.rows (seen FRAMES) →
+        end.weight ≡ weight_of weighed (take (edge settings.now 0 end.n0) events))) }
     ensures durable { IfTold (B.files bay.old) (λ seen. OnOk result ((image : Files) → B.leaves bay.new image → IsAsRead seen image)) }
     ensures malformed { IfTold (B.files bay.old) (λ seen. (file at : ℕ) → IsErrOf result (ReopenFault.Malformed file at) →
         LeaveAt settings.now cone seen file at) }
@@ -99,14 +116,24 @@ fn read_in_order<B: Bay, T: CountTable>(
     ensures reach { IfOk result (λ end. end.log_end ≤ 2 ^ 62) }
     ensures at { IfOk result (λ end. IsAt settings.now end.n0 levels.new.rows) }
     ensures rows { OnOk result (AreRows settings.now levels.new.rows) }
-    ensures version { OnOk result (levels.new.version ≡ written) }
+    ensures known { IfOk result (λ end. IsVersion end.version) }
+    ensures version { IfOk result (λ end. levels.new.version ≡ end.version) }
+    ensures weight { IfOk result (λ end. IsWeightOf end.version (edge settings.now 0 end.n0) end.weight) }
     ensures reports { IfOk result (λ end. AreReportsUpTo settings.now cone end.n0 store.new.reports) }
     ensures told { IfTold (B.files bay.old) (λ seen. MatchResult result
         (λ end. (records : List LogRecord)
         × IsReadOf settings.now cone end.n0 end.offset end.first end.closed store.new.reports (directory_text levels.new.rows) records
         × AreOpened settings.now cone seen records end.log_end levels.new.rows)
         (IsRefused settings.now cone seen)) }
-    ensures stand { IfTold (B.files bay.old) (λ seen. OnOk result (EachStands settings.now written (seen FRAMES) levels.new.rows)) }
+    ensures headed { IfTold (B.files bay.old) (λ seen. IfOk result (λ end. end.version ≡ version_in (seen JOURNAL))) }
+    ensures stand { IfTold (B.files bay.old) (λ seen. IfOk result (λ end.
+        EachStands settings.now end.version (seen FRAMES) levels.new.rows)) }
+    ensures sum { IfTold (B.files bay.old) (λ seen. IfOk result (λ end.
+        end.weight ≡ rows_total settings.now end.version (seen FRAMES) 1 levels.new.rows)) }
+    ensures weighs { IfTold (B.files bay.old) (λ seen. (events : List Item) → IfOk result (λ end.
+        edge settings.now 0 end.n0 ≤ length events → AreOfVersion end.version events →
+        HoldsBins settings.now end.version events levels.new.rows (seen FRAMES) →
+        end.weight ≡ weight_of weighed (take (edge settings.now 0 end.n0) events))) }
     ensures durable { IfTold (B.files bay.old) (λ seen. OnOk result ((image : Files) → B.leaves bay.new image → IsAsRead seen image)) }
     ensures same { (levels.new.settings ≡ levels.old.settings) × (store.new.settings ≡ store.old.settings) }
     ensures quiet { WritesNothing B.Bay bay.old bay.new (IsErrOf result ReopenFault.Failed) }
@@ -115,12 +142,12 @@ fn read_in_order<B: Bay, T: CountTable>(
     // Durable first: a second stop takes nothing back of what is read here.
     sync_files(bay)?;
     // In the order in which a place comes first; the directory before the frames that it names.
-    read_journal_header(bay, settings, cone)?;
+    let version = read_journal_header(bay, settings, cone)?;
     let mut directory = Directory::new();
-    let end = read_whole_log(bay, settings, cone, store, &mut directory, buffer)?;
-    levels.restore(end.n0, directory.bytes(), WRITTEN);
-    levels.check(bay)?;
-    Ok(end)
+    let end = read_whole_log(bay, settings, cone, version, store, &mut directory, buffer)?;
+    levels.restore(end.n0, directory.bytes(), version);
+    let weight = levels.check(bay)?;
+    Ok(LogPoint { weight, ..end })
 }
 
 // Makes the three files durable.

@@ -22,10 +22,14 @@ use lert_reports::{LOG_HEADER_LEN, LogPoint, ReportStore, greatest_record};
 /// Reads the log of a cone from its header to its closed gate. The reports of all records come into the store, which is empty
 /// before, and the directory of the last record takes the place of what is in `directory`. After a fault any of these may be in
 /// them, and any bytes are in `buffer`. Makes one look-up a report, changes no file and takes no memory.
+///
+/// The log doesn't say the version of the cone's files: the answer has the one that is given here. Nor does it say what
+/// the items in the frames weigh, which the answer has as 0.
 pub fn read_whole_log<B: Bay, T: CountTable>(
     bay: &mut B,
     settings: &Settings,
     cone: u32,
+    version: u8,
     store: &mut ReportStore<T>,
     directory: &mut Directory,
     buffer: &mut [u8],
@@ -42,6 +46,8 @@ pub fn read_whole_log<B: Bay, T: CountTable>(
     ensures point { IfOk result (λ end. IsPoint settings.now end.n0 end.offset end.first) }
     ensures directory { IfOk result (λ end. IsDirectory settings.now end.n0 directory.new) }
     ensures reach { IfOk result (λ end. end.log_end ≤ 2 ^ 62) }
+    ensures version { IfOk result (λ end. end.version ≡ version) }
+    ensures weight { IfOk result (λ end. end.weight ≡ 0) }
     ensures malformed { IfTold (B.files bay.old) (λ seen. (file at : ℕ) → IsErrOf result (ReopenFault.Malformed file at) →
         (file ≡ LOG) × LogLeavesAt settings.now cone (seen LOG) at) }
 
@@ -61,7 +67,7 @@ pub fn read_whole_log<B: Bay, T: CountTable>(
     // Its clause says that the numbers are valid.
     let _ = settings.numbers();
     read_log_header(bay)?;
-    read_records(bay, settings, cone, store, directory, buffer)
+    read_records(bay, settings, cone, version, store, directory, buffer)
 }
 
 // Reads the records behind the header.
@@ -69,6 +75,7 @@ fn read_records<B: Bay, T: CountTable>(
     bay: &mut B,
     settings: &Settings,
     cone: u32,
+    version: u8,
     store: &mut ReportStore<T>,
     directory: &mut Directory,
     buffer: &mut [u8],
@@ -82,6 +89,8 @@ fn read_records<B: Bay, T: CountTable>(
     ensures malformed { IfTold (B.files bay.old) (λ seen. part (seen LOG) 0 8 ≡ log_header → (file at : ℕ) → IsErrOf result (ReopenFault.Malformed file at) →
         LogLeavesAt settings.now cone (seen LOG) at) }
     ensures reach { IfOk result (λ end. end.log_end ≤ 2 ^ 62) }
+    ensures version { IfOk result (λ end. end.version ≡ version) }
+    ensures weight { IfOk result (λ end. end.weight ≡ 0) }
     ensures same { store.new.settings ≡ store.old.settings }
     ensures fault { IfErr result (λ fault. (fault ≡ ReopenFault.Failed) ⊎ ((at : ℕ) × (fault ≡ ReopenFault.Malformed LOG at))) }
     ensures only_reads { OnlyReads B.Bay bay.old bay.new (IsErrOf result ReopenFault.Failed) }
@@ -106,6 +115,8 @@ fn read_records<B: Bay, T: CountTable>(
                 first: progress.first,
                 closed: progress.closed,
                 log_end: log.gate(),
+                version,
+                weight: 0,
             });
         }
     }

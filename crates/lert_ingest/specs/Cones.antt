@@ -2,6 +2,7 @@
 use Rattle.std.specs.Prelude.{◌≡◌, ℕ, length, false, List, [], Option, Some, slice_get}
 use Rattle.lert_bay.specs.Files.{Files}
 use Rattle.lert_cone.specs.{declared.room.ConeRoom.ConeRoom, Room.IsRoom, Stands.{Standing, StandsFor, WasSound}, declared.state.ConeState.TheVariants.Running}
+use Rattle.lert_cone.specs.History.{most_version}
 use Rattle.lert_spec.specs.declared.numbers.Numbers.{Numbers}
 
 -- the memory of a cone with these settings, as it is made
@@ -13,7 +14,7 @@ pub record IsNew {B : Type 0} (files : B → Option Files) (leaves : B → Files
   pub stands : StandsFor files leaves faults cone []
   pub sound : WasSound files cone
   pub made_is : cone.made ≡ cone.bay
-  pub listing_is : cone.listing ≡ record { settings = s; cone = number; events = []; closed = false }
+  pub listing_is : cone.listing ≡ record { settings = s; version = most_version; cone = number; events = []; closed = false }
   pub state_is : cone.state ≡ Running
 
 -- each cone of a list, by its place

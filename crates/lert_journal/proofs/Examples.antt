@@ -31,15 +31,25 @@ header_of_one_cone = refl
 header_read : kept_in header_bytes ≡ record { cone = 0; version = 1; numbers = alone }
 header_read = refl
 
--- no byte, a cut one, another version, and a header that nothing stands behind
+-- no byte, a cut one, versions that there aren't, and a header that nothing stands behind
 no_byte : header_left [] ≡ Some 0
 no_byte = refl
 
 cut_header : header_left (take 31 header_bytes) ≡ Some 31
 cut_header = refl
 
-other_version : header_left (0x4c ∷ 0x45 ∷ 0x52 ∷ 0x54 ∷ 0x4a ∷ 2 ∷ []) ≡ Some 5
-other_version = refl
+no_version : header_left (0x4c ∷ 0x45 ∷ 0x52 ∷ 0x54 ∷ 0x4a ∷ 0 ∷ []) ≡ Some 5
+no_version = refl
+
+later_version : header_left (0x4c ∷ 0x45 ∷ 0x52 ∷ 0x54 ∷ 0x4a ∷ 3 ∷ []) ≡ Some 5
+later_version = refl
+
+-- behind either version the other bytes are to be the right ones
+cut_behind_the_version : header_left (0x4c ∷ 0x45 ∷ 0x52 ∷ 0x54 ∷ 0x4a ∷ 2 ∷ []) ≡ Some 6
+cut_behind_the_version = refl
+
+other_behind_the_version : header_left (0x4c ∷ 0x45 ∷ 0x52 ∷ 0x54 ∷ 0x4a ∷ 2 ∷ 0 ∷ 1 ∷ []) ≡ Some 7
+other_behind_the_version = refl
 
 header_alone : header_left header_bytes ≡ None
 header_alone = refl
@@ -110,6 +120,9 @@ cut_weight = refl
 
 no_weights : left 2 alone 0 sevens_bytes ≡ Some 0
 no_weights = refl
+
+weighed_header_alone : header_left (header (magic 2) alone 0) ≡ None
+weighed_header_alone = refl
 
 weighed_header : kept_in (header (magic 2) alone 0) ≡ record { cone = 0; version = 2; numbers = alone }
 weighed_header = refl

@@ -1,3 +1,4 @@
+pub mod AgreedLaws
 mod Examples
 pub mod ItemBytes
 pub mod HeaderLaws

@@ -1,5 +1,5 @@
 -- The header of a journal: eight bytes that begin it, the eight numbers of its settings, and its cone.
-use Rattle.std.specs.Prelude.{ℕ, List, [], ◌∷◌, ◌++◌, length, drop, slice_index, nat_lt, Option, Some, None, if◌then◌else◌}
+use Rattle.std.specs.Prelude.{ℕ, List, [], ◌∷◌, ◌++◌, length, drop, slice_index, nat_lt, max, Option, Some, None, if◌then◌else◌}
 use Rattle.byteorder.specs.Endian.{little_number, little_bytes}
 use Rattle.lert_base.specs.declared.kept.Kept.{Kept}
 use Rattle.lert_spec.specs.{declared.numbers.Numbers.Numbers, Agreed.agreed}
@@ -40,10 +40,16 @@ kept_in bytes = record {
   };
 }
 
--- the place at which a file leaves the header of a journal of the first version: at the first of its first eight bytes
--- that differs from those that begin one, else at its length, where it ends inside the header; none where it has a header,
--- of whatever numbers. A file that ends behind its header leaves the format at its length too, for want of a gate
+-- the version that the sixth byte of a journal says
+abbrev pub version_in : List ℕ → ℕ
+version_in bytes = slice_index bytes 5
+
+-- how many of a file's first eight bytes begin a journal of one version or the other
+abbrev pub begun : List ℕ → ℕ
+begun bytes = max (agreed (magic 1) bytes) (agreed (magic 2) bytes)
+
+-- the place at which a file leaves the header of a journal: at the first of its first eight bytes that differs from those
+-- that begin one, in both versions, else at its length, where it ends inside the header; none where it has a header, of
+-- whatever numbers. A file that ends behind its header leaves the format at its length too, for want of a gate
 abbrev pub header_left : List ℕ → Option ℕ
-header_left bytes =
-    if nat_lt (agreed (magic 1) bytes) 8 then Some (agreed (magic 1) bytes)
-    else (if nat_lt (length bytes) 32 then Some (length bytes) else None)
+header_left bytes = if nat_lt (begun bytes) 8 then Some (begun bytes) else (if nat_lt (length bytes) 32 then Some (length bytes) else None)

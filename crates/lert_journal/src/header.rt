@@ -2,7 +2,7 @@
 
 ghost use Rattle.std.specs.Prelude.{◌≡◌, ◌≢◌, ℕ, ◌+◌, ◌≤◌, List, length, take, MatchOption, IfNone};
 ghost use Rattle.lert_spec.specs.Items.{IsVersion};
-ghost use Rattle.lert_journal.specs.Header.{magic, header, header_left, number_at, kept_in};
+ghost use Rattle.lert_journal.specs.Header.{begun, magic, header, header_left, number_at, kept_in, version_in};
 
 use byteorder::{ByteOrder, LittleEndian};
 use lert_base::{Kept, Numbers, Settings};
@@ -12,16 +12,26 @@ use lert_spec::agreed;
 /// How many bytes a header has. The first gate stands behind them.
 pub const HEADER_LEN: usize = 32;
 
-// The letters LERTJ, and version 1.
-const MAGIC: [u8; 8] = [0x4c, 0x45, 0x52, 0x54, 0x4a, 0x01, 0x00, 0x00];
+// How many of them begin a journal: the letters LERTJ, its version, and two bytes of 0.
+const MAGIC_LEN: usize = 8;
 
-/// Writes the header of a cone's journal, of the first version.
+// The version of the journals that are written.
+const WRITTEN: u8 = 2;
+
+// Those of a version.
+fn magic_of(version: u8) -> [u8; 8]
+    ensures { result ≡ magic version }
+{
+    [0x4c, 0x45, 0x52, 0x54, 0x4a, version, 0x00, 0x00]
+}
+
+/// Writes the header of a cone's journal, of the second version.
 pub fn write_header(settings: &Settings, cone: u32, into: &mut [u8; HEADER_LEN])
-    ensures text { into.new ≡ header (magic 1) settings.now cone }
-    ensures reads_back { kept_in into.new ≡ record { cone = cone; version = 1; numbers = settings.now } }
+    ensures text { into.new ≡ header (magic 2) settings.now cone }
+    ensures reads_back { kept_in into.new ≡ record { cone = cone; version = 2; numbers = settings.now } }
 {
     let numbers = settings.numbers();
-    put(into, 0, &MAGIC);
+    put(into, 0, &magic_of(WRITTEN));
     put_u32(into, 8, numbers.threshold as u32);
     put_u32(into, 12, numbers.room as u32);
     put_u32(into, 16, numbers.base as u32);
@@ -44,9 +54,7 @@ pub fn read_header(bytes: &[u8; HEADER_LEN]) -> Option<Kept>
 {
     let version = bytes[5];
     let is_known = version == 1 || version == 2;
-    let mut magic = MAGIC;
-    magic[5] = version;
-    if !is_known || bytes[..8] != magic[..] {
+    if !is_known || bytes[..8] != magic_of(version)[..] {
         return None;
     }
     Some(Kept {
@@ -65,21 +73,29 @@ pub fn read_header(bytes: &[u8; HEADER_LEN]) -> Option<Kept>
     })
 }
 
-/// The place at which a file leaves the header of a journal of the first version, from its first 32 bytes or more, or all
-/// where it has fewer. It is that of the first of eight bytes that begins no journal, else the file's length, where it ends inside the
-/// header. None where a header stands there, of whatever numbers.
+/// The place at which a file leaves the header of a journal, of version 1 or 2, from its first 32 bytes or more, or all
+/// where it has fewer. It is that of the first of eight bytes that begins no journal, else the file's length, where it
+/// ends inside the header. None where a header stands there, of whatever numbers.
 pub fn header_left(bytes: &[u8]) -> Option<u64>
     ensures place { (file : List ℕ) → take 32 bytes.now ≡ take 32 file → result ≡ header_left file }
-    ensures whole { IfNone result ((32 ≤ length bytes.now) × (take 8 bytes.now ≡ magic 1)) }
+    ensures whole { IfNone result ((32 ≤ length bytes.now) × IsVersion (version_in bytes.now)
+        × (take 8 bytes.now ≡ magic (version_in bytes.now))) }
 {
-    let same = agreed(&MAGIC, bytes);
-    if same < MAGIC.len() {
+    let same = begun(bytes);
+    if same < MAGIC_LEN {
         return Some(same as u64);
     }
     if bytes.len() < HEADER_LEN {
         return Some(bytes.len() as u64);
     }
     None
+}
+
+// How many of the first bytes begin a journal of one version or the other.
+fn begun(bytes: &[u8]) -> usize
+    ensures { result ≡ begun bytes.now }
+{
+    agreed(&magic_of(1), bytes).max(agreed(&magic_of(2), bytes))
 }
 
 // The number in the four bytes from a place on.

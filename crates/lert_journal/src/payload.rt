@@ -1,8 +1,9 @@
 //! Payloads as they are read: where one leaves the format, and the packet in it.
 
-ghost use Rattle.std.specs.Prelude.{◌≡◌, ℕ, ◌+◌, ◌-◌, ◌*◌, ◌/◌, ◌%◌, ◌^◌, ◌<◌, ◌≤◌, ◌==◌, not, length, IfSome, IfNone};
+ghost use Rattle.std.specs.Prelude.{◌≡◌, ℕ, ◌+◌, ◌-◌, ◌*◌, ◌/◌, ◌%◌, ◌^◌, ◌<◌, ◌≤◌, ◌==◌, not, length, drop, IfSome, IfNone};
 ghost use Rattle.std.specs.List.{position_from};
 ghost use Rattle.lert_base.specs.Entries.{packet_of};
+ghost use Rattle.lert_spec.specs.Counts.{weighed, weight_of};
 ghost use Rattle.lert_spec.specs.Items.{IsVersion, AreOfVersion};
 ghost use Rattle.lert_journal.specs.Payload.{payload_of, packet_in, item_in, item_len, is_counted, is_own, stray_spot, left, IsJournaled};
 
@@ -37,6 +38,22 @@ pub fn place_left(settings: &Settings, cone: u32, payload: &[u8], version: u8) -
     let item = item_in(payload, stray, version);
     let place = 12 + item_len(version) * stray + stray_spot(settings, cone, item, version);
     Some(place as u64)
+}
+
+/// What the items of a payload weigh together that stand behind the first `skip` ones. With the first version each
+/// weighs 1.
+pub fn weight_behind(payload: &[u8], version: u8, skip: u64) -> u64
+    requires short { length payload.now < 2 ^ 32 }
+    ensures value { result ≡ weight_of weighed (drop skip (packet_in version payload.now).items) }
+    ensures most { result ≤ 255 * length (packet_in version payload.now).items }
+{
+    let count = payload.len().saturating_sub(8) / item_len(version);
+    let first = count.min(skip as usize);
+    let mut weight = 0;
+    for n in first..count {
+        weight += u64::from(item_in(payload, n, version).weight);
+    }
+    weight
 }
 
 /// Puts the packet of a payload in the place of the one that the entry carries.

@@ -55,7 +55,7 @@ pub struct Levels<T: CountTable> {
 }
 
 // The version of the files that a made cone has.
-const MADE: u8 = 1;
+const MADE: u8 = 2;
 
 impl<T: CountTable> Model for Levels<T> {
     ghost use Rattle.std.specs.Prelude.{◌≡◌, ◌+◌, ◌*◌, ◌≤◌, IsSomeAnd, vec_capacity};
@@ -72,9 +72,9 @@ impl<T: CountTable> Model for Levels<T> {
 }
 
 impl<T: CountTable> Levels<T> {
-    /// No bin, and version 1, that of the files which a made cone has. Its only error is want of memory.
+    /// No bin, and version 2, that of the files which a made cone has. Its only error is want of memory.
     pub fn new(alloc: Global, settings: &Settings) -> Result<Levels<T>, OutOfMemory>
-        ensures { IfOk result (λ levels. levels ≡ record { settings = settings.now; version = 1; rows = replicate settings.now.levels [] }) }
+        ensures { IfOk result (λ levels. levels ≡ record { settings = settings.now; version = 2; rows = replicate settings.now.levels [] }) }
     {
         let numbers = settings.numbers();
         let bins = numbers.bins as usize;

@@ -1,5 +1,5 @@
 -- What the tests' flushes begin with: positions up to 32.
-use Rattle.std.proofs.Common.{ℕ, zero, suc, [], ◌∷◌, get_or, lit≤, ◌<◌, ◌≢◌, ◌≡◌, ◌+◌, ◌-◌, ◌*◌, ◌≤◌, List, refl, ap, sym, ◌∙◌}
+use Rattle.std.proofs.Common.{ℕ, zero, suc, [], ◌∷◌, get_or, lit≤, ◌<◌, ◌≢◌, ◌≡◌, ◌+◌, ◌-◌, ◌*◌, ◌≤◌, List, map, replicate, refl, ap, sym, ◌∙◌}
 use Rattle.std.proofs.Common.{subst, arith}
 use Rattle.lert_spec.specs.declared.numbers.Numbers.{Numbers}
 use Rattle.lert_spec.specs.Edges.{span}
@@ -12,7 +12,7 @@ use Rattle.lert_levels.proofs.rows.PlacedLaws.{directory_of_frames}
 use Rattle.lert_levels.specs.declared.rows.bin_at.BinAt.{BinAt}
 use Rattle.lert_levels.specs.rows.Ranges.{ranges}
 use Rattle.lert_levels.specs.rows.Named.{AreFramesAt, IsDirectory}
-use Rattle.lert_levels.specs.rows.Rows.{IsAt}
+use Rattle.lert_levels.specs.rows.Rows.{IsAt, range_of, row_of}
 use Rattle.lert_levels.specs.OnDisk.{OnDisk}
 use Rattle.lert_levels_tests.specs.Samples.{small, IsFilledTo, IsReady}
 use Rattle.lert_levels.specs.rows.Young.{Young}
@@ -57,22 +57,27 @@ ready_next k young disk after new ready few settings version at new_settings fro
       at = subst (λ n. IsAt small n after.rows) (sym before) (at_next k after.rows few (subst (λ (s : Numbers). IsAt s (12 + 4 * k) after.rows) now at));
     }
 
--- no bin is on disk before the first flush
-none_before : (level : ℕ) → 1 ≤ level → level ≤ 2 → ranges small 0 level ≡ ranges small 11 level
-none_before zero first last = absurd (omega arith)
-none_before (suc zero) first last = refl
-none_before (suc (suc zero)) first last = refl
-none_before (suc (suc (suc level))) first last = absurd (omega arith)
+-- no bin is on disk before the first one
+none_at : (level : ℕ) → 1 ≤ level → level ≤ 2 → map range_of (row_of (replicate 2 []) level) ≡ ranges small 11 level
+none_at zero first last = absurd (omega arith)
+none_at (suc zero) first last = refl
+none_at (suc (suc zero)) first last = refl
+none_at (suc (suc (suc level))) first last = absurd (omega arith)
 
-pub ready_first : (young : Young) (disk : OnDisk) → IsFilledTo 12 young → disk.settings ≡ small → disk.version ≡ 2 → IsAt small 0 disk.rows → IsReady 12 young disk
-ready_first young disk filled settings version at = record {
-  filled = filled;
-  disk_settings = settings;
-  disk_version = version;
-  at = record { levels = at.levels; each = λ level first last. at.each level first last ∙ none_before level first last };
-}
+abbrev pub fresh_disk : Numbers → OnDisk
+fresh_disk s = record { settings = s; version = 2; rows = replicate s.levels [] }
 
--- ---- directories
+pub ready_first : (young : Young) (disk : OnDisk) → IsFilledTo 12 young → disk ≡ fresh_disk young.settings → IsReady 12 young disk
+ready_first young disk filled empty =
+    let is : disk ≡ fresh_disk small = empty ∙ ap fresh_disk filled.settings in
+    record {
+      filled = filled;
+      disk_settings = ap (λ (d : OnDisk). d.settings) is;
+      disk_version = ap (λ (d : OnDisk). d.version) is;
+      at = subst (λ (d : OnDisk). IsAt small 11 d.rows) (sym is) (record { levels = refl; each = none_at });
+    }
+
+-- ---- the directory after 32 events
 
 valid : IsValid small
 valid = IsValid-from_unbroken small refl
@@ -99,15 +104,3 @@ are_frames (suc (suc k)) below = absurd (omega arith)
 
 pub directory_32 : IsDirectory small 32 (2 ∷ 2 ∷ 3 ∷ 1 ∷ 0 ∷ [])
 directory_32 = directory_of_frames small valid 32 (lit≤ tt) frames_32 refl are_frames
-
--- that of no bin
-abbrev frames_0 : List (List ℕ)
-frames_0 = [] ∷ [] ∷ []
-
-no_frames : (k : ℕ) → k < 2 → AreFramesAt small 0 (k + 1) (get_or frames_0 k [])
-no_frames zero below = record { counted = refl; known = All-nil (λ frame. frame ≤ 3); distinct = no_pairs }
-no_frames (suc zero) below = record { counted = refl; known = All-nil (λ frame. frame ≤ 3); distinct = no_pairs }
-no_frames (suc (suc k)) below = absurd (omega arith)
-
-pub directory_0 : IsDirectory small 0 (0 ∷ 0 ∷ [])
-directory_0 = directory_of_frames small valid 0 (lit≤ tt) frames_0 refl no_frames

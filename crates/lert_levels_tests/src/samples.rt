@@ -2,7 +2,6 @@
 //! tests share.
 
 ghost use Rattle.std.specs.Prelude.{◌≡◌, ◌+◌, ◌%◌, ◌^◌, ◌<◌, ◌≤◌, All, [], length};
-ghost use Rattle.lert_levels.specs.rows.Rows.{IsAt};
 ghost use Rattle.lert_levels_tests.specs.Samples.{IsReady, IsFilledTo};
 
 use lert_base::{Numbers, Piece, Settings, Totals};
@@ -89,24 +88,12 @@ fn filled(rt: &impl Abort, alloc: Global, tails: &[u64], weight: u8) -> Zero<Pla
     zero
 }
 
-// Lets levels without bins be those of files of version 2.
-fn be_of_version_2(levels: &mut Levels<PlainTable>)
-    requires { levels.old.settings ≡ SMALL }
-    ensures settings { levels.new.settings ≡ SMALL }
-    ensures version { levels.new.version ≡ 2 }
-    ensures at { IsAt SMALL 0 levels.new.rows }
-{
-    levels.restore(0, &[0, 0], 2);
-}
-
-// The levels on disk beside it, without bins, in files of version 2.
+// The levels on disk beside it, without bins.
 fn empty_levels(rt: &impl Abort, alloc: Global, zero: &Zero<PlainTable>) -> Levels<PlainTable>
     requires { IsFilledTo 12 zero.now }
     ensures { IsReady 12 zero.now result }
 {
-    let mut levels = Levels::new(alloc, zero.settings()).expect(rt, "memory");
-    be_of_version_2(&mut levels);
-    levels
+    Levels::new(alloc, zero.settings()).expect(rt, "memory")
 }
 
 // Level 0, the levels on disk, and their bay.

@@ -16,7 +16,7 @@ const NUMBERS: Numbers = Numbers {
 };
 
 const TEXT: [u8; HEADER_LEN] =
-    *b"LERTJ\x01\0\0\x03\0\0\0\x20\0\0\0\x04\0\0\0\x08\0\0\0\x03\x02\x02\0\0\0\0\0";
+    *b"LERTJ\x02\0\0\x03\0\0\0\x20\0\0\0\x04\0\0\0\x08\0\0\0\x03\x02\x02\0\0\0\0\0";
 
 #[test]
 fn a_header_is_written_and_read(rt: HostRuntime) {
@@ -24,7 +24,7 @@ fn a_header_is_written_and_read(rt: HostRuntime) {
     let mut bytes = [255; HEADER_LEN];
     write_header(&settings, 0, &mut bytes);
     assert_same(&rt, &bytes, &TEXT, "a header");
-    assert_same(&rt, &read_of(1), &Some(kept_of(1)), "what is read of it");
+    assert_same(&rt, &read_of(2), &Some(kept_of(2)), "what is read of it");
 }
 
 #[test]
@@ -82,13 +82,15 @@ fn other_first_bytes_begin_no_journal(rt: HostRuntime) {
 
 #[test]
 fn a_file_leaves_the_header_at_a_place(rt: HostRuntime) {
-    let broken: [(&[u8], Option<u64>); 8] = [
+    let broken: [(&[u8], Option<u64>); 10] = [
         (b"", Some(0)),
         (b"LER", Some(3)),
         (b"LERt", Some(3)),
-        (b"LERTJ\x02\0\0\x03", Some(5)),
+        (b"LERTJ\x03\0\0\x03", Some(5)),
+        (b"LERTJ\x02\0\x01\x03", Some(7)),
         (b"LERTJ\x01\0\0", Some(8)),
         (b"LERTJ\x01\0\0\x03", Some(9)),
+        (b"LERTJ\x02\0\0\x03", Some(9)),
         (&TEXT[..31], Some(31)),
         (&TEXT, None),
     ];

@@ -30,7 +30,11 @@ const MOST: u32 = 264;
 const MOST_WEIGHED: u32 = 296;
 
 // The journal of one packet of three keys 7.
-const TEXT: [u8; 70] =
+const TEXT: [u8; 73] =
+    *b"LERTJ\x02\0\0\x03\0\0\0\x20\0\0\0\x04\0\0\0\x08\0\0\0\x03\x02\x02\0\0\0\0\0\x01\x23\0\0\0\0\0\0\0\0\0\0\0\x07\0\0\0\0\0\0\0\x01\x07\0\0\0\0\0\0\0\x01\x07\0\0\0\0\0\0\0\x01\0";
+
+// That of the first version.
+const FIRST: [u8; 70] =
     *b"LERTJ\x01\0\0\x03\0\0\0\x20\0\0\0\x04\0\0\0\x08\0\0\0\x03\x02\x02\0\0\0\0\0\x01\x20\0\0\0\0\0\0\0\0\0\0\0\x07\0\0\0\0\0\0\0\x07\0\0\0\0\0\0\0\x07\0\0\0\0\0\0\0\0";
 
 // The journal of one packet of three keys 7 that weigh 1, 2 and 255.
@@ -86,12 +90,12 @@ fn stopped(rt: &impl Abort, alloc: Global, settings: &Settings, call: u64, pick:
     let mut header = [0; HEADER_LEN];
     write_header(settings, 0, &mut header);
     let mut bay = MemBay::new(alloc).expect(rt, "memory");
-    let mut log = GateLog::create(&mut bay, JOURNAL, &header, MOST).expect(rt, "no fault");
+    let mut log = GateLog::create(&mut bay, JOURNAL, &header, MOST_WEIGHED).expect(rt, "no fault");
     let entry = sevens(rt, alloc, 1, 1);
-    let mut buffer = [255; MOST as usize + 5];
-    append_entry(&mut log, &mut bay, &entry, &mut buffer, 1).expect(rt, "no fault");
+    let mut buffer = [255; MOST_WEIGHED as usize + 5];
+    append_entry(&mut log, &mut bay, &entry, &mut buffer, 2).expect(rt, "no fault");
     bay.stop_at(call);
-    let _ = append_entry(&mut log, &mut bay, &entry, &mut buffer, 1);
+    let _ = append_entry(&mut log, &mut bay, &entry, &mut buffer, 2);
     bay.crashed(pick).expect(rt, "memory")
 }
 
@@ -132,12 +136,12 @@ fn count_packets(settings: &Settings, bay: &mut MemBay, entry: &mut Entry) -> Co
     requires packet { settings.now.packet ≡ 8 }
     requires room { entry.old.keys.room ≡ 32 }
 {
-    let mut log = GateLog::at_gate(JOURNAL, HEADER_LEN as u64, MOST);
-    let mut buffer = [0; MOST as usize];
-    if !read_entry(&mut log, bay, settings, 0, entry, &mut buffer, 1)? {
+    let mut log = GateLog::at_gate(JOURNAL, HEADER_LEN as u64, MOST_WEIGHED);
+    let mut buffer = [0; MOST_WEIGHED as usize];
+    if !read_entry(&mut log, bay, settings, 0, entry, &mut buffer, 2)? {
         return Ok(0);
     }
-    if !read_entry(&mut log, bay, settings, 0, entry, &mut buffer, 1)? {
+    if !read_entry(&mut log, bay, settings, 0, entry, &mut buffer, 2)? {
         return Ok(1);
     }
     Ok(2)
@@ -209,8 +213,18 @@ fn assert_sevens(
 fn a_packet_is_written_and_read(rt: HostRuntime) {
     let settings = settings_of(&rt, ALONE);
     let entry = sevens(&rt, rt.alloc(), 1, 1);
-    let (mut bay, gate) = appended(&rt, rt.alloc(), &settings, 1, &entry);
+    let (mut bay, gate) = appended(&rt, rt.alloc(), &settings, 2, &entry);
     assert_same(&rt, &bay.bytes(JOURNAL), &TEXT.as_slice(), "a journal");
+    assert_same(&rt, &gate, &72, "its gate");
+    assert_sevens(&rt, rt.alloc(), &settings, 2, &mut bay, &[1, 1, 1], 72);
+}
+
+#[test]
+fn a_packet_of_the_first_version_is_written_and_read(rt: HostRuntime) {
+    let settings = settings_of(&rt, ALONE);
+    let entry = sevens(&rt, rt.alloc(), 1, 1);
+    let (mut bay, gate) = appended(&rt, rt.alloc(), &settings, 1, &entry);
+    assert_same(&rt, &bay.bytes(JOURNAL), &FIRST.as_slice(), "a journal");
     assert_same(&rt, &gate, &69, "its gate");
     assert_sevens(&rt, rt.alloc(), &settings, 1, &mut bay, &[1, 1, 1], 69);
 }

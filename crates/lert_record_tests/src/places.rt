@@ -1,4 +1,4 @@
-//! Each place at which the first record of a journal leaves the format, of both versions.
+//! Each place at which the first record of a journal leaves the format, of both versions, and what its items weigh.
 
 ghost use Rattle.std.specs.Prelude.{◌≡◌, ◌+◌, ◌*◌, ◌≤◌};
 ghost use Rattle.lert_journal.specs.Payload.{item_len};
@@ -9,7 +9,7 @@ use crate::same::assert_same;
 use lert_base::{Entry, Numbers, Settings};
 use lert_bay::{JOURNAL, MemBay};
 use lert_gatelog::{GateLog, LogFault};
-use lert_journal::{HEADER_LEN, place_left, read_entry};
+use lert_journal::{HEADER_LEN, place_left, read_entry, weight_behind};
 use std::alloc::Global;
 use std::process::Abort;
 
@@ -200,4 +200,32 @@ fn a_payload_has_at_most_four_times_as_many_items_as_the_settings_name(rt: HostR
     // Four keys 0 of the first version are a packet. With the second one they weigh nothing.
     let want = [None, Some(0), Some(20), Some(0)];
     assert_same(&rt, &found, &want, "four and five keys 0");
+}
+
+// Three keys 7 without weights, and three that weigh 1, 2 and 255.
+const SEVENS: &[u8] = b"\0\0\0\0\0\0\0\0\x07\0\0\0\0\0\0\0\x07\0\0\0\0\0\0\0\x07\0\0\0\0\0\0\0";
+
+const WEIGHED_SEVENS: &[u8] =
+    b"\0\0\0\0\0\0\0\0\x07\0\0\0\0\0\0\0\x01\x07\0\0\0\0\0\0\0\x02\x07\0\0\0\0\0\0\0\xff";
+
+// A payload, its version, how many items stand in front, and what those behind them weigh.
+const WEIGHTS: [(&[u8], u8, u64, u64); 10] = [
+    (SEVENS, 1, 0, 3),
+    (SEVENS, 1, 2, 1),
+    (SEVENS, 1, 3, 0),
+    (SEVENS, 1, 4, 0),
+    (WEIGHED_SEVENS, 2, 0, 258),
+    (WEIGHED_SEVENS, 2, 1, 257),
+    (WEIGHED_SEVENS, 2, 2, 255),
+    (WEIGHED_SEVENS, 2, 3, 0),
+    (WEIGHED_SEVENS, 2, u64::MAX, 0),
+    (b"", 2, 0, 0),
+];
+
+#[test]
+fn items_of_a_payload_are_weighed_behind_the_first_ones(rt: HostRuntime) {
+    for &(payload, version, skip, weight) in &WEIGHTS {
+        let found = (version, skip, weight_behind(payload, version, skip));
+        assert_same(&rt, &found, &(version, skip, weight), "a weight");
+    }
 }

@@ -1,4 +1,5 @@
 pub mod BayLaws
+pub mod BehindLaws
 pub mod BoundLaws
 pub mod FinalLaws
 pub mod LoggedLaws

@@ -1,23 +1,28 @@
 -- What a cone that is made over files has of them, and why one isn't.
-use Rattle.std.proofs.Common.{ℕ, suc, ◌≡◌, ◌+◌, ◌-◌, ◌≤◌, Bool, Option, Some, Result, Ok, Err, List, [], ◌∷◌, ◌++◌, length, map, take, drop, refl, ap, ap₂, sym, ◌∙◌, subst, arith}
-use Rattle.std.proofs.lemmas.{List.{append_cancel_left, length-map, length-replicate, length-take-le, take_all, take_at}, List.Elements.All-take}
+use Rattle.std.proofs.Common.{ℕ, suc, ◌≡◌, ◌+◌, ◌-◌, ◌<◌, ◌≤◌, ◌^◌, Bool, Option, Some, None, Result, Ok, Err, List}
+use Rattle.std.proofs.Common.{[], ◌∷◌, ◌++◌, length, map, take, drop, refl, ap, ap₂, sym, ◌∙◌, subst, arith, inl, inr}
+use Rattle.std.proofs.lemmas.{Bool.cases_eq, List.{append_cancel_left, length-map, length-replicate, length-take-le, take_all, take_at, take-take}, List.Elements.All-take}
 use Rattle.std.specs.Prelude.{MatchResult, IfErr, IfOk}
 use Rattle.lert_base.specs.{declared.kept.Kept.Kept, Packet.{Packet, events_of}}
 use Rattle.lert_bay.specs.{declared.bay.TheConstants.{JOURNAL, LOG, FRAMES}, Files.Files, Settled.{part, IsSettled}}
-use Rattle.lert_cone.specs.{History.{most_payload, written}, Logged.frames_of, Replay.IsLastOf, Sound.IsSound, Stands.Standing, Unread.unread, Wrote.IsShut}
-use Rattle.lert_cone.proofs.{AdoptLaws.bins_there, SoundLaws.history_light, UnreadLaws.length_unread}
+use Rattle.lert_cone.specs.{History.end_of, Logged.frames_of, Replay.IsLastOf, Sound.IsSound, Stands.Standing, Unread.unread, Wrote.IsShut}
+use Rattle.lert_cone.proofs.{AdoptLaws.bins_there, SoundLaws.history_light, UnreadLaws.length_unread, WeighLaws.edge_to}
 use Rattle.lert_gatelog.specs.Gated.{IsClosed}
-use Rattle.lert_levels.specs.{declared.rows.bin_at.BinAt.BinAt, rows.Loading.AllStand, rows.Named.IsDirectory, rows.Rows.{directory_text, tallied_in, IsAt}}
-use Rattle.lert_levels.proofs.{rows.CheckLaws.all_whole, HoldLaws.rows_stand}
+use Rattle.lert_journal.specs.{Header.version_in, Payload.most_payload}
+use Rattle.lert_journal.proofs.BeginningLaws.{version_in_part}
+use Rattle.lert_levels.specs.{declared.rows.bin_at.BinAt.BinAt, rows.Checked.{rows_left, rows_total}, rows.Loading.AllStand, rows.Named.IsDirectory, rows.Rows.{directory_text, tallied_in, IsAt}}
+use Rattle.lert_levels.proofs.{rows.SumLaws.rows_total-weighs, rows.CheckLaws.all_whole, HoldLaws.rows_stand}
 use Rattle.lert_reports.specs.{Log.{is_closed, last_directory, last_first, last_n0, last_offset, AreRecords, HasLog}, LogText.{LogRecord, directory_bytes}}
 use Rattle.lert_reports.proofs.{LogLaws.last_directory-push, LogOnce.one_log}
-use Rattle.lert_spec.specs.{declared.item.Item.Item, declared.numbers.Numbers.Numbers, declared.report.Report.Report, Items.{most_weight, AreOfVersion}, Limits.IsValid}
+use Rattle.lert_spec.specs.{declared.item.Item.Item, declared.numbers.Numbers.Numbers, declared.report.Report.Report}
+use Rattle.lert_spec.specs.{Counts.{weighed, weight_of}, Edges.edge, Items.{most_weight, AreOfVersion}, Limits.IsValid}
+use Rattle.lert_cone.specs.declared.journal_places.JournalPlace.{JournalPlace}
 use Rattle.lert_files.specs.{declared.fault.ReopenFault.ReopenFault, declared.fault.ReopenFault.TheVariants.{Failed, Malformed, OtherSettings}, Headed.{HasOther, IsHeaded}}
 use Rattle.lert_files.specs.{Opened.{AreLastRows, AreOpened, IsAsRead, LeaveAt}, Read.IsReadOf}
-use Rattle.lert_recover.specs.Replayed.{Before_records, In_records, HasReplayed, ReadsRest}
+use Rattle.lert_recover.specs.Replayed.{Before_records, In_records, frames_weigh, HasReplayed, ReadsRest}
 use Rattle.lert_recover.specs.Reopened.{IsReopened, IsReopenRefused, Of_call, Of_place, Of_header, Of_sight, IsStopped, At_call, At_place, At_sight, most_read}
 use Rattle.lert_recover.proofs.BoundLaws.{read_bound}
-use Rattle.lert_files.proofs.{PointLaws.directed, RecordsLaws.walk}
+use Rattle.lert_files.proofs.{HeadLaws.headed_of, OpenedLaws.same_last, PointLaws.directed, RecordsLaws.walk}
 
 -- ---- every image is what a read gives
 
@@ -84,15 +89,29 @@ module _ (s : Numbers) (cone : ℕ) where
   -- ---- files that are sound for a list are in their format up to the journal's records
 
   pub sound_headed : (seen : Files) (history : List Packet) → IsSound s cone history seen → IsHeaded s cone (seen JOURNAL)
-  sound_headed seen history sound = record { headed = sound.journal.headed; gate = omega (arith, sound.journal.records.closed.within) }
+  sound_headed seen history sound =
+      headed_of sound.version s cone (seen JOURNAL) sound.known sound.journal.headed (omega (arith, sound.journal.records.closed.within))
+
+  -- they are of the version that their journal begins with
+  pub sound_version : (seen : Files) (history : List Packet) (sound : IsSound s cone history seen) → sound.version ≡ version_in (seen JOURNAL)
+  sound_version seen history sound = sym (version_in_part sound.version s cone (seen JOURNAL) sound.journal.headed)
+
+  -- the record that their log names begins no later than level 0 does
+  pub sound_early : (seen : Files) (history : List Packet) (sound : IsSound s cone history seen) → last_first sound.logged ≤ edge s 0 (last_n0 sound.logged) + 1
+  sound_early seen history sound = elim (cases_eq (last_n0 sound.logged) 0) [
+    | inl none ↦ (let first = ap (λ (m : JournalPlace). m.first) (sound.begins.none none) in omega (arith, first))
+    | inr some ↦ (let holds = sound.begins.some (omega (arith, some)) in holds.from)
+  ]
 
   pub record SoundRows (seen : Files) (history : List Packet) (sound : IsSound s cone history seen) : Type 0 where
     pub rows : List (List BinAt)
     pub opened : AreOpened s cone seen sound.logged sound.log_end rows
+    pub weighs : frames_weigh s seen rows ≡ weight_of weighed (take (edge s 0 (last_n0 sound.logged)) (events_of history))
 
   pub sound_opened : IsValid s → (seen : Files) (history : List Packet) (sound : IsSound s cone history seen) → SoundRows seen history sound
   sound_opened valid seen history sound =
       let records = sound.logged in
+      let version = sound.version in
       let directory : IsDirectory s (last_n0 records) (directory_bytes (last_directory s records)) = directed s valid cone records sound.log.rules in
       let rows = directory.rows in
       let named = directory.named in
@@ -101,19 +120,37 @@ module _ (s : Numbers) (cone : ℕ) where
       let long : length events ≡ n0 = length-take-le n0 (events_of history) sound.n0_most in
       let holds = bins_there s events rows (last_directory s records) (seen FRAMES) (subst (λ n. IsAt s n rows) (sym long) named.at)
       (frames_named records rows sound.log.rules named) sound.frames in
-      let light : AreOfVersion written events = All-take (λ (item : Item). (1 ≤ item.weight) × (item.weight ≤ most_weight written)) n0 (events_of history)
+      let light : AreOfVersion version events = All-take (λ (item : Item). (1 ≤ item.weight) × (item.weight ≤ most_weight version)) n0 (events_of history)
       (history_light s cone history sound.journal.journaled) in
-      let stand = rows_stand s written events n0 rows (seen FRAMES) named.at named.are (omega (arith, long)) light holds s.levels (omega arith) in
+      let stand = rows_stand s version events n0 rows (seen FRAMES) named.at named.are (omega (arith, long)) light holds s.levels (omega arith) in
+      let all = subst (λ (rs : List (List BinAt)). AllStand s version (seen FRAMES) (tallied_in s events) rs) (take_all s.levels rows (omega (arith, named.at.levels))) stand in
       record {
         rows = rows;
         opened = record {
           headed = sound_headed seen history sound;
           log = sound.log;
           named = named;
-          frames = all_whole s written rows (seen FRAMES) (tallied_in s events) valid named.are
-              (subst (λ (rs : List (List BinAt)). AllStand s written (seen FRAMES) (tallied_in s events) rs) (take_all s.levels rows (omega (arith, named.at.levels))) stand);
+          frames = subst (λ (v : ℕ). rows_left s v (seen FRAMES) rows ≡ None) (sound_version seen history sound)
+              (all_whole s version rows (seen FRAMES) (tallied_in s events) valid named.are all);
         };
+        weighs = ap (λ v. rows_total s v (seen FRAMES) 1 rows) (sym (sound_version seen history sound))
+            ∙ (rows_total-weighs s valid n0 (omega (arith, sound.n0_most, sound.journal.within)) rows named.at version events (seen FRAMES) named.are all
+            ∙ ap (weight_of weighed) (take-take (edge s 0 n0) n0 (events_of history) (edge_to s n0)));
       }
+
+  -- what those frames weigh is what the items do that they hold
+  pub sound_weighs : IsValid s → cone < 2 ^ 32 → (seen : Files) (history : List Packet) (sound : IsSound s cone history seen) (records : List LogRecord) (log_end : ℕ) (rows : List (List BinAt)) →
+      AreOpened s cone seen records log_end rows → (n0 weight version : ℕ) → n0 ≡ last_n0 records → version ≡ version_in (seen JOURNAL) →
+      weight ≡ rows_total s version (seen FRAMES) 1 rows → weight_of weighed (take (edge s 0 n0) (events_of history)) ≡ weight
+  sound_weighs valid below seen history sound records log_end rows opened n0 weight version n0_is version_is weight_is =
+      let there = sound_opened valid seen history sound in
+      let same = (one_log s cone valid (seen LOG) records sound.logged log_end sound.log_end opened.log sound.log).0 in
+      let same_rows = same_last s cone valid below seen records sound.logged log_end sound.log_end rows there.rows opened.log sound.log opened.named there.opened.named in
+      ap (λ n. weight_of weighed (take (edge s 0 n) (events_of history))) (n0_is ∙ ap last_n0 same)
+      ∙ (sym there.weighs
+      ∙ (ap (frames_weigh s seen) (sym same_rows)
+      ∙ (ap (λ v. rows_total s v (seen FRAMES) 1 rows) (sym version_is)
+      ∙ sym weight_is)))
 
 -- ---- why a cone isn't made
 
@@ -127,7 +164,7 @@ module _ (s : Numbers) (cone : ℕ) (seen : Files) where
   -- by the journal, behind files that are in their format before its records
   pub refused_behind : (records : List LogRecord) (log_end : ℕ) (rows : List (List BinAt)) (fault : ReopenFault) → AreOpened s cone seen records log_end rows →
       ((history : List Packet) → IsSound s cone history seen → fault ≡ Failed) →
-      IsStopped s cone (last_n0 records) (is_closed records) (seen JOURNAL) (last_first records - 1) (last_offset records) fault →
+      IsStopped (version_in (seen JOURNAL)) s cone (last_n0 records) (is_closed records) (seen JOURNAL) (last_first records - 1) (frames_weigh s seen rows) (last_offset records) fault →
       IsReopenRefused s cone seen fault
   refused_behind records log_end rows fault opened fails (At_call is) = Of_call is
   refused_behind records log_end rows fault opened fails (At_place at is leaves) = Of_place 0 at is (In_records records log_end rows opened refl leaves)
@@ -159,17 +196,18 @@ pub stands_on : {K E L : Type 0} (A : L → Type 0) (C : L → K → Type 0) (R 
 stands_on A C R S T (Ok now) more stands = λ h some count is. stands h some count (more h is)
 stands_on A C R S T (Err refused) more stands = tt
 
-module _ {K E : Type 0} (closed_in : K → Bool) (events_in : K → List Item) (gate_in : K → ℕ) (fault_in : E → ReopenFault) where
-  pub reopened_of : (s : Numbers) (cone : ℕ) (seen : Files) (told : Option Files) → told ≡ Some seen → (records : List LogRecord) (log_end : ℕ) (rows : List (List BinAt))
-      (n0 offset first : ℕ) (closed : Bool) (reports : List Report) (directory : List ℕ) →
-      AreOpened s cone seen records log_end rows → IsReadOf s cone n0 offset first closed reports directory records → (result : Result K E) →
+module _ {K E : Type 0} (closed_in : K → Bool) (events_in : K → List Item) (weight_in gate_in : K → ℕ) (fault_in : E → ReopenFault) where
+  pub reopened_of : (version : ℕ) (s : Numbers) (cone : ℕ) (seen : Files) → version ≡ version_in (seen JOURNAL) → (told : Option Files) → told ≡ Some seen → (records : List LogRecord)
+      (log_end : ℕ) (rows : List (List BinAt)) (n0 offset first : ℕ) (closed : Bool) (weight : ℕ) (reports : List Report) (directory : List ℕ) →
+      AreOpened s cone seen records log_end rows → IsReadOf s cone n0 offset first closed reports directory records → weight ≡ frames_weigh s seen rows → (result : Result K E) →
       MatchResult result
-      (λ now. HasReplayed s cone n0 closed (seen JOURNAL) (unread s cone (first - 1) told) offset (gate_in now) (events_in now) × IsClosed (seen JOURNAL) (gate_in now))
-      (λ refused. IsStopped s cone n0 closed (seen JOURNAL) (length (unread s cone (first - 1) told)) offset (fault_in refused)) →
+      (λ now. HasReplayed version s cone n0 closed (seen JOURNAL) (unread version s cone (first - 1) told) weight offset (gate_in now) (events_in now) (weight_in now) ×
+      IsClosed (seen JOURNAL) (gate_in now))
+      (λ refused. IsStopped version s cone n0 closed (seen JOURNAL) (length (unread version s cone (first - 1) told)) weight offset (fault_in refused)) →
       IfOk result (λ now. n0 ≤ length (events_in now)) → IfOk result (λ now. closed_in now ≡ closed) →
       IfErr result (λ refused. (history : List Packet) → IsSound s cone history seen → fault_in refused ≡ Failed) →
-      MatchResult result (λ now. IsReopened s cone seen (closed_in now) (events_in now) (gate_in now)) (λ refused. IsReopenRefused s cone seen (fault_in refused))
-  reopened_of s cone seen told told_is records log_end rows n0 offset first closed reports directory opened read (Ok now) was enough same fails = record {
+      MatchResult result (λ now. IsReopened s cone seen (closed_in now) (events_in now) (weight_in now) (gate_in now)) (λ refused. IsReopenRefused s cone seen (fault_in refused))
+  reopened_of version s cone seen version_is told told_is records log_end rows n0 offset first closed weight reports directory opened read weighs (Ok now) was enough same fails = record {
     records = records;
     log_end = log_end;
     rows = rows;
@@ -178,42 +216,56 @@ module _ {K E : Type 0} (closed_in : K → Bool) (events_in : K → List Item) (
     replayed =
         let events = events_in now in
         let gate = gate_in now in
-        subst (λ (t : Option Files). HasReplayed s cone (last_n0 records) (is_closed records) (seen JOURNAL) (unread s cone (last_first records - 1) t) (last_offset records) gate
-        events) told_is
-        (subst (λ (f : ℕ). HasReplayed s cone (last_n0 records) (is_closed records) (seen JOURNAL) (unread s cone (f - 1) told) (last_offset records) gate events) read.first_is
-        (subst (λ (o : ℕ). HasReplayed s cone (last_n0 records) (is_closed records) (seen JOURNAL) (unread s cone (first - 1) told) o gate events) read.offset_is
-        (subst (λ (c : Bool). HasReplayed s cone (last_n0 records) c (seen JOURNAL) (unread s cone (first - 1) told) offset gate events) read.closed_is
-        (subst (λ (n : ℕ). HasReplayed s cone n closed (seen JOURNAL) (unread s cone (first - 1) told) offset gate events) read.n0_is was.0))));
+        let end = weight_in now in
+        let own = version_in (seen JOURNAL) in
+        let framed = frames_weigh s seen rows in
+        subst (λ (t : Option Files). HasReplayed own s cone (last_n0 records) (is_closed records) (seen JOURNAL) (unread own s cone (last_first records - 1) t) framed (last_offset records) gate
+        events end) told_is
+        (subst (λ (f : ℕ). HasReplayed own s cone (last_n0 records) (is_closed records) (seen JOURNAL) (unread own s cone (f - 1) told) framed (last_offset records) gate events end) read.first_is
+        (subst (λ (o : ℕ). HasReplayed own s cone (last_n0 records) (is_closed records) (seen JOURNAL) (unread own s cone (first - 1) told) framed o gate events end) read.offset_is
+        (subst (λ (c : Bool). HasReplayed own s cone (last_n0 records) c (seen JOURNAL) (unread own s cone (first - 1) told) framed offset gate events end) read.closed_is
+        (subst (λ (n : ℕ). HasReplayed own s cone n closed (seen JOURNAL) (unread own s cone (first - 1) told) framed offset gate events end) read.n0_is
+        (subst (λ (w : ℕ). HasReplayed own s cone n0 closed (seen JOURNAL) (unread own s cone (first - 1) told) w offset gate events end) weighs
+        (subst (λ (v : ℕ). HasReplayed v s cone n0 closed (seen JOURNAL) (unread v s cone (first - 1) told) weight offset gate events end) version_is was.0))))));
     shut = was.1;
     enough = subst (λ (n : ℕ). n ≤ length (events_in now)) read.n0_is enough;
   }
-  reopened_of s cone seen told told_is records log_end rows n0 offset first closed reports directory opened read (Err refused) was enough same fails =
+  reopened_of version s cone seen version_is told told_is records log_end rows n0 offset first closed weight reports directory opened read weighs (Err refused) was enough same fails =
       let fault = fault_in refused in
-      let count : length (unread s cone (first - 1) told) ≡ last_first records - 1 = length_unread s cone (first - 1) told ∙ ap (λ (f : ℕ). f - 1) read.first_is in
+      let own = version_in (seen JOURNAL) in
+      let framed = frames_weigh s seen rows in
+      let before = length (unread own s cone (first - 1) told) in
+      let count : before ≡ last_first records - 1 = length_unread own s cone (first - 1) told ∙ ap (λ (f : ℕ). f - 1) read.first_is in
       refused_behind s cone seen records log_end rows fault opened fails
-      (subst (λ (n : ℕ). IsStopped s cone (last_n0 records) (is_closed records) (seen JOURNAL) n (last_offset records) fault) count
-      (subst (λ (o : ℕ). IsStopped s cone (last_n0 records) (is_closed records) (seen JOURNAL) (length (unread s cone (first - 1) told)) o fault) read.offset_is
-      (subst (λ (c : Bool). IsStopped s cone (last_n0 records) c (seen JOURNAL) (length (unread s cone (first - 1) told)) offset fault) read.closed_is
-      (subst (λ (n : ℕ). IsStopped s cone n closed (seen JOURNAL) (length (unread s cone (first - 1) told)) offset fault) read.n0_is was))))
+      (subst (λ (n : ℕ). IsStopped own s cone (last_n0 records) (is_closed records) (seen JOURNAL) n framed (last_offset records) fault) count
+      (subst (λ (o : ℕ). IsStopped own s cone (last_n0 records) (is_closed records) (seen JOURNAL) before framed o fault) read.offset_is
+      (subst (λ (c : Bool). IsStopped own s cone (last_n0 records) c (seen JOURNAL) before framed offset fault) read.closed_is
+      (subst (λ (n : ℕ). IsStopped own s cone n closed (seen JOURNAL) before framed offset fault) read.n0_is
+      (subst (λ (w : ℕ). IsStopped own s cone n0 closed (seen JOURNAL) before w offset fault) weighs
+      (subst (λ (v : ℕ). IsStopped v s cone n0 closed (seen JOURNAL) (length (unread v s cone (first - 1) told)) weight offset fault) version_is was))))))
 
 -- ---- how much of the journal was read
 
 -- behind its header from the record on that the log names
 pub read_before : {B E : Type 0} (handed : B → ℕ) (bay_in : E → B) (s : Numbers) (cone : ℕ) → IsValid s → (seen : Files) (history : List Packet) (sound : IsSound s cone history seen)
-    (records : List LogRecord) (log_end : ℕ) → HasLog s cone (seen LOG) records log_end → (offset : ℕ) → offset ≡ last_offset records → (t : Numbers) → t ≡ s → (before bay : B) →
+    (records : List LogRecord) (log_end : ℕ) → HasLog s cone (seen LOG) records log_end → (offset : ℕ) → offset ≡ last_offset records → (t : Numbers) (v : ℕ) → t ≡ s → v ≡ version_in (seen JOURNAL) →
+    (before bay : B) →
     handed bay ≤ handed before + 32 → (result : Result (Standing B) E) →
-    MatchResult result (λ now. ReadsRest t offset history (handed bay) (handed now.bay)) (λ refused. ReadsRest t offset history (handed bay) (handed (bay_in refused))) →
+    MatchResult result (λ now. ReadsRest v t offset history (handed bay) (handed now.bay)) (λ refused. ReadsRest v t offset history (handed bay) (handed (bay_in refused))) →
     MatchResult result (λ now. handed now.bay ≤ handed before + most_read s) (λ refused. handed (bay_in refused) ≤ handed before + most_read s)
-read_before {B = B} {E = E} handed bay_in s cone valid seen history sound records log_end log offset offset_is t settings_are before bay head result rest = behind result rest
+read_before {B = B} {E = E} handed bay_in s cone valid seen history sound records log_end log offset offset_is t v settings_are version_is before bay head result rest = behind result rest
   where
     named : offset ≡ last_offset sound.logged
     named = offset_is ∙ ap last_offset (one_log s cone valid (seen LOG) records sound.logged log_end sound.log_end log sound.log).0
 
-    at_most : (later : B) → ReadsRest t offset history (handed bay) (handed later) → handed later ≤ handed before + most_read s
-    at_most later reads = omega (arith, head, reads, named, ap most_payload settings_are, read_bound s valid cone history seen sound)
+    at_most : (later : B) → ReadsRest v t offset history (handed bay) (handed later) → handed later ≤ handed before + most_read s
+    at_most later reads =
+        let same : v ≡ sound.version = version_is ∙ sym (sound_version s cone seen history sound) in
+        let most : most_payload v t ≡ most_payload sound.version s = λ i. most_payload (same i) (settings_are i) in
+        omega (arith, head, reads, named, most, ap (λ (w : ℕ). end_of w history) same, read_bound s valid cone history seen sound)
 
     behind : (result : Result (Standing B) E) →
-        MatchResult result (λ now. ReadsRest t offset history (handed bay) (handed now.bay)) (λ refused. ReadsRest t offset history (handed bay) (handed (bay_in refused))) →
+        MatchResult result (λ now. ReadsRest v t offset history (handed bay) (handed now.bay)) (λ refused. ReadsRest v t offset history (handed bay) (handed (bay_in refused))) →
         MatchResult result (λ now. handed now.bay ≤ handed before + most_read s) (λ refused. handed (bay_in refused) ≤ handed before + most_read s)
     behind (Ok now) reads = at_most now.bay reads
     behind (Err refused) reads = at_most (bay_in refused) reads

@@ -4,13 +4,13 @@ use Rattle.lert_cone.proofs.SoundLaws.{some_keys_of}
 use Rattle.lert_base.specs.Packet.{Packet}
 use Rattle.lert_bay.specs.{declared.bay.TheConstants.{JOURNAL, FRAMES}, Files.{Files, IfTold}, Kept.{Bays, CallsBay}}
 use Rattle.lert_reports.specs.declared.log_point.LogPoint.{LogPoint}
-use Rattle.lert_cone.specs.{Framed.{HoldsSome, last_flush}, History.{most_payload, written}, Listing.Listing, Replay.{MayFollow, ReplayLeavesAt}, Replaying.{Replaying, IsSameReplay}}
+use Rattle.lert_cone.specs.{Framed.{HoldsSome, last_flush}, Listing.Listing, Replay.{MayFollow, ReplayLeavesAt, weight_behind}, Replaying.{Replaying, IsSameReplay}}
 use Rattle.lert_cone.specs.{Replays.{BringsNoFlush, HasTaken, IsUnwritten}, Sound.IsSound}
 use Rattle.lert_files.specs.Opened.{WritesNothing}
 use Rattle.lert_gatelog.specs.Gated.{IsClosed, IsOpen, next_gate}
-use Rattle.lert_journal.specs.{Journal.HoldsPacket, Payload.payload_of}
+use Rattle.lert_journal.specs.{Journal.HoldsPacket, Payload.{most_payload, payload_of}}
 use Rattle.lert_levels.specs.declared.rows.bin_at.BinAt.{BinAt}
-use Rattle.lert_spec.specs.{declared.item.Item.Item, declared.numbers.Numbers.Numbers, Edges.capacity}
+use Rattle.lert_spec.specs.{declared.item.Item.Item, declared.numbers.Numbers.Numbers, Edges.{edge, capacity, weight_room}}
 use Rattle.lert_recover.specs.Replayed.{FlushesNothing, HasReplayed, IsJournalSame}
 use Rattle.lert_recover.proofs.ReplayedLaws.{none_flushed, replayed_more}
 
@@ -31,12 +31,12 @@ journal_on one two = record {
 }
 
 -- before the first packet
-pub framed_none : (files : Option Files) (s : Numbers) (n0 : ℕ) (rows : List (List BinAt)) (events : List Item) → length events ≤ n0 → (seen there : Files) → files ≡ Some seen →
-    files ≡ Some there → HoldsSome s n0 rows (seen FRAMES) → HoldsSome s (max n0 (length events)) rows (there FRAMES)
-framed_none files s n0 rows events few seen there told told_there some =
+pub framed_none : {version : ℕ} (files : Option Files) (s : Numbers) (n0 : ℕ) (rows : List (List BinAt)) (events : List Item) → length events ≤ n0 → (seen there : Files) → files ≡ Some seen →
+    files ≡ Some there → HoldsSome version s n0 rows (seen FRAMES) → HoldsSome version s (max n0 (length events)) rows (there FRAMES)
+framed_none {version} files s n0 rows events few seen there told told_there some =
     let n_is : n0 ≡ max n0 (length events) = omega (arith, few) in
     let same : seen ≡ there = one_told seen there (sym told ∙ told_there) in
-    subst (λ (n : ℕ). HoldsSome s n rows (there FRAMES)) n_is (subst (λ (f : Files). HoldsSome s n0 rows (f FRAMES)) same some)
+    subst (λ (n : ℕ). HoldsSome version s n rows (there FRAMES)) n_is (subst (λ (f : Files). HoldsSome version s n0 rows (f FRAMES)) same some)
   where
     one_told : (one other : Files) → Some one ≡ Some other → one ≡ other
     one_told one other is = cc
@@ -48,51 +48,63 @@ pub same_on : {B : Type 0} (start old new : Replaying B) → IsSameReplay start 
 same_on start old new one two = record { settings = two.settings ∙ one.settings; cone = two.cone ∙ one.cone; made = two.made ∙ one.made; last = two.last ∙ one.last }
 
 module _ {B : Type 0} (files : B → Option Files) (start old new : Replaying B) where
-  module _ (seen : Files) (told : files start.bay ≡ Some seen) (same : IsSameReplay start old) (journal : IsJournalSame (files start.bay) (files old.bay)) (first gate : ℕ) where
-    abbrev Read : ℕ → List Item → Type 0
-    Read end events = HasReplayed start.listing.settings start.listing.cone start.last.n0 start.last.closed (seen JOURNAL) start.listing.events first end events
+  module _ (seen : Files) (told : files start.bay ≡ Some seen) (same : IsSameReplay start old) (version_is : old.listing.version ≡ start.listing.version)
+      (journal : IsJournalSame (files start.bay) (files old.bay)) (first gate : ℕ) where
+    abbrev Read : ℕ → List Item → ℕ → Type 0
+    Read end events weight =
+        HasReplayed start.listing.version start.listing.settings start.listing.cone start.last.n0 start.last.closed (seen JOURNAL) start.listing.events start.weight first end events weight
 
     -- what a call took
     abbrev pub Takes : Files → ℕ → Type 0
     Takes now next =
         (packet : Packet)
-        × HoldsPacket written old.listing.settings old.listing.cone (most_payload old.listing.settings) (now JOURNAL) gate packet
-        × MayFollow old.listing.settings old.last.n0 old.last.closed (length old.listing.events) packet
-        × (next ≡ next_gate gate (payload_of written packet))
+        × HoldsPacket old.listing.version old.listing.settings old.listing.cone (most_payload old.listing.version old.listing.settings) (now JOURNAL) gate packet
+        × MayFollow old.listing.settings old.last.n0 old.last.closed (length old.listing.events) old.weight packet
+        × (next ≡ next_gate gate (payload_of old.listing.version packet))
         × (new.listing ≡ record old.listing { events = old.listing.events ++ packet.items })
+        × (new.weight ≡ old.weight + weight_behind (edge old.listing.settings 0 old.last.n0) (length old.listing.events) packet.items)
 
-    pub read_on : (next : ℕ) → Read gate old.listing.events → ((now : Files) → files old.bay ≡ Some now → Takes now next) → Read next new.listing.events
+    pub read_on : (next : ℕ) → Read gate old.listing.events old.weight → ((now : Files) → files old.bay ≡ Some now → Takes now next) → Read next new.listing.events new.weight
     read_on next has taken =
         let there = journal.told seen told in
         let now = there.0 in
         let took = taken now there.1 in
         let packet = took.0 in
         let s = start.listing.settings in
-        let own : HoldsPacket written s start.listing.cone (most_payload s) (seen JOURNAL) gate packet =
-        subst (λ (bytes : List ℕ). HoldsPacket written s start.listing.cone (most_payload s) bytes gate packet) there.2
-        (subst (λ (cone : ℕ). HoldsPacket written s cone (most_payload s) (now JOURNAL) gate packet) same.cone
-        (subst (λ (t : Numbers). HoldsPacket written t old.listing.cone (most_payload t) (now JOURNAL) gate packet) same.settings took.1)) in
-        let may : MayFollow s start.last.n0 start.last.closed (length old.listing.events) packet =
-        subst (λ (last : LogPoint). MayFollow s last.n0 last.closed (length old.listing.events) packet) same.last
-        (subst (λ (t : Numbers). MayFollow t old.last.n0 old.last.closed (length old.listing.events) packet) same.settings took.2) in
-        subst (Read next) (sym (ap (λ (l : Listing). l.events) took.4))
-        (subst (λ (g : ℕ). Read g (old.listing.events ++ packet.items)) (sym took.3)
-        (replayed_more s start.listing.cone start.last.n0 start.last.closed (seen JOURNAL) start.listing.events first gate old.listing.events packet has own may))
+        let v = start.listing.version in
+        let own : HoldsPacket v s start.listing.cone (most_payload v s) (seen JOURNAL) gate packet =
+        subst (λ (bytes : List ℕ). HoldsPacket v s start.listing.cone (most_payload v s) bytes gate packet) there.2
+        (subst (λ (cone : ℕ). HoldsPacket v s cone (most_payload v s) (now JOURNAL) gate packet) same.cone
+        (subst (λ (t : Numbers). HoldsPacket v t old.listing.cone (most_payload v t) (now JOURNAL) gate packet) same.settings
+        (subst (λ (w : ℕ). HoldsPacket w old.listing.settings old.listing.cone (most_payload w old.listing.settings) (now JOURNAL) gate packet) version_is took.1))) in
+        let may : MayFollow s start.last.n0 start.last.closed (length old.listing.events) old.weight packet =
+        subst (λ (last : LogPoint). MayFollow s last.n0 last.closed (length old.listing.events) old.weight packet) same.last
+        (subst (λ (t : Numbers). MayFollow t old.last.n0 old.last.closed (length old.listing.events) old.weight packet) same.settings took.2) in
+        let weight : new.weight ≡ old.weight + weight_behind (edge s 0 start.last.n0) (length old.listing.events) packet.items =
+        took.5 ∙ (λ i. old.weight + weight_behind (edge (same.settings i) 0 (same.last i).n0) (length old.listing.events) packet.items) in
+        subst (λ (w : ℕ). Read next new.listing.events w) (sym weight)
+        (subst (λ (events : List Item). Read next events (old.weight + weight_behind (edge s 0 start.last.n0) (length old.listing.events) packet.items)) (sym (ap (λ (l : Listing). l.events) took.4))
+        (subst (λ (g : ℕ). Read g (old.listing.events ++ packet.items) (old.weight + weight_behind (edge s 0 start.last.n0) (length old.listing.events) packet.items)) (sym (took.3 ∙ ap (λ (w : ℕ).
+        next_gate gate (payload_of w packet)) version_is))
+        (replayed_more v s start.listing.cone start.last.n0 start.last.closed (seen JOURNAL) start.listing.events start.weight first gate old.listing.events old.weight packet has own may)))
 
     -- where a call found the format left
-    pub left_on : (at n : ℕ) → n ≡ length old.listing.events → ((now : Files) → files old.bay ≡ Some now →
-        ReplayLeavesAt old.listing.settings old.listing.cone old.last.n0 old.last.closed (length old.listing.events) (now JOURNAL) gate at) →
-        ReplayLeavesAt start.listing.settings start.listing.cone start.last.n0 start.last.closed n (seen JOURNAL) gate at
-    left_on at n n_is left =
+    pub left_on : (at n w : ℕ) → n ≡ length old.listing.events → w ≡ old.weight → ((now : Files) → files old.bay ≡ Some now →
+        ReplayLeavesAt old.listing.version old.listing.settings old.listing.cone old.last.n0 old.last.closed (length old.listing.events) old.weight (now JOURNAL) gate at) →
+        ReplayLeavesAt start.listing.version start.listing.settings start.listing.cone start.last.n0 start.last.closed n w (seen JOURNAL) gate at
+    left_on at n w n_is w_is left =
         let there = journal.told seen told in
         let now = there.0 in
         let s = start.listing.settings in
-        subst (λ (m : ℕ). ReplayLeavesAt s start.listing.cone start.last.n0 start.last.closed m (seen JOURNAL) gate at) (sym n_is)
-        (subst (λ (bytes : List ℕ). ReplayLeavesAt s start.listing.cone start.last.n0 start.last.closed (length old.listing.events) bytes gate at) there.2
-        (subst (λ (last : LogPoint). ReplayLeavesAt s start.listing.cone last.n0 last.closed (length old.listing.events) (now JOURNAL) gate at) same.last
-        (subst (λ (cone : ℕ). ReplayLeavesAt s cone old.last.n0 old.last.closed (length old.listing.events) (now JOURNAL) gate at) same.cone
-        (subst (λ (t : Numbers). ReplayLeavesAt t old.listing.cone old.last.n0 old.last.closed (length old.listing.events) (now JOURNAL) gate at) same.settings
-        (left now there.1)))))
+        let v = start.listing.version in
+        subst (λ (m : ℕ). ReplayLeavesAt v s start.listing.cone start.last.n0 start.last.closed m w (seen JOURNAL) gate at) (sym n_is)
+        (subst (λ (m : ℕ). ReplayLeavesAt v s start.listing.cone start.last.n0 start.last.closed (length old.listing.events) m (seen JOURNAL) gate at) (sym w_is)
+        (subst (λ (bytes : List ℕ). ReplayLeavesAt v s start.listing.cone start.last.n0 start.last.closed (length old.listing.events) old.weight bytes gate at) there.2
+        (subst (λ (last : LogPoint). ReplayLeavesAt v s start.listing.cone last.n0 last.closed (length old.listing.events) old.weight (now JOURNAL) gate at) same.last
+        (subst (λ (cone : ℕ). ReplayLeavesAt v s cone old.last.n0 old.last.closed (length old.listing.events) old.weight (now JOURNAL) gate at) same.cone
+        (subst (λ (t : Numbers). ReplayLeavesAt v t old.listing.cone old.last.n0 old.last.closed (length old.listing.events) old.weight (now JOURNAL) gate at) same.settings
+        (subst (λ (w : ℕ). ReplayLeavesAt w old.listing.settings old.listing.cone old.last.n0 old.last.closed (length old.listing.events) old.weight (now JOURNAL) gate at) version_is
+        (left now there.1)))))))
 
     -- and where it found a closed gate
     pub shut_on : ((now : Files) → files old.bay ≡ Some now → IsClosed (now JOURNAL) gate) → IsClosed (seen JOURNAL) gate
@@ -101,16 +113,19 @@ module _ {B : Type 0} (files : B → Option Files) (start old new : Replaying B)
         subst (λ (bytes : List ℕ). IsClosed bytes gate) there.2 (shut there.0 there.1)
 
     -- and where no flush comes with what stands at the gate
-    pub still_on : Read gate old.listing.events → FlushesNothing start.listing.settings start.last.n0 (seen JOURNAL) (length start.listing.events) first →
+    pub still_on : Read gate old.listing.events old.weight → FlushesNothing start.listing.version start.listing.settings start.last.n0 (seen JOURNAL) (length start.listing.events) first →
         BringsNoFlush old ((journal.told seen told).0 JOURNAL) gate
     still_on has nothing packet holds may =
         let there = journal.told seen told in
         let s = start.listing.settings in
+        let v = start.listing.version in
         let n = length old.listing.events in
-        let opened : IsOpen (most_payload s) (seen JOURNAL) gate (payload_of written packet) =
-        subst (λ (bytes : List ℕ). IsOpen (most_payload s) bytes gate (payload_of written packet)) there.2
-        (subst (λ (t : Numbers). IsOpen (most_payload t) (there.0 JOURNAL) gate (payload_of written packet)) same.settings holds.stands) in
-        let none = none_flushed s start.listing.cone start.last.n0 start.last.closed (seen JOURNAL) start.listing.events first gate old.listing.events packet has nothing opened in
+        let opened : IsOpen (most_payload v s) (seen JOURNAL) gate (payload_of v packet) =
+        subst (λ (bytes : List ℕ). IsOpen (most_payload v s) bytes gate (payload_of v packet)) there.2
+        (subst (λ (t : Numbers). IsOpen (most_payload v t) (there.0 JOURNAL) gate (payload_of v packet)) same.settings
+        (subst (λ (w : ℕ). IsOpen (most_payload w old.listing.settings) (there.0 JOURNAL) gate (payload_of w packet)) version_is holds.stands)) in
+        let none = none_flushed v s start.listing.cone start.last.n0 start.last.closed (seen JOURNAL) start.listing.events start.weight first gate old.listing.events old.weight packet has nothing
+        opened in
         subst (λ (t : Numbers). last_flush t (n + length packet.items) ≤ max old.last.n0 n) (sym same.settings)
         (omega (arith, none, ap (λ (last : LogPoint). last.n0) same.last))
 
@@ -121,10 +136,12 @@ fewer_left most count keys some within = omega (arith, some, within)
 -- what one packet more makes of a cone's counts and its gate
 pub record HasGrown {B : Type 0} (start old new : Replaying B) (next : ℕ) : Type 0 where
   pub taking : new.stopped ≡ old.stopped
+  pub version : new.listing.version ≡ old.listing.version
   pub closed : new.listing.closed ≡ old.listing.closed
   pub gate_is : new.gate ≡ next
   pub counted : new.events ≡ length new.listing.events
   pub within : length new.listing.events ≤ capacity start.listing.settings
+  pub light : new.weight ≤ weight_room start.listing.settings
   pub near : next ≤ 2 ^ 46 + 65536 * length new.listing.events
   pub fewer : capacity start.listing.settings - length new.listing.events < capacity start.listing.settings - length old.listing.events
 
@@ -138,10 +155,12 @@ has_grown {B = B} files start old new gate next same counted near took forward =
     let within : n + length keys ≤ capacity start.listing.settings = subst (λ (s : Numbers). n + length keys ≤ capacity s) same.settings took.follows.within in
     record {
       taking = ap (λ (k : Replaying B). k.stopped) took.is;
+      version = ap (λ (k : Replaying B). k.listing.version) took.is;
       closed = ap (λ (k : Replaying B). k.listing.closed) took.is;
       gate_is = ap (λ (k : Replaying B). k.gate) took.is;
       counted = omega (arith, ap (λ (k : Replaying B). k.events) took.is, counted, count);
       within = omega (arith, within, count);
+      light = subst (λ (s : Numbers). new.weight ≤ weight_room s) same.settings (omega (arith, ap (λ (k : Replaying B). k.weight) took.is, took.follows.light));
       near = omega (arith, near, forward, some, count);
       fewer = subst (λ (m : ℕ). capacity start.listing.settings - m < capacity start.listing.settings - n) (sym count)
           (fewer_left (capacity start.listing.settings) n (length keys) some within);

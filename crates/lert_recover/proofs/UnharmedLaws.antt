@@ -4,6 +4,7 @@ use Rattle.std.specs.Prelude.{IfErr, MatchResult}
 use Rattle.lert_base.specs.declared.kept.Kept.{Kept}
 use Rattle.lert_bay.specs.{declared.bay.TheConstants.JOURNAL, Files.{Files, IfTold}, Kept.Bays}
 use Rattle.lert_bay.proofs.KeptLaws.{IsLawful, calls_as, reading_none}
+use Rattle.lert_journal.specs.Header.{version_in}
 use Rattle.lert_cone.specs.{KeepsLog.KeepsLog, Stands.Standing}
 use Rattle.lert_cone.proofs.KeepsLogLaws.{keeps_log_none}
 use Rattle.lert_files.specs.{declared.fault.ReopenFault.ReopenFault, declared.fault.ReopenFault.TheVariants.{Failed, OtherSettings}, Headed.HasOther, Opened.{AreOpened, WritesNothing}}
@@ -22,7 +23,8 @@ module _ {B : Type 0} (bays : Bays B) (s : Numbers) (cone : ℕ) (before : B) wh
     other = λ seen told kept has. quiet;
     unflushed = λ seen told none. quiet;
     log = λ seen told records log_end log now told_now.
-        subst (λ (files : Files). KeepsLog s records log_end seen files) (same_Some seen now (sym (quiet.seen ∙ told) ∙ told_now)) (keeps_log_none s records log_end seen log.records_stand);
+        subst (λ (files : Files). KeepsLog (version_in (seen JOURNAL)) s records log_end seen files) (same_Some seen now (sym (quiet.seen ∙ told) ∙ told_now)) (keeps_log_none s records log_end seen
+        log.records_stand);
   }
 
   -- no call

@@ -7,30 +7,37 @@ use Rattle.lert_cone.specs.{declared.refusal.ReplayFault.ReplayFault, declared.r
 use Rattle.lert_cone.specs.{Sound.IsSound, Unread.unread}
 use Rattle.lert_gatelog.specs.Gated.{IsClosed}
 use Rattle.lert_levels.specs.declared.rows.bin_at.BinAt.{BinAt}
-use Rattle.lert_files.specs.{declared.fault.ReopenFault.ReopenFault, declared.fault.ReopenFault.TheVariants.{Failed, Malformed, OtherSettings}, Headed.{HasOther, IsHeaded}, Opened.AreOpened}
-use Rattle.lert_recover.specs.Replayed.{AreInFormat, FirstLeaves, HasReplayed, JournalEnds, JournalLeavesAt}
+use Rattle.lert_files.specs.{declared.fault.ReopenFault.ReopenFault, declared.fault.ReopenFault.TheVariants.{Failed, Malformed, OtherSettings}}
+use Rattle.lert_files.specs.{Headed.{HasOther, IsHeaded}, Opened.{AreLastRows, AreOpened}}
+use Rattle.lert_recover.specs.Replayed.{AreInFormat, FirstLeaves, frames_weigh, HasReplayed, JournalEnds, JournalLeavesAt}
 use Rattle.lert_reports.specs.{Log.{is_closed, last_first, last_n0, last_offset, HasLog}, LogText.LogRecord}
 use Rattle.lert_spec.specs.declared.{item.Item.Item, numbers.Numbers.Numbers}
+use Rattle.lert_journal.specs.Header.{version_in}
 
 -- All of the files is in its format, but for what stands before the record of the journal that the log's last one names. These are
 -- the items that aren't read, and behind them those of the packets from that record on, up to the closed gate.
-pub record IsReopened (s : Numbers) (cone : ℕ) (seen : Files) (closed : Bool) (events : List Item) (gate : ℕ) : Type 0 where
+pub record IsReopened (s : Numbers) (cone : ℕ) (seen : Files) (closed : Bool) (events : List Item) (weight gate : ℕ) : Type 0 where
   pub records : List LogRecord
   pub log_end : ℕ
   pub rows : List (List BinAt)
   pub opened : AreOpened s cone seen records log_end rows
   pub closed_is : closed ≡ is_closed records
-  pub replayed : HasReplayed s cone (last_n0 records) (is_closed records) (seen JOURNAL) (unread s cone (last_first records - 1) (Some seen)) (last_offset records) gate events
+  pub replayed : HasReplayed (version_in (seen JOURNAL)) s cone (last_n0 records) (is_closed records) (seen JOURNAL)
+      (unread (version_in (seen JOURNAL)) s cone (last_first records - 1) (Some seen)) (frames_weigh s seen rows) (last_offset records) gate events weight
   pub shut : IsClosed (seen JOURNAL) gate
   pub enough : last_n0 records ≤ length events
 
--- of that the journal alone: it has the cone's header, and these are the items that a reopening has of it
-pub record IsReadOn (s : Numbers) (cone : ℕ) (seen : Files) (events : List Item) (gate : ℕ) : Type 0 where
+-- of that the journal alone: it has the cone's header, and these are the items that a reopening has of it, and what they weigh, with the
+-- frames that the log's last record names
+pub record IsReadOn (s : Numbers) (cone : ℕ) (seen : Files) (events : List Item) (weight gate : ℕ) : Type 0 where
   pub headed : IsHeaded s cone (seen JOURNAL)
   pub records : List LogRecord
   pub log_end : ℕ
   pub log : HasLog s cone (seen LOG) records log_end
-  pub replayed : HasReplayed s cone (last_n0 records) (is_closed records) (seen JOURNAL) (unread s cone (last_first records - 1) (Some seen)) (last_offset records) gate events
+  pub rows : List (List BinAt)
+  pub named : AreLastRows s records rows
+  pub replayed : HasReplayed (version_in (seen JOURNAL)) s cone (last_n0 records) (is_closed records) (seen JOURNAL)
+      (unread (version_in (seen JOURNAL)) s cone (last_first records - 1) (Some seen)) (frames_weigh s seen rows) (last_offset records) gate events weight
   pub shut : IsClosed (seen JOURNAL) gate
   pub enough : last_n0 records ≤ length events
 
@@ -51,25 +58,25 @@ pub data IsReopenRefused (s : Numbers) (cone : ℕ) (seen : Files) (fault : Reop
 
 -- ---- the journal alone
 
--- why a replay stopped that began at a gate, behind n events
-pub data IsStopped (s : Numbers) (cone n0 : ℕ) (closed : Bool) (bytes : List ℕ) (n gate : ℕ) (fault : ReopenFault) : Type 0 where
-  At_call : fault ≡ Failed → IsStopped s cone n0 closed bytes n gate fault
-  At_place : (at : ℕ) → fault ≡ Malformed JOURNAL at → JournalLeavesAt s cone n0 closed bytes n gate at → IsStopped s cone n0 closed bytes n gate fault
-  At_sight : (file at : ℕ) → fault ≡ Malformed file at → JournalEnds s cone n0 closed bytes n gate → file ≡ LOG → at ≡ 0 → IsStopped s cone n0 closed bytes n gate fault
+-- why a replay stopped that began at a gate, behind n events that weigh w
+pub data IsStopped (version : ℕ) (s : Numbers) (cone n0 : ℕ) (closed : Bool) (bytes : List ℕ) (n w gate : ℕ) (fault : ReopenFault) : Type 0 where
+  At_call : fault ≡ Failed → IsStopped version s cone n0 closed bytes n w gate fault
+  At_place : (at : ℕ) → fault ≡ Malformed JOURNAL at → JournalLeavesAt version s cone n0 closed bytes n w gate at → IsStopped version s cone n0 closed bytes n w gate fault
+  At_sight : (file at : ℕ) → fault ≡ Malformed file at → JournalEnds version s cone n0 closed bytes n w gate → file ≡ LOG → at ≡ 0 → IsStopped version s cone n0 closed bytes n w gate fault
 
--- what a fault of a replay is that stopped at a gate, behind n events: that the files are sound for no list is told
+-- what a fault of a replay is that stopped at a gate, behind n events that weigh w: that the files are sound for no list is told
 -- only where the rest of the journal is in its format
-abbrev pub IsWhy : Numbers → ℕ → ℕ → Bool → List ℕ → ℕ → ℕ → ReplayFault → ReopenFault → Type 0
-IsWhy s cone n0 closed bytes n gate ReplayFailed fault = fault ≡ Failed
-IsWhy s cone n0 closed bytes n gate (ReplayMalformed at) fault = fault ≡ Malformed JOURNAL at
-IsWhy s cone n0 closed bytes n gate (ReplayUnsound file at) fault =
+abbrev pub IsWhy : ℕ → Numbers → ℕ → ℕ → Bool → List ℕ → (n w gate : ℕ) → ReplayFault → ReopenFault → Type 0
+IsWhy version s cone n0 closed bytes n w gate ReplayFailed fault = fault ≡ Failed
+IsWhy version s cone n0 closed bytes n w gate (ReplayMalformed at) fault = fault ≡ Malformed JOURNAL at
+IsWhy version s cone n0 closed bytes n w gate (ReplayUnsound file at) fault =
     (fault ≡ Failed)
-    ⊎ (((fault ≡ Malformed file at) × JournalEnds s cone n0 closed bytes n gate)
-    ⊎ ((place : ℕ) × (fault ≡ Malformed JOURNAL place) × JournalLeavesAt s cone n0 closed bytes n gate place))
+    ⊎ (((fault ≡ Malformed file at) × JournalEnds version s cone n0 closed bytes n w gate)
+    ⊎ ((place : ℕ) × (fault ≡ Malformed JOURNAL place) × JournalLeavesAt version s cone n0 closed bytes n w gate place))
 
 -- ---- how much of it is read
 
--- How many bytes of a journal a reopening reads at most, where the files are sound for a list. A key takes at most 21 bytes; these are
--- those of the keys in all bins of level 0, and in eight packets more, and 64 for the header and what is looked at besides.
+-- How many bytes of a journal a reopening reads at most, where the files are sound for a list. An item takes at most 22 bytes; these are
+-- those of the items in all bins of level 0, and in eight packets more, and 64 for the header and what is looked at besides.
 abbrev pub most_read : Numbers → ℕ
-most_read s = 21 * (s.bins * s.base + 8 * s.packet) + 64
+most_read s = 22 * (s.bins * s.base + 8 * s.packet) + 64

@@ -7,6 +7,8 @@ ghost use Rattle.lert_bay.specs.declared.bay.TheConstants.{JOURNAL, LOG, FRAMES}
 ghost use Rattle.lert_bay.specs.Files.{Files, IfTold};
 ghost use Rattle.lert_bay.specs.Kept.{CallsBay};
 ghost use Rattle.lert_cone.specs.Framed.{HoldsSome};
+ghost use Rattle.lert_cone.specs.Room.{weight_from};
+ghost use Rattle.lert_journal.specs.Header.{version_in};
 ghost use Rattle.lert_cone.specs.JournalPlaces.{IsPlaceIn, last_place};
 ghost use Rattle.lert_cone.specs.Replaying.{readied};
 ghost use Rattle.lert_cone.specs.Room.{IsRoom};
@@ -26,6 +28,7 @@ ghost use Rattle.lert_recover.specs.Unharmed.{IsUnharmed, KeepsLogFrom};
 ghost use Rattle.lert_spec.specs.declared.report.Report.{Report};
 ghost use Rattle.lert_spec.specs.Counts.{weighed, weight_of};
 ghost use Rattle.lert_spec.specs.Edges.{capacity};
+ghost use Rattle.lert_spec.specs.Items.{IsVersion};
 ghost use Rattle.lert_spec.specs.Limits.{IsValid};
 ghost use Rattle.lert_spec.specs.Look.{look_of};
 
@@ -84,9 +87,9 @@ pub fn reopen<B: Bay, T: CountTable>(
 
     // Where the files are told, its items are those of the journal's packets from the record on that the log's last one names, behind
     // those that aren't read. Where that is a record of the whole journal, they are all items of the journal.
-    ensures journal { IfTold (B.files bay) (λ seen. IfOk result (λ now. IsReadOn room.settings cone seen now.listing.events now.gate)) }
-    ensures journal_whole { IfTold (B.files bay) (λ seen. (h : List Packet) → IsJournal room.settings cone h (seen JOURNAL) →
-        (records : List LogRecord) (log_end : ℕ) → HasLog room.settings cone (seen LOG) records log_end → IsPlaceIn h (last_place records) →
+    ensures journal { IfTold (B.files bay) (λ seen. IfOk result (λ now. IsReadOn room.settings cone seen now.listing.events now.weight now.gate)) }
+    ensures journal_whole { IfTold (B.files bay) (λ seen. (h : List Packet) → IsJournal (version_in (seen JOURNAL)) room.settings cone h (seen JOURNAL) →
+        (records : List LogRecord) (log_end : ℕ) → HasLog room.settings cone (seen LOG) records log_end → IsPlaceIn (version_in (seen JOURNAL)) h (last_place records) →
         IfOk result (λ now. now.listing.events ≡ events_of h)) }
 
     // Of sound files it reads no more of the journal than some bytes for each key of level 0, whatever it answers and however long
@@ -132,7 +135,7 @@ pub fn reopen<B: Bay, T: CountTable>(
     // Told or not, what it is.
     ensures own { IfOk result (λ now. (now.listing.settings ≡ room.settings) × (now.listing.cone ≡ cone) × (now.events ≡ length now.listing.events)
         × (now.state ≡ if now.listing.closed then ConeState.Finished else ConeState.Running)) }
-    ensures weight { IfOk result (λ now. now.weight ≡ weight_of weighed now.listing.events) }
+    ensures weight { IfOk result (λ now. now.weight ≡ weight_from now.listing.settings now.last now.listing.events) }
     ensures made { IfOk result (λ now. (B.files now.made ≡ B.files bay) × (B.faults bay ≤ B.faults now.made) × (B.mark now.made ≡ B.mark bay)) }
     ensures reads { MatchResult result (λ now. IsJournalSame (B.files bay) (B.files now.bay)) (λ refused. IsJournalSame (B.files bay) (B.files refused.bay)) }
     ensures kept { MatchResult result (λ now. CallsBay B.Bay bay now.bay ⊥) (λ refused. CallsBay B.Bay bay refused.bay (refused.fault ≡ ReopenFault.Failed)) }
@@ -149,7 +152,7 @@ fn reopen_in_order<B: Bay, T: CountTable>(
     requires named { cone < 2 ^ room.settings.cone_bits }
     requires room { IsRoom room.settings room.zero room.levels room.store room.entry.keys (length room.buffer.items) }
     ensures told { IfTold (B.files bay) (λ seen. MatchResult result
-        (λ now. IsReopened room.settings cone seen now.listing.closed now.listing.events now.gate)
+        (λ now. IsReopened room.settings cone seen now.listing.closed now.listing.events now.weight now.gate)
         (λ refused. IsReopenRefused room.settings cone seen refused.fault)) }
     ensures fails { IfTold (B.files bay) (λ seen. IfErr result (λ refused. (h : List Packet) → IsSound room.settings cone h seen →
         refused.fault ≡ ReopenFault.Failed)) }
@@ -168,7 +171,7 @@ fn reopen_in_order<B: Bay, T: CountTable>(
     ensures unharmed { MatchResult result (λ now. IsUnharmed B.Bay room.settings cone bay now.bay) (λ refused. IsUnharmed B.Bay room.settings cone bay refused.bay) }
     ensures own { IfOk result (λ now. (now.listing.settings ≡ room.settings) × (now.listing.cone ≡ cone) × (now.events ≡ length now.listing.events)
         × (now.state ≡ if now.listing.closed then ConeState.Finished else ConeState.Running)) }
-    ensures weight { IfOk result (λ now. now.weight ≡ weight_of weighed now.listing.events) }
+    ensures weight { IfOk result (λ now. now.weight ≡ weight_from now.listing.settings now.last now.listing.events) }
     ensures made { IfOk result (λ now. (B.files now.made ≡ B.files bay) × (B.faults bay ≤ B.faults now.made) × (B.mark now.made ≡ B.mark bay)) }
     ensures reads { MatchResult result (λ now. IsJournalSame (B.files bay) (B.files now.bay)) (λ refused. IsJournalSame (B.files bay) (B.files refused.bay)) }
     ensures kept { MatchResult result (λ now. CallsBay B.Bay bay now.bay ⊥) (λ refused. CallsBay B.Bay bay refused.bay (refused.fault ≡ ReopenFault.Failed)) }
@@ -199,18 +202,21 @@ fn replay_journal<B: Bay, T: CountTable>(
     last: &LogPoint,
     mut cone: ReplayingCone<B, T>,
 ) -> Result<Cone<B, T>, ReopenRefused<B>>
-    requires own { (cone.listing.settings ≡ settings.now) × (cone.listing.cone ≡ number) × (cone.last ≡ last.now) }
+    requires own { (cone.listing.settings ≡ settings.now) × (cone.listing.cone ≡ number) × (cone.last ≡ last.now) × (cone.listing.version ≡ last.now.version) }
+    requires known { IsVersion last.now.version }
     requires place { last.now.n0 ≤ capacity settings.now }
     requires taking { cone.stopped ≡ None }
     requires valid { IsValid cone.listing.settings }
     requires begun { (cone.gate ≡ last.now.offset) × (cone.events ≡ length cone.listing.events) }
     requires few { cone.events ≤ last.now.n0 }
     requires near { last.now.offset ≤ 2 ^ 46 }
+    requires light { cone.weight < 2 ^ 62 }
     requires log_shut { IsShutIfTold (B.files cone.bay) (B.leaves cone.bay) LOG cone.log.gate }
-    ensures told { IfTold (B.files cone.bay) (λ seen. HoldsSome cone.listing.settings cone.last.n0 cone.rows (seen FRAMES) → MatchResult result
-        (λ now. HasReplayed cone.listing.settings cone.listing.cone cone.last.n0 cone.last.closed (seen JOURNAL) cone.listing.events last.now.offset
-        now.gate now.listing.events × IsClosed (seen JOURNAL) now.gate)
-        (λ refused. IsStopped cone.listing.settings cone.listing.cone cone.last.n0 cone.last.closed (seen JOURNAL) (length cone.listing.events) last.now.offset refused.fault)) }
+    ensures told { IfTold (B.files cone.bay) (λ seen. HoldsSome cone.listing.version cone.listing.settings cone.last.n0 cone.rows (seen FRAMES) → MatchResult result
+        (λ now. HasReplayed cone.listing.version cone.listing.settings cone.listing.cone cone.last.n0 cone.last.closed (seen JOURNAL) cone.listing.events cone.weight last.now.offset
+        now.gate now.listing.events now.weight × IsClosed (seen JOURNAL) now.gate)
+        (λ refused. IsStopped cone.listing.version cone.listing.settings cone.listing.cone cone.last.n0 cone.last.closed (seen JOURNAL)
+        (length cone.listing.events) cone.weight last.now.offset refused.fault)) }
     ensures fails { IfTold (B.files cone.bay) (λ _. IfErr result (λ refused. (h : List Packet) → ReplaysSome B.files B.leaves cone h →
         refused.fault ≡ ReopenFault.Failed)) }
     ensures stands { IfOk result (λ now. (h : List Packet) → All (λ packet. 0 < length packet.items) h →
@@ -218,7 +224,7 @@ fn replay_journal<B: Bay, T: CountTable>(
         (WereSoundAs B.files cone.listing.settings cone.listing.cone cone.made → IfTold (B.files cone.bay) (λ _. ReplaysSome B.files B.leaves cone h)) → StandsFor B.files B.leaves B.faults now h) }
     ensures passed { IfOk result (λ now. cone.last.n0 ≤ length now.listing.events) }
     ensures counted { IfOk result (λ now. now.events ≡ length now.listing.events) }
-    ensures weight { IfOk result (λ now. now.weight ≡ weight_of weighed now.listing.events) }
+    ensures weight { IfOk result (λ now. now.weight ≡ weight_from now.listing.settings now.last now.listing.events) }
     ensures state { IfOk result (λ now. (now.listing.closed ≡ cone.listing.closed) × (now.state ≡ if cone.last.closed then ConeState.Finished else ConeState.Running)) }
     ensures same_cone { IfOk result (λ now. IsSameCone (readied cone) now) }
     ensures reads { MatchResult result (λ now. IsJournalSame (B.files cone.bay) (B.files now.bay)) (λ refused. IsJournalSame (B.files cone.bay) (B.files refused.bay)) }
@@ -229,12 +235,12 @@ fn replay_journal<B: Bay, T: CountTable>(
         AreSound (B.leaves cone.bay) cone.listing.settings cone.listing.cone h → MatchResult result
         (λ now. StaysSound B.Bay cone.listing.settings cone.listing.cone h cone.bay now.bay)
         (λ refused. StaysSound B.Bay cone.listing.settings cone.listing.cone h cone.bay refused.bay)) }
-    ensures unflushed { IfTold (B.files cone.bay) (λ seen. FlushesNothing cone.listing.settings cone.last.n0 (seen JOURNAL) (length cone.listing.events) last.now.offset →
+    ensures unflushed { IfTold (B.files cone.bay) (λ seen. FlushesNothing cone.listing.version cone.listing.settings cone.last.n0 (seen JOURNAL) (length cone.listing.events) last.now.offset →
         MatchResult result (λ now. WritesNothing B.Bay cone.bay now.bay ⊥) (λ refused. WritesNothing B.Bay cone.bay refused.bay ⊥)) }
     ensures log { MatchResult result (λ now. KeepsLogFrom B.Bay cone now.bay) (λ refused. KeepsLogFrom B.Bay cone refused.bay) }
     ensures rest { IfTold (B.files cone.bay) (λ _. (h : List Packet) → ReplaysSome B.files B.leaves cone h → MatchResult result
-        (λ now. ReadsRest cone.listing.settings last.now.offset h (B.handed_out cone.bay JOURNAL) (B.handed_out now.bay JOURNAL))
-        (λ refused. ReadsRest cone.listing.settings last.now.offset h (B.handed_out cone.bay JOURNAL) (B.handed_out refused.bay JOURNAL))) }
+        (λ now. ReadsRest cone.listing.version cone.listing.settings last.now.offset h (B.handed_out cone.bay JOURNAL) (B.handed_out now.bay JOURNAL))
+        (λ refused. ReadsRest cone.listing.version cone.listing.settings last.now.offset h (B.handed_out cone.bay JOURNAL) (B.handed_out refused.bay JOURNAL))) }
 {
     match replay_all(&mut cone, last.offset) {
         Ok(end) => {

@@ -23,12 +23,16 @@ pub struct LogPoint {
     pub closed: bool,
     /// The place of the log's closed gate.
     pub log_end: u64,
+    /// The version of the cone's files: 1, in which each item weighs 1, or 2.
+    pub version: u8,
+    /// What the items weigh together that the frames hold which the record names: 0 of a log without a record.
+    pub weight: u64,
 }
 
 impl LogPoint {
-    /// What a log without a record says, whose closed gate stands at this place.
-    pub fn without_record(log_end: u64) -> LogPoint
-        ensures { result ≡ record { n0 = 0; offset = 32; first = 1; closed = false; log_end = log_end } }
+    /// What a log without a record says, whose closed gate stands at this place, in files of a version.
+    pub fn without_record(log_end: u64, version: u8) -> LogPoint
+        ensures { result ≡ record { n0 = 0; offset = 32; first = 1; closed = false; log_end = log_end; version = version; weight = 0 } }
     {
         LogPoint {
             n0: 0,
@@ -36,6 +40,8 @@ impl LogPoint {
             first: FIRST,
             closed: false,
             log_end,
+            version,
+            weight: 0,
         }
     }
 }

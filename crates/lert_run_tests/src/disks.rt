@@ -12,9 +12,9 @@ use std::random::RandomSource;
 use std::sync::Wait;
 use std::thread::Threads;
 
-// The journal of the keys 7, 7, 7: a header, a packet of 32 bytes behind an open gate, and a closed gate.
-const SEVENS: [u8; 70] =
-    *b"LERTJ\x01\0\0\x03\0\0\0\x20\0\0\0\x04\0\0\0\x08\0\0\0\x03\x02\x02\0\0\0\0\0\x01\x20\0\0\0\0\0\0\0\0\0\0\0\x07\0\0\0\0\0\0\0\x07\0\0\0\0\0\0\0\x07\0\0\0\0\0\0\0\0";
+// The journal of the keys 7, 7, 7: a header, a packet of 35 bytes behind an open gate, and a closed gate.
+const SEVENS: [u8; 73] =
+    *b"LERTJ\x02\0\0\x03\0\0\0\x20\0\0\0\x04\0\0\0\x08\0\0\0\x03\x02\x02\0\0\0\0\0\x01\x23\0\0\0\0\0\0\0\0\0\0\0\x07\0\0\0\0\0\0\0\x01\x07\0\0\0\0\0\0\0\x01\x07\0\0\0\0\0\0\0\x01\0";
 
 // What comes of the long form with these numbers over a trace, empty bays of so many cones, and this one of the next
 // cone.
@@ -55,7 +55,7 @@ fn packets(rt: &impl Abort, alloc: Global, journal: &[u8]) -> Vec<usize> {
     let mut rest = journal.get(32..).unwrap_or(&[]);
     while let [1, a, b, c, d, behind @ ..] = rest {
         let len = u32::from_le_bytes([*a, *b, *c, *d]) as usize;
-        packets.push(len.saturating_sub(8) / 8).expect(rt, "memory");
+        packets.push(len.saturating_sub(8) / 9).expect(rt, "memory");
         rest = behind.get(len..).unwrap_or(&[]);
     }
     assert!(rt; matches!(rest, [0]), "a closed gate ends the journal");
@@ -107,10 +107,10 @@ fn a_packet_whose_write_fails_stands_behind_a_closed_gate(rt: HostRuntime) {
     let bay = failing_bay(&rt, rt.alloc(), 11);
     let failed = Status::BayFault { cone: 0 };
     let files = check_sevens(&rt, rt.alloc(), bay, failed, "");
-    // Half of the 37 bytes are written.
+    // Half of the 40 bytes are written.
     let mut torn = SEVENS;
     torn[32] = 0;
-    has_journal(&rt, &files, &torn[..51]);
+    has_journal(&rt, &files, &torn[..53]);
 }
 
 #[test]

@@ -8,6 +8,8 @@
 #[cfg(test)]
 mod checks;
 #[cfg(test)]
+mod damages;
+#[cfg(test)]
 mod disks;
 #[cfg(test)]
 mod recoveries;

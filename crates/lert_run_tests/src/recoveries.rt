@@ -1,7 +1,7 @@
 //! What a recovery makes of the files that a run left.
 
 use crate::checks::{SEVENS_TEXT, ends, ran, recovered, whole_row};
-use lert_bay::{FRAMES, JOURNAL, LOG};
+use lert_bay::{FRAMES, JOURNAL};
 use lert_top::{MemPlace, Status};
 use lert_trials::{
     Ended, Files, Row, SMALL, long_form, recover_form, run_at, run_before_failing, trace,
@@ -59,8 +59,8 @@ fn check_refused(
     is_refused(rt, &ended, files, status);
 }
 
-// What a run over the keys 7, 7, 7 left, with this write of the text failing, or none where it is 0.
-fn sevens(
+/// What a run over the keys 7, 7, 7 left, with this write of the text failing, or none where it is 0.
+pub fn sevens(
     rt: &(impl Abort + Threads + Wait + Sync + RandomSource),
     alloc: Global,
     failing_write: u64,
@@ -83,8 +83,8 @@ fn sevens(
     files
 }
 
-// Changes one byte of a file.
-fn change(rt: &impl Abort, bytes: &mut [u8], at: usize, byte: u8) {
+/// Changes one byte of a file.
+pub fn change(rt: &impl Abort, bytes: &mut [u8], at: usize, byte: u8) {
     assert!(rt; at < bytes.len(), "such a place");
     bytes[at] = byte;
 }
@@ -210,11 +210,11 @@ fn the_last_records_name_the_frames_of_the_bins(rt: HostRuntime) {
     let left = left_by_run(&rt, rt.alloc(), &trace, Status::Done, text);
     // The record of the flush at 32 and the closing one: both stand behind 32 keys, where level 1 has its bins in its frames 2
     // and 3, and level 2 has one in its frame 0. Level 0 begins at position 25, the first of the fourth packet, whose gate stands
-    // at 32 + 3 * 77 = 263. The gates of both are open, and the one behind them is closed.
+    // at 32 + 3 * 85 = 287. The gates of both are open, and the one behind them is closed.
     let records = [
-        1, 34, 0, 0, 0, 1, 32, 0, 0, 0, 0, 0, 0, 0, 7, 1, 0, 0, 0, 0, 0, 0, 25, 0, 0, 0, 0, 0, 0,
-        0, 2, 2, 3, 1, 0, 0, 0, 0, 0, 1, 34, 0, 0, 0, 2, 32, 0, 0, 0, 0, 0, 0, 0, 7, 1, 0, 0, 0, 0,
-        0, 0, 25, 0, 0, 0, 0, 0, 0, 0, 2, 2, 3, 1, 0, 0, 0, 0, 0, 0,
+        1, 34, 0, 0, 0, 1, 32, 0, 0, 0, 0, 0, 0, 0, 31, 1, 0, 0, 0, 0, 0, 0, 25, 0, 0, 0, 0, 0, 0,
+        0, 2, 2, 3, 1, 0, 0, 0, 0, 0, 1, 34, 0, 0, 0, 2, 32, 0, 0, 0, 0, 0, 0, 0, 31, 1, 0, 0, 0,
+        0, 0, 0, 25, 0, 0, 0, 0, 0, 0, 0, 2, 2, 3, 1, 0, 0, 0, 0, 0, 0,
     ];
     assert!(rt; left.log.ends_with(&records));
 }
@@ -227,127 +227,33 @@ fn files_of_other_settings_are_refused(rt: HostRuntime) {
     check_refused(&rt, rt.alloc(), &numbers, &files, other);
 }
 
-// One change of a file: a byte at a place, or an end before its own.
-#[derive(Clone, Copy)]
-enum Damage {
-    Byte(usize, u8),
-    Cut(usize),
-}
-
-fn left_at(file: u8, at: u64) -> Status {
+/// That the file of cone 0 leaves its format at a place.
+pub fn left_at(file: u8, at: u64) -> Status {
     Status::Malformed { cone: 0, file, at }
 }
 
-fn apply(rt: &impl Abort, bytes: &mut Vec<u8>, damage: Damage) {
-    match damage {
-        Damage::Byte(at, byte) => change(rt, bytes, at, byte),
-        Damage::Cut(len) => {
-            assert!(rt; len < bytes.len());
-            bytes.truncate(len);
-        }
-    }
-}
-
-// Changes a file.
-fn apply_to(rt: &impl Abort, files: &mut Files, file: u8, damage: Damage) {
-    match file {
-        JOURNAL => apply(rt, &mut files.journal, damage),
-        _ => apply(rt, &mut files.log, damage),
-    }
-}
-
-// Wants a refusal, and the files as they were.
-fn refuses(rt: &impl Abort, ended: &Ended, files: &Files, status: Status, what: &str) {
-    let is_refused = ended.ended_with(status) && ended.wrote("") && ended.files.are(files);
-    assert!(rt; is_refused, "{what}");
-}
-
-// Changes what a run over the keys 7, 7, 7 left in a file, and wants this refusal of its recovery, and the files as they were.
-fn check_changed(
-    rt: &(impl Abort + Threads + Wait + Sync + RandomSource),
-    alloc: Global,
-    what: &str,
-    file: u8,
-    damage: Damage,
-    status: Status,
-) {
-    let mut files = sevens(rt, alloc, 0);
-    apply_to(rt, &mut files, file, damage);
-    let ended = recovered(rt, alloc, &SMALL, &files);
-    refuses(rt, &ended, &files, status, what);
-}
-
-// The journal is a header of 32 bytes and one packet, whose length stands at 33, its worker at 37 and its trace at 41, and a closed
-// gate at 69. The log is a header of 8 bytes and a closing record, whose length stands at 9, its kind at 13, the number of events at 14
-// and the position of its one report at 52, and a closed gate at 60.
 #[test]
-fn a_changed_file_is_named_with_the_first_place_at_which_it_leaves_its_format(rt: HostRuntime) {
-    let rows: [(&str, u8, Damage, Status); 16] = [
-        (
-            "first letter",
-            JOURNAL,
-            Damage::Byte(0, 0),
-            left_at(JOURNAL, 0),
-        ),
-        (
-            "another base",
-            JOURNAL,
-            Damage::Byte(16, 5),
-            Status::OtherSettings { cone: 0 },
-        ),
-        (
-            "half a key",
-            JOURNAL,
-            Damage::Byte(33, 31),
-            left_at(JOURNAL, 33),
-        ),
-        (
-            "a byte more",
-            JOURNAL,
-            Damage::Byte(33, 33),
-            left_at(JOURNAL, 33),
-        ),
-        (
-            "worker above 63",
-            JOURNAL,
-            Damage::Byte(37, 64),
-            left_at(JOURNAL, 37),
-        ),
-        (
-            "trace above 1,023",
-            JOURNAL,
-            Damage::Byte(42, 4),
-            left_at(JOURNAL, 41),
-        ),
-        ("cut header", JOURNAL, Damage::Cut(20), left_at(JOURNAL, 20)),
-        ("cut gate", JOURNAL, Damage::Cut(69), left_at(JOURNAL, 69)),
-        ("first letter", LOG, Damage::Byte(0, 0), left_at(LOG, 0)),
-        ("no first gate", LOG, Damage::Cut(8), left_at(LOG, 8)),
-        ("length 0", LOG, Damage::Byte(9, 0), left_at(LOG, 9)),
-        ("kind 3", LOG, Damage::Byte(13, 3), left_at(LOG, 13)),
-        (
-            "events of the next flush",
-            LOG,
-            Damage::Byte(14, 12),
-            left_at(LOG, 14),
-        ),
-        (
-            "report behind the events",
-            LOG,
-            Damage::Byte(14, 2),
-            left_at(LOG, 52),
-        ),
-        (
-            "more events than keys",
-            LOG,
-            Damage::Byte(14, 4),
-            left_at(JOURNAL, 69),
-        ),
-        ("cut gate", LOG, Damage::Cut(60), left_at(LOG, 60)),
-    ];
-    for (what, file, damage, status) in rows {
-        check_changed(&rt, rt.alloc(), what, file, damage, status);
-    }
+fn as_much_weight_as_there_is_room_for_is_recovered(rt: HostRuntime) {
+    // Two keys 7 weigh 1, and the third one 94. It is reported at the third position as before.
+    let mut files = sevens(&rt, rt.alloc(), 0);
+    change(&rt, &mut files.journal, 71, 94);
+    check(&rt, rt.alloc(), &files, Status::Done, SEVENS_TEXT);
+}
+
+// The journal of the keys 7, 7, 7 that the first version had, without weights.
+const FIRST_JOURNAL: &[u8] =
+    b"LERTJ\x01\0\0\x03\0\0\0\x20\0\0\0\x04\0\0\0\x08\0\0\0\x03\x02\x02\0\0\0\0\0\x01\x20\0\0\0\0\0\0\0\0\0\0\0\x07\0\0\0\0\0\0\0\x07\0\0\0\0\0\0\0\x07\0\0\0\0\0\0\0\0";
+
+#[test]
+fn the_files_of_the_first_version_are_recovered_with_their_text(rt: HostRuntime) {
+    let mut files = sevens(&rt, rt.alloc(), 0);
+    files.journal.clear();
+    files
+        .journal
+        .extend_from_slice(FIRST_JOURNAL)
+        .expect(&rt, "memory");
+    let again = check(&rt, rt.alloc(), &files, Status::Done, SEVENS_TEXT);
+    assert!(rt; again.are(&files), "the files");
 }
 
 #[test]
@@ -363,10 +269,10 @@ fn a_broken_frame_is_named_by_its_place(rt: HostRuntime) {
     let trace = trace_with(rt.alloc(), 16, &[]).expect(&rt, "memory");
     let text = "cone 0 events 16 reports 0 closed\ntotal events 16 reports 0\n";
     let mut left = left_by_run(&rt, rt.alloc(), &trace, Status::Done, text);
-    // The flush at 16 wrote the second frame of level 1, behind the 20 + 16 * 8 bytes of the first one. More slots of its
+    // The flush at 16 wrote the second frame of level 1, behind the 20 + 32 * 8 bytes of the first one. More slots of its
     // block than the eight events of its bin take are left at their field, behind eight bytes.
-    change(&rt, &mut left.frames, 156, 17);
-    check_refused(&rt, rt.alloc(), &SMALL, &left, left_at(FRAMES, 156));
+    change(&rt, &mut left.frames, 284, 33);
+    check_refused(&rt, rt.alloc(), &SMALL, &left, left_at(FRAMES, 284));
 }
 
 #[test]

@@ -11,7 +11,6 @@ ghost use Rattle.lert_spec.specs.Timely.{IsTimelyIn, IsTimelySoFarIn};
 ghost use Rattle.lert_cone.specs.Sound.{IsSound, IsSoundClosed, IsKept};
 ghost use Rattle.lert_cone.specs.Stands.{StandsFor, WasSound, is_broken, is_refusal};
 ghost use Rattle.lert_cone.specs.Steps.{StepsCone};
-ghost use Rattle.lert_cone.specs.History.{written};
 
 use crate::cone::{Cone, broken_by};
 use crate::keys::finish;
@@ -57,7 +56,7 @@ impl<B: Bay, T: CountTable> Cone<B, T> {
         ensures never_old { (place : ℕ) → result ≡ Err (ConeFault.OldJournal place) → ⊥ }
 
         // Where the bay tells its files, Ok comes only where each frame that the levels name was in its format to the end.
-        ensures whole { IfTold (B.files self.old.bay) (λ seen. OnOk result (rows_left self.old.listing.settings written (seen FRAMES) self.old.rows ≡ None)) }
+        ensures whole { IfTold (B.files self.old.bay) (λ seen. OnOk result (rows_left self.old.listing.settings self.old.listing.version (seen FRAMES) self.old.rows ≡ None)) }
 
         // In each image of each moment of the call the files are sound for the list, and after Ok they are closed.
         ensures each_moment { is_broken self.old.state ≡ false → WasSound B.files self.old → IfTold (B.files self.old.bay) (λ _. (h : List Packet) →
@@ -93,7 +92,8 @@ impl<B: Bay, T: CountTable> Cone<B, T> {
         ensures in_time { self.now.state ≡ ConeState.Finished → (h : List Packet) → StandsFor B.files B.leaves B.faults self.now h →
             WasSound B.files self.now → IfTold (B.files self.now.bay) (λ _. IsTimelyIn weighed self.now.listing.settings.threshold self.now.listing.settings.bins (events_of h) result.now.reports) }
         ensures in_time_so_far { self.now.state ≡ ConeState.Running → (h : List Packet) → StandsFor B.files B.leaves B.faults self.now h →
-            WasSound B.files self.now → IfTold (B.files self.now.bay) (λ _. IsTimelySoFarIn weighed self.now.listing.settings.threshold self.now.listing.settings.bins (events_of h) result.now.reports) }
+            WasSound B.files self.now → IfTold (B.files self.now.bay) (λ _.
+            IsTimelySoFarIn weighed self.now.listing.settings.threshold self.now.listing.settings.bins (events_of h) result.now.reports) }
     {
         self.tally.store()
     }

@@ -6,7 +6,6 @@ ghost use Rattle.lert_cone.specs.Refuses.{FailsTest, IsStoppedBy, PassesTest, fi
 ghost use Rattle.lert_cone.specs.Stands.{is_broken, is_refusal};
 
 use crate::cone::Cone;
-use crate::headers::WRITTEN;
 use crate::items::Items;
 use crate::state::ConeState;
 use lert_base::{ConeFault, CountTable, Entry};
@@ -23,7 +22,7 @@ impl<B: Bay, T: CountTable> Cone<B, T> {
         self.test_len(items.len() as u64)?;
         let more = items.weight();
         self.test_weight(more)?;
-        test_version(WRITTEN, &items)?;
+        test_version(self.last.version, &items)?;
         Ok(more)
     }
 

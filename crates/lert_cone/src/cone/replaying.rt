@@ -1,6 +1,7 @@
 //! A cone whose journal is read again.
 
-ghost use Rattle.std.specs.Prelude.{◌≡◌, ◌≢◌, ◌⊎◌, ℕ, ◌+◌, ◌-◌, ◌<◌, ◌≤◌, ◌^◌, if◌then◌else◌, max, List, [], ◌∷◌, ◌++◌, length, All, None, Err, IfErr, IfNone, IfOk, IfSome, IsErrOf, OnErr, OnOk};
+ghost use Rattle.std.specs.Prelude.{◌≡◌, ◌≢◌, ◌⊎◌, ℕ, ◌+◌, ◌-◌, ◌<◌, ◌≤◌, ◌^◌, if◌then◌else◌, max, List, [], ◌∷◌, ◌++◌, length, take};
+ghost use Rattle.std.specs.Prelude.{All, None, Err, IfErr, IfNone, IfOk, IfSome, IsErrOf, OnErr, OnOk};
 ghost use Rattle.lert_base.specs.Packet.{Packet, events_of};
 ghost use Rattle.lert_bay.specs.Files.{Files, IfTold};
 ghost use Rattle.lert_bay.specs.Kept.{CallsBay};
@@ -10,7 +11,7 @@ ghost use Rattle.lert_gatelog.specs.Kept.{IsWhollySettled};
 ghost use Rattle.lert_levels.specs.Flushed.{InNamed};
 ghost use Rattle.lert_reports.specs.Log.{HasLog, most_record};
 ghost use Rattle.lert_reports.specs.LogText.{LogRecord};
-ghost use Rattle.lert_spec.specs.Edges.{capacity};
+ghost use Rattle.lert_spec.specs.Edges.{capacity, edge};
 ghost use Rattle.lert_spec.specs.Counts.{weighed, weight_of};
 ghost use Rattle.lert_cone.specs.Framed.{HoldsSome};
 ghost use Rattle.lert_cone.specs.KeepsLog.{IsHeadOf, KeepsLogOf, head_of};
@@ -19,13 +20,12 @@ ghost use Rattle.lert_cone.specs.Reads.{replay_cost};
 ghost use Rattle.lert_cone.specs.Replay.{IsLastOf};
 ghost use Rattle.lert_cone.specs.Replaying.{IsSameReplay, readied};
 ghost use Rattle.lert_cone.specs.Replays.{BringsNoFlush, HasEnded, HasTaken, IsUnwritten, LeavesBehind, GoesOn, Replays, WhyRefused};
-ghost use Rattle.lert_cone.specs.Room.{IsPointOf, IsRestored};
+ghost use Rattle.lert_cone.specs.Room.{IsPointOf, IsRestored, weight_from};
 ghost use Rattle.lert_cone.specs.Sound.{IsSound, StaysSound};
 ghost use Rattle.lert_cone.specs.Stands.{StandsFor, WasSound};
 ghost use Rattle.lert_cone.specs.Tally.{Shows};
 ghost use Rattle.lert_cone.specs.Unread.{unread};
 ghost use Rattle.lert_cone.specs.Wrote.{IsShutIfTold, LeavesAlone};
-ghost use Rattle.lert_cone.specs.History.{written};
 
 use crate::cone::Cone;
 use crate::headers::greatest_payload;
@@ -46,8 +46,9 @@ use lert_reports::{LogPoint, greatest_record};
 use std::marker::Model;
 use std::snapshot::Snapshot;
 
-/// A cone over the files of a stopped run that is given the packets of its journal again, and takes no others. At the journal's end
-/// `ready` makes a `Cone` of it, which goes on; once it refused a record it takes none, and is good for its bay alone.
+/// A cone over the files of a stopped run that is given the packets of its journal again, and takes no others. At the
+/// journal's end `ready` makes a `Cone` of it, which goes on; once it refused a record it takes none, and is good for its
+/// bay alone.
 #[derive(Drop)]
 pub struct ReplayingCone<B: Bay, T: CountTable> {
     bay: B,
@@ -59,6 +60,7 @@ pub struct ReplayingCone<B: Bay, T: CountTable> {
     entry: Entry,
     buffer: Vec<u8>,
     events: u64,
+    weight: u64,
     stopped: Option<ReplayFault>,
 }
 
@@ -75,6 +77,7 @@ impl<B: Bay, T: CountTable> Model for ReplayingCone<B, T> {
       rows = c.tally.rows;
       reports = c.tally.due.reports;
       events = c.events;
+      weight = c.weight;
       stopped = c.stopped;
       gate = c.journal.gate;
       log = c.log;
@@ -88,6 +91,7 @@ impl<B: Bay, T: CountTable> Model for ReplayingCone<B, T> {
       rows = c.tally.rows;
       reports = c.tally.due.reports;
       events = c.events;
+      weight = c.weight;
       stopped = c.stopped;
       gate = c.journal.gate;
       log = c.log;
@@ -96,27 +100,29 @@ impl<B: Bay, T: CountTable> Model for ReplayingCone<B, T> {
 }
 
 impl<B: Bay, T: CountTable> ReplayingCone<B, T> {
-    /// A cone over the files of a stopped run, from whose log the room has the levels and the reports. It is to be given the
-    /// records of its journal one by one, from the one on that `last` names, by `replay`, and then `ready`. The items before that
-    /// record it has without reading them: level 0 begins in it. Makes no call of the bay and takes no memory.
+    /// A cone over the files of a stopped run, from whose log the room has the levels and the reports. It is to be given
+    /// the records of its journal one by one, from the one on that `last` names, by `replay`, and then `ready`. The items
+    /// before that record it has without reading them: level 0 begins in it. It begins with the version and the weight that
+    /// `last` says. Makes no call of the bay and takes no memory.
     pub fn adopt(room: ConeRoom<T>, cone: u32, bay: B, last: LogPoint) -> ReplayingCone<B, T>
         requires named { cone < 2 ^ room.settings.cone_bits }
         requires point { IsPointOf room.settings last }
-        requires room { IsRestored room.settings cone last.n0 room.zero room.levels room.store room.entry.keys (length room.buffer.items) }
+        requires room { IsRestored last.version room.settings cone last.n0 room.zero room.levels room.store room.entry.keys (length room.buffer.items) }
 
         // Where the bay tells its files, the log is settled and its gate closed in every image, and the journal and the frames
         // that the log's last record names are settled.
         requires log_shut { IsShutIfTold (B.files bay) (B.leaves bay) LOG last.log_end }
         requires journal { IfTold (B.files bay) (λ seen. IsWhollySettled (B.leaves bay) seen JOURNAL) }
-        requires frames { IfTold (B.files bay) (λ seen. (from to : ℕ) → InNamed room.settings written room.levels.rows from to → to ≤ length (seen FRAMES) →
+        requires frames { IfTold (B.files bay) (λ seen. (from to : ℕ) → InNamed room.settings last.version room.levels.rows from to → to ≤ length (seen FRAMES) →
             IsSettled (B.leaves bay) seen FRAMES from to) }
         ensures made { result ≡ record {
           bay = bay;
           made = bay;
-          listing = record { settings = room.settings; cone = cone; events = unread room.settings cone (last.first - 1) (B.files bay); closed = last.closed };
+          listing = record { settings = room.settings; version = last.version; cone = cone; events = unread last.version room.settings cone (last.first - 1) (B.files bay); closed = last.closed };
           rows = room.levels.rows;
           reports = room.store.reports;
           events = last.first - 1;
+          weight = last.weight;
           stopped = None;
           gate = last.offset;
           log = record { gate = last.log_end; most = most_record room.settings; named = length room.store.reports; places = places_from room.settings (last.first - 1) };
@@ -128,11 +134,13 @@ impl<B: Bay, T: CountTable> ReplayingCone<B, T> {
             IsLastOf room.settings last.n0 last.offset last.first last.closed room.levels.rows room.store.reports records →
             IsHeadOf room.settings records (head_of result) (seen LOG)) }
 
-        // Where these files are sound for a list, and the point and the room say what their log does, the cone is on its way
+        // Where these files are sound for a list, in the point's version, and the point and the room say what their log
+        // does, and the point what those of the list's items weigh that the named frames hold, the cone is on its way
         // through that list's journal: it has the items of the first packets.
         ensures replays { IfTold (B.files bay) (λ seen. (records : List LogRecord) → HasLog room.settings cone (seen LOG) records last.log_end →
             IsLastOf room.settings last.n0 last.offset last.first last.closed room.levels.rows room.store.reports records →
-            (h : List Packet) → IsSound room.settings cone h seen → (done : List Packet) × Replays B.files B.leaves result h done) }
+            (h : List Packet) (sound : IsSound room.settings cone h seen) → sound.version ≡ last.version →
+            weight_of weighed (take (edge room.settings 0 last.n0) (events_of h)) ≡ last.weight → (done : List Packet) × Replays B.files B.leaves result h done) }
     {
         let ConeRoom {
             settings,
@@ -143,7 +151,11 @@ impl<B: Bay, T: CountTable> ReplayingCone<B, T> {
             buffer,
         } = room;
         let events = last.first - 1;
-        let journal = GateLog::at_gate(JOURNAL, last.offset, greatest_payload(&settings));
+        let journal = GateLog::at_gate(
+            JOURNAL,
+            last.offset,
+            greatest_payload(&settings, last.version),
+        );
         let log = ReportLog::at(
             &settings,
             last.log_end,
@@ -151,8 +163,17 @@ impl<B: Bay, T: CountTable> ReplayingCone<B, T> {
             store.len(),
             events,
         );
-        let unread = Unread::of(&bay, &settings, cone, events);
-        let tally = Tally::adopted(&settings, cone, zero, levels, store, unread, last.closed);
+        let unread = Unread::of(&bay, &settings, last.version, cone, events);
+        let tally = Tally::adopted(
+            &settings,
+            last.version,
+            cone,
+            zero,
+            levels,
+            store,
+            unread,
+            last.closed,
+        );
         ReplayingCone {
             made: Snapshot::of(&bay),
             bay,
@@ -163,15 +184,17 @@ impl<B: Bay, T: CountTable> ReplayingCone<B, T> {
             entry,
             buffer,
             events,
+            weight: last.weight,
             stopped: None,
         }
     }
 
     /// Takes the packet whose record stands at this gate of the journal, and answers the next gate. None comes exactly at a
-    /// closed gate with as many items before it as the log's last record has. The items up to that record's place are only counted
-    /// again, and the others are taken as those of a packet that is admitted, with the calls of the bay that they cost there;
-    /// nothing is written to the journal. After a refusal it takes no more, and is good for its bay alone: files that were sound
-    /// for a list are so still, and they are as they were where no flush position lies among the record's items, or where the record
+    /// closed gate with as many items before it as the log's last record has. The items up to that record's place are only
+    /// counted again, and the others are taken as those of a packet that is admitted, with the calls of the bay that they
+    /// cost there; nothing is written to the journal. The weight grows by what the items weigh that aren't in the frames which
+    /// that record names. After a refusal it takes no more, and is good for its bay alone: files that were sound for a list
+    /// are so still, and they are as they were where no flush position lies among the record's items, or where the record
     /// leaves the format. The log keeps its records in any case, also of files that are sound for no list.
     pub fn replay(&mut self, gate: u64) -> Result<Option<u64>, ReplayFault>
         requires taking { self.old.stopped ≡ None }
@@ -206,32 +229,38 @@ impl<B: Bay, T: CountTable> ReplayingCone<B, T> {
 
         // Whatever it answers, and whether or not the files are sound for a list, the log keeps its records, and what the frames
         // hold that its last one names.
-        ensures log { KeepsLogOf B.Bay self.old.listing.settings (head_of self.old) (head_of self.new) self.old.bay self.new.bay result }
+        ensures log { KeepsLogOf B.Bay self.old.listing.version self.old.listing.settings (head_of self.old) (head_of self.new) self.old.bay self.new.bay result }
 
         // Where the frames hold the bins of some events, whatever these are, they do so again, and none is found malformed.
-        ensures framed { IfTold (B.files self.old.bay) (λ seen. HoldsSome self.old.listing.settings (max self.old.last.n0 (length self.old.listing.events)) self.old.rows (seen FRAMES) →
-            OnOk result (IfTold (B.files self.new.bay) (λ after. HoldsSome self.new.listing.settings (max self.new.last.n0 (length self.new.listing.events)) self.new.rows (after FRAMES)))) }
-        ensures whole { IfTold (B.files self.old.bay) (λ seen. HoldsSome self.old.listing.settings (max self.old.last.n0 (length self.old.listing.events)) self.old.rows (seen FRAMES) →
+        ensures framed { IfTold (B.files self.old.bay) (λ seen.
+            HoldsSome self.old.listing.version self.old.listing.settings (max self.old.last.n0 (length self.old.listing.events)) self.old.rows (seen FRAMES) →
+            OnOk result (IfTold (B.files self.new.bay) (λ after.
+            HoldsSome self.new.listing.version self.new.listing.settings (max self.new.last.n0 (length self.new.listing.events)) self.new.rows (after FRAMES)))) }
+        ensures whole { IfTold (B.files self.old.bay) (λ seen.
+            HoldsSome self.old.listing.version self.old.listing.settings (max self.old.last.n0 (length self.old.listing.events)) self.old.rows (seen FRAMES) →
             (at : ℕ) → result ≢ Err (ReplayFault.Unsound 2 at)) }
 
         // Why it refuses where neither the format is left nor a list's journal goes on.
         ensures unsound { (file at : ℕ) → IsErrOf result (ReplayFault.Unsound file at) →
-            IfTold (B.files self.new.bay) (λ seen. Shows self.new.listing.settings self.new.rows self.new.reports (seen FRAMES) file at) }
+            IfTold (B.files self.new.bay) (λ seen. Shows self.new.listing.version self.new.listing.settings self.new.rows self.new.reports (seen FRAMES) file at) }
         ensures same_cone { IsSameReplay self.old self.new }
         ensures journal { LeavesAlone B.Bay JOURNAL self.old.bay self.new.bay }
         ensures kept { CallsBay B.Bay self.old.bay self.new.bay (IsErrOf result ReplayFault.Failed) }
 
         // It reads the record once, and a flush reads no byte of the journal.
-        ensures handed { B.handed_out self.new.bay JOURNAL ≤ B.handed_out self.old.bay JOURNAL + replay_cost self.old.listing.settings gate result }
+        ensures handed { B.handed_out self.new.bay JOURNAL ≤ B.handed_out self.old.bay JOURNAL + replay_cost self.old.listing.version self.old.listing.settings gate result }
     {
-        let most = greatest_payload(self.tally.settings());
+        let most = greatest_payload(self.tally.settings(), self.last.version);
         self.journal = GateLog::at_gate(JOURNAL, gate, most);
         let first = self.tally.len() + 1;
+        // The cone's own once its items are taken.
+        let mut weight = self.weight;
         match read_packet(
             &mut self.journal,
             &mut self.bay,
             &self.tally,
             &self.last,
+            &mut weight,
             &mut self.entry,
             &mut self.buffer,
         ) {
@@ -250,6 +279,7 @@ impl<B: Bay, T: CountTable> ReplayingCone<B, T> {
                     return Err(fault);
                 }
                 self.events = self.tally.len();
+                self.weight = weight;
                 Ok(Some(self.journal.gate()))
             }
             Ok(false) => Ok(None),
@@ -269,6 +299,13 @@ impl<B: Bay, T: CountTable> ReplayingCone<B, T> {
         self.events
     }
 
+    /// What the items weigh that the frames hold which the log's last record names, and those behind these that it took.
+    pub fn weight(&self) -> u64
+        ensures { result ≡ self.now.weight }
+    {
+        self.weight
+    }
+
     /// The bay, also behind a refusal.
     pub fn into_bay(self) -> B
         ensures { result ≡ self.bay }
@@ -277,23 +314,24 @@ impl<B: Bay, T: CountTable> ReplayingCone<B, T> {
         bay
     }
 
-    /// The cone that it is at the journal's closed gate, at which `replay` answered None: it is Finished where the log's last record is
-    /// a closing one, and runs on else.
+    /// The cone that it is at the journal's closed gate, at which `replay` answered None: it is Finished where the log's
+    /// last record is a closing one, and runs on else.
     pub fn ready(self, end: u64) -> Cone<B, T>
         requires taking { self.stopped ≡ None }
         requires passed { self.last.n0 ≤ length self.listing.events }
         requires gate { self.gate ≡ end }
         requires shut { IsShutIfTold (B.files self.bay) (B.leaves self.bay) JOURNAL end }
         ensures value { result ≡ readied self }
-        ensures weighs { weight_of weighed result.listing.events ≡ result.weight }
+        ensures weighs { result.weight ≡ weight_from result.listing.settings result.last result.listing.events }
 
-        // It stands for a list that has as many items of the same weight, where it is behind its packets, if the files were sound for one.
+        // It stands for a list that has as many items of the same weight, where it is behind its packets, if the files were
+        // sound for one.
         ensures stands_for { (h : List Packet) → All (λ packet. 0 < length packet.items) h → length (events_of h) ≡ self.events →
             weight_of weighed (events_of h) ≡ result.weight →
             (WasSound B.files result → IfTold (B.files self.bay) (λ _. Replays B.files B.leaves self h h)) →
             StandsFor B.files B.leaves B.faults result h }
     {
-        let most = greatest_payload(self.tally.settings());
+        let most = greatest_payload(self.tally.settings(), self.last.version);
         let state = state_behind(self.last.closed);
         let ReplayingCone {
             bay,
@@ -304,6 +342,7 @@ impl<B: Bay, T: CountTable> ReplayingCone<B, T> {
             entry,
             buffer,
             events,
+            weight,
             ..
         } = self;
         Cone {
@@ -316,8 +355,7 @@ impl<B: Bay, T: CountTable> ReplayingCone<B, T> {
             entry,
             buffer,
             events,
-            // Each item weighs 1 in files of its version.
-            weight: events,
+            weight,
             state,
             over: None,
         }

@@ -4,16 +4,16 @@ ghost use Rattle.std.specs.Prelude.{◌≡◌};
 ghost use Rattle.lert_cone.specs.Stands.{is_finished, terms_of};
 
 use crate::cone::Cone;
-use crate::headers::WRITTEN;
 use crate::state::ConeState;
 use lert_base::{CountTable, Numbers};
 use lert_bay::Bay;
 use std::marker::Model;
 use std::snapshot::Snapshot;
 
-/// What no packet changes of a cone: its numbers, its own number, the version of its files, its bay as it was when the cone was
-/// made, and whether the cone is finished. In files of version 1 each item weighs 1. The bay is for contracts alone, and has no
-/// bytes: it tells whether it told its files, and its count of faults and its mark then are seen among the terms.
+/// What no packet changes of a cone: its numbers, its own number, the version of its files, its bay as it was when the
+/// cone was made, and whether the cone is finished. In files of version 1 each item weighs 1, in those of version 2 at most
+/// 255. The bay is for contracts alone, and has no bytes: it tells whether it told its files, and its count of faults and
+/// its mark then are seen among the terms.
 #[derive(Drop)]
 pub struct ConeTerms<B: Bay> {
     pub numbers: Numbers,
@@ -47,7 +47,7 @@ impl<B: Bay, T: CountTable> Cone<B, T> {
         ConeTerms {
             numbers: self.tally.settings().numbers(),
             cone: self.tally.cone(),
-            version: WRITTEN,
+            version: self.last.version,
             made: Snapshot::of(&self.made),
             finished: is_finished(self.state),
         }

@@ -5,7 +5,6 @@ ghost use Rattle.lert_levels.specs.rows.Young.{IsNextPosition, with_event};
 ghost use Rattle.lert_spec.specs.Edges.{key_limit, edge, capacity, tail_bits};
 ghost use Rattle.lert_spec.specs.Mix.{cone_of};
 ghost use Rattle.lert_spec.specs.Items.{most_weight, AreOfVersion};
-ghost use Rattle.lert_cone.specs.History.{written};
 ghost use Rattle.lert_cone.specs.Tally.{IsRecounted};
 
 use crate::items::Items;
@@ -23,7 +22,7 @@ impl<B: Bay, T: CountTable> Tally<B, T> {
     /// It calls no bay, takes no memory and brings no report. An item costs a place in level 0.
     pub(crate) fn recount(&mut self, n0: u64, items: &Items<'_>)
         requires own { All (λ item. cone_of self.old.listing.settings item.key ≡ self.old.listing.cone) items.now }
-        requires light { AreOfVersion written items.now }
+        requires light { AreOfVersion self.old.listing.version items.now }
         requires within { length self.old.listing.events + length items.now ≤ n0 }
         requires recounted { IsRecounted self.old n0 }
         ensures listing { self.new.listing ≡ record self.old.listing { events = self.old.listing.events ++ items.now } }
@@ -43,7 +42,7 @@ impl<B: Bay, T: CountTable> Tally<B, T> {
         requires own { cone_of self.old.listing.settings item.key ≡ self.old.listing.cone }
         requires below { item.key < key_limit self.old.listing.settings }
         requires some { 1 ≤ item.weight }
-        requires light { item.weight ≤ most_weight written }
+        requires light { item.weight ≤ most_weight self.old.listing.version }
         requires within { length self.old.listing.events < n0 }
         requires recounted { IsRecounted self.old n0 }
         ensures listing { self.new.listing ≡ record self.old.listing { events = self.old.listing.events ++ item ∷ [] } }

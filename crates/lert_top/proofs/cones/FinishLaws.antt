@@ -131,7 +131,7 @@ module _ {B : Type 0} (files : B → Option Files) (leaves : B → Files → Typ
           reports : new.reports ≡ reports_of new.listing → new.listing.events ≡ events_of weaving.history → new.reports ≡ closing_of weighed s (events_of weaving.history)
           reports are keys =
               are
-              ∙ ((λ i. reports_of (record { settings = settings_is i; cone = new.listing.cone; events = keys i; closed = closed_is i })))
+              ∙ ((λ i. reports_of (record { settings = settings_is i; version = new.listing.version; cone = new.listing.cone; events = keys i; closed = closed_is i })))
 
       pub finished_printed : (bays : List B) → slice_get bays number ≡ Some new.bay → IsPrinted files s workers bays traces number (printed_as new)
       finished_printed bays there = record {

@@ -8,8 +8,9 @@ use Rattle.lert_cone.proofs.UnreadLaws.{length_unread}
 use Rattle.lert_io.specs.Fault.{HasRisen}
 use Rattle.lert_files.specs.declared.fault.ReopenFault.{ReopenFault}
 use Rattle.lert_files.specs.declared.fault.ReopenFault.TheVariants as fault
+use Rattle.lert_journal.specs.Header.{version_in}
 use Rattle.lert_files.specs.{Headed.HasOther, Opened.LeaveAt}
-use Rattle.lert_recover.specs.{Reopened.{IsReadOn, IsUnsoundAt}, Replayed.{AreReplayed, FirstLeaves}}
+use Rattle.lert_recover.specs.{Reopened.{IsReadOn, IsUnsoundAt}, Replayed.{AreReplayed, FirstLeaves, frames_weigh}}
 use Rattle.lert_reports.specs.{Log.{is_closed, last_first, last_n0, last_offset, HasLog}, LogText.LogRecord}
 use Rattle.lert_spec.specs.{declared.item.Item.Item, declared.numbers.Numbers.Numbers}
 use Rattle.lert_ingest.specs.Bays.{AreLater, AreUntouched, IfHeld, bays_of}
@@ -34,21 +35,25 @@ end_is true = refl
 end_is false = refl
 
 -- how many keys were had of a journal
-counted_on : (s : Numbers) (cone : ℕ) (seen : Files) (events : List Item) (gate count : ℕ) → count ≡ length events → IsReadOn s cone seen events gate → AreCounted s cone seen count
-counted_on s cone seen events gate count count_is read =
+counted_on : (s : Numbers) (cone : ℕ) (seen : Files) (events : List Item) (weight gate count : ℕ) → count ≡ length events → IsReadOn s cone seen events weight gate → AreCounted s cone seen count
+counted_on s cone seen events weight gate count count_is read =
     let records = read.records in
     let has = read.replayed in
+    let version = version_in (seen 0) in
+    let framed = frames_weigh s seen read.rows in
     let before = last_first records - 1 in
-    let n_is = length_unread s cone before (Some seen) in
-    let keys_are = ap (λ (xs : List Item). length xs) has.events_are ∙ length-append (unread s cone before (Some seen)) (events_of has.packets) in
+    let n_is = length_unread version s cone before (Some seen) in
+    let keys_are = ap (λ (xs : List Item). length xs) has.events_are ∙ length-append (unread version s cone before (Some seen)) (events_of has.packets) in
     record {
       records = records;
       log_end = read.log_end;
       log = read.log;
+      rows = read.rows;
+      named = read.named;
       ends = record {
         packets = has.packets;
         end = gate;
-        stand = subst (λ (n : ℕ). AreReplayed s cone (last_n0 records) (is_closed records) (seen 0) n (last_offset records) has.packets gate) n_is has.stand;
+        stand = subst (λ (n : ℕ). AreReplayed version s cone (last_n0 records) (is_closed records) (seen 0) n framed (last_offset records) has.packets gate) n_is has.stand;
         shut = read.shut;
         enough = omega (arith, read.enough, keys_are, n_is);
       };
@@ -72,9 +77,9 @@ module _ {B : Type 0} (files : B → Option Files) (leaves : B → Files → Typ
   pub open_over : (s : Numbers) (number : ℕ) (bay : B) (cone : Standing B) →
       IfTold (files bay) (λ seen. (history : List Packet) (sound : IsSound s number history seen) →
       StandsFor files leaves faults cone history × (cone.state ≡ state_of (is_closed sound.logged))) →
-      IfTold (files bay) (λ seen. IsReadOn s number seen cone.listing.events cone.gate) →
-      IfTold (files bay) (λ seen. (history : List Packet) → IsJournal s number history (seen 0) → (records : List LogRecord) (log_end : ℕ) →
-      HasLog s number (seen 1) records log_end → IsPlaceIn history (last_place records) → cone.listing.events ≡ events_of history) →
+      IfTold (files bay) (λ seen. IsReadOn s number seen cone.listing.events cone.weight cone.gate) →
+      IfTold (files bay) (λ seen. (history : List Packet) → IsJournal (version_in (seen 0)) s number history (seen 0) → (records : List LogRecord) (log_end : ℕ) →
+      HasLog s number (seen 1) records log_end → IsPlaceIn (version_in (seen 0)) history (last_place records) → cone.listing.events ≡ events_of history) →
       IfTold (files bay) (λ seen. (file at : ℕ) → FirstLeaves s number seen file at → ⊥) →
       IfTold (files bay) (λ seen. (kept : Kept) → HasOther s number (seen 0) kept → ⊥) →
       cone.listing.settings ≡ s → cone.listing.cone ≡ number → cone.events ≡ length cone.listing.events → cone.state ≡ state_of cone.listing.closed →
@@ -204,7 +209,7 @@ module _ {B : Type 0} (files : B → Option Files) (leaves : B → Files → Typ
           );
       journal = λ bay there seen told.
           let opened = open_are at cone found bay there in
-          counted_on s at seen cone.listing.events cone.gate cone.events opened.counted (opened.journal seen told);
+          counted_on s at seen cone.listing.events cone.weight cone.gate cone.events opened.counted (opened.journal seen told);
       whole = λ bay there seen told history named.
           let opened = open_are at cone found bay there in
           opened.counted ∙ ap (λ (xs : List Item). length xs) (opened.whole seen told history named);

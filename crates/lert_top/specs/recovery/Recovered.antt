@@ -7,8 +7,10 @@ use Rattle.lert_io.specs.Fault.{HasRisen, IsFaultless}
 use Rattle.lert_io.specs.Reading as reading
 use Rattle.lert_files.specs.declared.fault.ReopenFault.{ReopenFault}
 use Rattle.lert_files.specs.declared.fault.ReopenFault.TheVariants as fault
-use Rattle.lert_files.specs.{Headed.HasOther, Opened.LeaveAt}
-use Rattle.lert_recover.specs.{Reopened.{IsReadOn, IsUnsoundAt}, Replayed.{FirstLeaves, IsJournalSame, JournalEnds}}
+use Rattle.lert_files.specs.{Headed.HasOther, Opened.{AreLastRows, LeaveAt}}
+use Rattle.lert_journal.specs.Header.{version_in}
+use Rattle.lert_levels.specs.declared.rows.bin_at.BinAt.{BinAt}
+use Rattle.lert_recover.specs.{Reopened.{IsReadOn, IsUnsoundAt}, Replayed.{FirstLeaves, frames_weigh, IsJournalSame, JournalEnds}}
 use Rattle.lert_reports.specs.{Log.{is_closed, last_first, last_n0, last_offset, HasLog}, LogText.LogRecord}
 use Rattle.lert_spec.specs.{declared.numbers.Numbers.Numbers, Counts.weighed, Lines.{Printed, lines}, Look.{closing_of, look_of}}
 use Rattle.lert_ingest.specs.{Bays.{AreFaultless, AreFaultlessTo, AreUntouched, EachBay, HasFailed, IfHeld}, declared.status.Status.Status}
@@ -28,21 +30,24 @@ printed_for s history closed = record {
 }
 
 -- so many events are counted of files: those before the record of the journal that the log's last one names, by what that says,
--- and those of the packets that stand from there on up to a closed gate
+-- and those of the packets that stand from there on up to a closed gate, as far as they weigh no more than a cone takes with what the
+-- frames hold that this record names
 pub record AreCounted (s : Numbers) (cone : ℕ) (seen : Files) (events : ℕ) : Type 0 where
   pub records : List LogRecord
   pub log_end : ℕ
   pub log : HasLog s cone (seen 1) records log_end
-  pub ends : JournalEnds s cone (last_n0 records) (is_closed records) (seen 0) (last_first records - 1) (last_offset records)
+  pub rows : List (List BinAt)
+  pub named : AreLastRows s records rows
+  pub ends : JournalEnds (version_in (seen 0)) s cone (last_n0 records) (is_closed records) (seen 0) (last_first records - 1) (frames_weigh s seen rows) (last_offset records)
   pub count : events ≡ last_first records - 1 + length (events_of ends.packets)
 
 -- the journal is that of a list, and the record that the log's last one names is one of the list's
 pub record IsNamed (s : Numbers) (cone : ℕ) (seen : Files) (history : List Packet) : Type 0 where
-  pub journal : IsJournal s cone history (seen 0)
+  pub journal : IsJournal (version_in (seen 0)) s cone history (seen 0)
   pub records : List LogRecord
   pub log_end : ℕ
   pub log : HasLog s cone (seen 1) records log_end
-  pub place : IsPlaceIn history (last_place records)
+  pub place : IsPlaceIn (version_in (seen 0)) history (last_place records)
 
 -- Of a cone was printed what its files are sound for, and they are so as they were put back. Of files that are told and in their
 -- format, but sound for no list, the events are those that are counted of them, and those of the whole journal, where the log names a
@@ -66,7 +71,7 @@ pub record IsOpenOver {B : Type 0} (files : B → Option Files) (leaves : B → 
   pub counted : cone.events ≡ length cone.listing.events
   pub sound : IfTold (files bay) (λ seen. (history : List Packet) (sound : IsSound s number history seen) →
       StandsFor files leaves faults cone history × WasSound files cone × (cone.listing.closed ≡ is_closed sound.logged))
-  pub journal : IfTold (files bay) (λ seen. IsReadOn s number seen cone.listing.events cone.gate)
+  pub journal : IfTold (files bay) (λ seen. IsReadOn s number seen cone.listing.events cone.weight cone.gate)
   pub whole : IfTold (files bay) (λ seen. (history : List Packet) → IsNamed s number seen history → cone.listing.events ≡ events_of history)
   pub formed : IfTold (files bay) (λ seen. (file at : ℕ) → FirstLeaves s number seen file at → ⊥)
   pub own : IfTold (files bay) (λ seen. (kept : Kept) → HasOther s number (seen 0) kept → ⊥)

@@ -1,5 +1,4 @@
 use Rattle.lert_spec.specs.Items.{most_weight, AreOfVersion}
-use Rattle.lert_cone.specs.History.{written}
 use Rattle.lert_spec.specs.declared.item.Item.{Item}
 use Rattle.lert_bay.specs.Kept.{seen_by}
 use Rattle.std.proofs.{Common.{◌≡◌, ◌∙◌, ◌-◌, ◌≤◌, List, All, length, min, ap, sym, subst, arith, length-append, length-take}, lemmas.Bool.{eqb-false, eqb-true}}
@@ -20,8 +19,8 @@ count_again-requires-clause-own g c = subst (λ (keys : List Item). All (λ item
     (All-take (λ item. cone_of c.args.tally.now.listing.settings item.key ≡ c.args.tally.now.listing.cone) c.min-count.result c.args.items.now c.requires.own)
 
 pub count_again-requires-clause-light : goal.count_again-requires-clause-light
-count_again-requires-clause-light g c = subst (AreOfVersion written) (sym c.split_at-again.ensures.front)
-    (All-take (λ (item : Item). (1 ≤ item.weight) × (item.weight ≤ most_weight written)) c.min-count.result c.args.items.now c.requires.light)
+count_again-requires-clause-light g c = subst (AreOfVersion c.args.tally.now.listing.version) (sym c.split_at-again.ensures.front)
+    (All-take (λ (item : Item). (1 ≤ item.weight) × (item.weight ≤ most_weight c.args.tally.now.listing.version)) c.min-count.result c.args.items.now c.requires.light)
 
 pub count_again-requires-clause-within : goal.count_again-requires-clause-within
 count_again-requires-clause-within g c = λ some.

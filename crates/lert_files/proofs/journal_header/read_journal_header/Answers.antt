@@ -19,6 +19,7 @@ returns-in_err-end g c =
     let start = c.args.bay.now in
     let len = c.in_err-end.ensures in
     rw (p.1, p.2) (record {
+      known = tt;
       told = λ seen is. inl refl;
       reads_back = λ seen is headed. refl;
       refuses = λ seen is at left. inl refl;
@@ -35,6 +36,7 @@ returns-in_err-count g c =
     let len = c.len.ensures in
     let read = c.in_err-count.ensures in
     rw (p.1, p.2) (record {
+      known = tt;
       told = λ seen is. inl refl;
       reads_back = λ seen is headed. refl;
       refuses = λ seen is at left. inl refl;
@@ -63,6 +65,7 @@ returns g c =
     told s cone limits c.ranges.cone.fits (seen JOURNAL) result
     (c.check_header.ensures.told (seen JOURNAL) (len.told seen is) (read_front 32 c.in_ok-count.count c.read_at.new.into (seen JOURNAL) count_is copied.copied)) in
     record {
+      known = c.check_header.ensures.known;
       told = said;
       reads_back = λ seen is headed. headed_back s cone limits c.ranges.cone.fits (seen JOURNAL) result (said seen is) headed;
       refuses = λ seen is at left. left_back s cone limits c.ranges.cone.fits (seen JOURNAL) result (said seen is) at left;

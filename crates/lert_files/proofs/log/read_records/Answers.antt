@@ -82,6 +82,8 @@ returns-in_err-read_log_record g c =
       read = tt;
       malformed = λ seen told headed file at is. read.malformed seen (now.only_reads.seen ∙ told) now.records now.has (now.up seen told headed) file at (same_fault _ _ is);
       reach = tt;
+      version = tt;
+      weight = tt;
       same = read.same ∙ now.same;
       fault = read.fault;
       only_reads = reads_on (bays g) (lawful g) c.args.bay.now c.records.bay c.read_log_record.new.bay ⊥ _ now.only_reads
@@ -110,6 +112,8 @@ returns-then-not-branch g c =
       );
       malformed = λ seen told headed file at is. absurd (not_err _ _ is);
       reach = omega (arith, here, gate);
+      version = refl;
+      weight = refl;
       same = read.same ∙ now.same;
       fault = tt;
       only_reads = reads_on (bays g) (lawful g) c.args.bay.now c.records.bay c.read_log_record.new.bay ⊥ _ now.only_reads

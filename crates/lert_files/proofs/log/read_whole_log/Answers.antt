@@ -26,6 +26,8 @@ returns-in_err-read_log_header g c =
       point = tt;
       directory = tt;
       reach = tt;
+      version = tt;
+      weight = tt;
       malformed = λ seen told file at is.
           let left = head.left seen told file at (same_fault _ _ is) in
           (log_refused _ file at head.fault is, In_header left.0 left.1);
@@ -60,6 +62,8 @@ returns g c =
       point = points s cone reports directory Q c.read_records.result then.read;
       directory = directs s cone reports directory Q valid c.read_records.result then.read;
       reach = then.reach;
+      version = then.version;
+      weight = then.weight;
       malformed = λ seen told file at is. (
         log_refused c.read_records.result file at then.fault is,
         then.malformed seen (head.only_reads.seen ∙ told) (c.in_ok-read_log_header.ensures.headed seen told) file at is,

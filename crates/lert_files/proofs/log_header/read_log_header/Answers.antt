@@ -1,7 +1,8 @@
 use Rattle.lert_bay.specs.Kept.{Bays, seen_by}
 use Rattle.std.proofs.Common.{◌≡◌, min, length, refl, ap, sym, ◌∙◌, arith}
 use Rattle.lert_bay.specs.declared.bay.TheConstants.{JOURNAL, LOG}
-use Rattle.lert_files.proofs.{AgreedLaws.{agreed_front, agreed_all}, GateLaws.{malformed_or_failed, not_err, same_place}, HeadLaws.read_front}
+use Rattle.lert_journal.proofs.AgreedLaws.{agreed_front, agreed_all}
+use Rattle.lert_files.proofs.{GateLaws.{malformed_or_failed, not_err, same_place}, HeadLaws.read_front}
 use Rattle.lert_bay.proofs.KeptLaws.{IsLawful, apart_from_log, reads_call}
 use Rattle.lert_reports.specs.Log.{log_header}
 use Rattle.lert_spec.specs.Agreed.{agreed}

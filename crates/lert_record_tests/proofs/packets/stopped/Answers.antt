@@ -20,7 +20,7 @@ append_entry-requires-clause-some g c = omega (arith, c.sevens-entry.ensures.som
 pub append_entry-requires-clause-few : goal.append_entry-requires-clause-few
 append_entry-requires-clause-few g c =
     let made = IfOk-at_ok _ c.expect-log.ensures c.create.ensures.made in
-    few 8 _ _ c.sevens-entry.ensures.some (ap (λ log. log.most) made)
+    few 9 _ _ c.sevens-entry.ensures.some (ap (λ log. log.most) made)
 
 pub append_entry-requires-clause-room : goal.append_entry-requires-clause-room
 append_entry-requires-clause-room g c =
@@ -45,7 +45,7 @@ pub append_entry-requires-2-clause-few : goal.append_entry-requires-2-clause-few
 append_entry-requires-2-clause-few g c =
     let moved = IfOk-at_ok _ c.expect.ensures c.append_entry.ensures.moved in
     let made = IfOk-at_ok _ c.expect-log.ensures c.create.ensures.made in
-    few 8 _ _ c.sevens-entry.ensures.some (ap (λ log. log.most) moved ∙ ap (λ log. log.most) made)
+    few 9 _ _ c.sevens-entry.ensures.some (ap (λ log. log.most) moved ∙ ap (λ log. log.most) made)
 
 pub append_entry-requires-2-clause-room : goal.append_entry-requires-2-clause-room
 append_entry-requires-2-clause-room g c =
@@ -58,7 +58,7 @@ append_entry-requires-2-clause-reach g c =
     let packet = packet_of c.sevens-entry.result in
     let moved = ap (λ log. log.gate) (IfOk-at_ok _ c.expect.ensures c.append_entry.ensures.moved) in
     let made = ap (λ log. log.gate) (IfOk-at_ok _ c.expect-log.ensures c.create.ensures.made) in
-    omega (arith, moved, made, length_payload 1 packet, c.sevens-entry.ensures.some)
+    omega (arith, moved, made, length_payload 2 packet, c.sevens-entry.ensures.some)
 
 pub append_entry-requires-2-clause-closed : goal.append_entry-requires-2-clause-closed
 append_entry-requires-2-clause-closed g c = λ seen told image may.

@@ -12,7 +12,7 @@ lawful : (g : given.Over) → IsLawful (bays g)
 lawful g = record { as_read = g.met.B.Bay.as_read; since_now = g.met.B.Bay.since_now; only_now = g.met.B.Bay.only_now; since_earlier = g.met.B.Bay.since_earlier }
 
 pub find_left-requires : goal.find_left-requires
-find_left-requires g c = record { place = c.requires.place; within = c.requires.within; near = c.requires.near }
+find_left-requires g c = record { known = c.requires.known; place = c.requires.place; within = c.requires.within; light = c.requires.light; near = c.requires.near }
 
 -- ---- nothing more is read
 

@@ -21,9 +21,10 @@ lawful g = record { as_read = g.met.B.Bay.as_read; since_now = g.met.B.Bay.since
 
 said : (g : given.Over) (c : After-reopen_in_order g) (seen : Files) → g.B.Bay.files c.args.bay ≡ Some seen → Says c.args.room.settings c.args.cone c.requires.room.valid
     c.requires.named c.ranges.cone.fits seen (λ (now : Standing g.row.B.Denot). now.listing.closed) (λ (now : Standing g.row.B.Denot). now.listing.events)
-    (λ (now : Standing g.row.B.Denot). now.gate) (λ (refused : ReopenRefused g.row.B.Denot). refused.fault) c.reopen_in_order.result
+    (λ (now : Standing g.row.B.Denot). now.weight) (λ (now : Standing g.row.B.Denot). now.gate) (λ (refused : ReopenRefused g.row.B.Denot). refused.fault) c.reopen_in_order.result
 said g c seen told = says c.args.room.settings c.args.cone c.requires.room.valid c.requires.named c.ranges.cone.fits seen (λ (now : Standing g.row.B.Denot). now.listing.closed)
-    (λ (now : Standing g.row.B.Denot). now.listing.events) (λ (now : Standing g.row.B.Denot). now.gate) (λ (refused : ReopenRefused g.row.B.Denot). refused.fault)
+    (λ (now : Standing g.row.B.Denot). now.listing.events) (λ (now : Standing g.row.B.Denot). now.weight) (λ (now : Standing g.row.B.Denot). now.gate) (λ (refused : ReopenRefused g.row.B.Denot).
+    refused.fault)
     c.reopen_in_order.result (c.reopen_in_order.ensures.told seen told)
 
 pub returns-clause-journal : goal.returns-clause-journal
@@ -60,14 +61,14 @@ returns-clause-sound_opens g c seen told h sound =
     let own = λ (now : Standing g.row.B.Denot). (now.listing.settings ≡ c.args.room.settings) × (now.listing.cone ≡ c.args.cone) × (now.events ≡ length now.listing.events) ×
     (now.state ≡ if now.listing.closed then Finished else Running) in
     sound_told c.args.room.settings c.args.cone c.requires.room.valid c.requires.named c.ranges.cone.fits seen
-    (λ (now : Standing g.row.B.Denot). now.listing.closed) (λ (now : Standing g.row.B.Denot). now.listing.events) (λ (now : Standing g.row.B.Denot). now.gate)
+    (λ (now : Standing g.row.B.Denot). now.listing.closed) (λ (now : Standing g.row.B.Denot). now.listing.events) (λ (now : Standing g.row.B.Denot). now.weight)
+    (λ (now : Standing g.row.B.Denot). now.gate)
     (λ (refused : ReopenRefused g.row.B.Denot). refused.fault)
-    (g.B.Bay.files c.args.bay) told (λ (now : Standing g.row.B.Denot). now.events) (λ (now : Standing g.row.B.Denot). now.weight)
+    (g.B.Bay.files c.args.bay) told (λ (now : Standing g.row.B.Denot). now.events)
     (λ (now : Standing g.row.B.Denot) h. StandsFor g.B.Bay.files g.B.Bay.leaves g.B.Faulty.faults now h)
     (λ (now : Standing g.row.B.Denot) (closed : Bool). now.state ≡ if closed then Finished else Running)
     h sound c.reopen_in_order.result (c.reopen_in_order.ensures.told seen told) (c.reopen_in_order.ensures.fails seen told) c.reopen_in_order.ensures.stands
     (ok_on own counted c.reopen_in_order.result (λ now is. is.2) c.reopen_in_order.ensures.own)
-    c.reopen_in_order.ensures.weight
     (ok_on own finished c.reopen_in_order.result (λ now is. is.3) c.reopen_in_order.ensures.own)
 
 pub returns-clause-reports : goal.returns-clause-reports

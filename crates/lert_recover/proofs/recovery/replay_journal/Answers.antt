@@ -1,7 +1,7 @@
 use Rattle.lert_bay.specs.Kept.{Bays, seen_by}
 use Rattle.std.proofs.Common.{◌≤◌, ℕ, List, length, ap, sym, ◌∙◌, subst, arith, inl, inr}
 use Rattle.std.specs.Prelude.{if◌then◌else◌}
-use Rattle.lert_bay.specs.{declared.bay.TheConstants.JOURNAL, Kept.{CallsBay, ReadsBay}}
+use Rattle.lert_bay.specs.{declared.bay.TheConstants.JOURNAL, Files.Files, Kept.{CallsBay, ReadsBay}}
 use Rattle.lert_cone.proofs.{SoundLaws.turns_back}
 use Rattle.lert_bay.proofs.KeptLaws.{IsLawful, calls_as, calls_on}
 use Rattle.lert_io.proofs.Rising.{risen_since, risen_then}
@@ -36,6 +36,7 @@ replay_all-requires g c =
       );
       log_shut = c.requires.log_shut;
       near = c.requires.near;
+      light = c.requires.light;
     }
 
 pub ready-requires : goal.ready-requires
@@ -52,8 +53,10 @@ pub why_stopped-fault-requires : goal.why_stopped-fault-requires
 why_stopped-fault-requires g c =
     let near = c.in-Err.ensures.near in
     record {
+      known = c.requires.known;
       place = c.requires.place;
-      within = subst (λ (s : Numbers). c.in-Err.stop.events ≤ capacity s) c.requires.own.0 near.1;
+      within = subst (λ (s : Numbers). c.in-Err.stop.before.events ≤ capacity s) c.requires.own.0 near.1;
+      light = near.2;
       near = near.0;
     }
 
@@ -67,16 +70,18 @@ returns-in-Ok g c =
     let value = c.ready.ensures.value in
     let bay_is = ap (λ (k : Standing g.row.B.Denot). k.bay) value in
     let count_is = ap (λ (k : Standing g.row.B.Denot). length k.listing.events) value in
+    let Has = λ (seen : Files) (gate : ℕ) (events : List Item) (weight : ℕ).
+    HasReplayed start.listing.version start.listing.settings start.listing.cone start.last.n0 start.last.closed (seen JOURNAL) start.listing.events start.weight c.args.last.now.offset gate events
+    weight in
     record {
       told = λ seen told some.
           let start = c.args.cone in
           let read = c.in-Ok.ensures.told seen told in
           let events_are = ap (λ (k : Standing g.row.B.Denot). k.listing.events) c.ready.ensures.value in
           let gate_is = ap (λ (k : Standing g.row.B.Denot). k.gate) c.ready.ensures.value ∙ c.in-Ok.ensures.gate in (
-            subst (λ (events : List Item). HasReplayed start.listing.settings start.listing.cone start.last.n0 start.last.closed (seen JOURNAL) start.listing.events
-                c.args.last.now.offset c.ready.result.gate events) (sym events_are)
-                (subst (λ (gate : ℕ). HasReplayed start.listing.settings start.listing.cone start.last.n0 start.last.closed
-                (seen JOURNAL) start.listing.events c.args.last.now.offset gate c.replay_all.new.cone.listing.events) (sym gate_is) read.0),
+            subst (λ (weight : ℕ). Has seen c.ready.result.gate c.ready.result.listing.events weight) (sym (ap (λ (k : Standing g.row.B.Denot). k.weight) c.ready.ensures.value))
+                (subst (λ (events : List Item). Has seen c.ready.result.gate events c.replay_all.new.cone.weight) (sym events_are)
+                (subst (λ (gate : ℕ). Has seen gate c.replay_all.new.cone.listing.events c.replay_all.new.cone.weight) (sym gate_is) read.0)),
             subst (λ (gate : ℕ). IsClosed (seen JOURNAL) gate) (sym gate_is) read.1,
           );
       fails = λ seen told. tt;
@@ -90,7 +95,7 @@ returns-in-Ok g c =
           c.in-Ok.ensures.replays back.0 back.1 h (begun (was_before files start end c.replay_all.ensures.same_cone (subst (WasSound files) c.ready.ensures.value was)) back.0 back.1));
       passed = omega (arith, all.passed, count_is);
       counted = ap (λ (k : Standing g.row.B.Denot). k.events) value ∙ (all.counted ∙ sym count_is);
-      weight = sym c.ready.ensures.weighs;
+      weight = c.ready.ensures.weighs;
       state = (
         ap (λ (k : Standing g.row.B.Denot). k.listing.closed) value ∙ all.closed,
         ap (λ (k : Standing g.row.B.Denot). k.state) value ∙ ap (λ (last : LogPoint). if last.closed then Finished else Running) all.same_cone.last,
@@ -105,7 +110,7 @@ returns-in-Ok g c =
       unflushed = λ seen told nothing. subst (λ (bay : g.row.B.Denot). WritesNothing (bays g) start.bay bay ⊥) (sym bay_is) (all.unflushed seen told nothing);
       log = logged_from (bays g) (lawful g) start c.replay_all.new.cone now.bay _ all.log (ap files bay_is);
       rest = λ seen told h begun.
-          subst (λ (bay : g.row.B.Denot). ReadsRest start.listing.settings c.args.last.now.offset h (handed start.bay JOURNAL) (handed bay JOURNAL)) (sym bay_is)
+          subst (λ (bay : g.row.B.Denot). ReadsRest start.listing.version start.listing.settings c.args.last.now.offset h (handed start.bay JOURNAL) (handed bay JOURNAL)) (sym bay_is)
           (c.replay_all.ensures.reads seen told h begun);
     }
 
@@ -131,19 +136,27 @@ returns-in-Err g c =
           let there = c.replay_all.ensures.journal.told seen told in
           let found = c.why_stopped-fault.ensures.told there.0 (ap files c.into_bay-bay.ensures ∙ there.1) in
           let fault = c.why_stopped-fault.result in
-          let why : IsWhy start.listing.settings start.listing.cone start.last.n0 start.last.closed (seen JOURNAL) stop.events stop.gate stop.fault fault =
-          subst (λ (s : Numbers). IsWhy s start.listing.cone start.last.n0 start.last.closed (seen JOURNAL) stop.events stop.gate stop.fault fault) (sym c.requires.own.0)
-          (subst (λ (cone : ℕ). IsWhy c.args.settings.now cone start.last.n0 start.last.closed (seen JOURNAL) stop.events stop.gate stop.fault fault) (sym c.requires.own.1)
-          (subst (λ (last : LogPoint). IsWhy c.args.settings.now c.args.number last.n0 last.closed (seen JOURNAL) stop.events stop.gate stop.fault fault) (sym c.requires.own.2)
-          (subst (λ (bytes : List ℕ). IsWhy c.args.settings.now c.args.number c.args.last.now.n0 c.args.last.now.closed bytes stop.events stop.gate stop.fault fault) there.2
-          found))) in
-          stopped_of start.listing.settings start.listing.cone start.last.n0 start.last.closed (seen JOURNAL) start.listing.events c.args.last.now.offset stop.gate stop.events
-          stopped.0 stopped.1 stopped.2 fault stop.fault why stopped.3
+          let why : IsWhy start.listing.version start.listing.settings start.listing.cone start.last.n0 start.last.closed (seen JOURNAL) stop.before.events stop.before.weight stop.gate stop.fault
+          fault =
+          subst (λ (v : ℕ). IsWhy v start.listing.settings start.listing.cone start.last.n0 start.last.closed (seen JOURNAL) stop.before.events stop.before.weight stop.gate stop.fault fault)
+          (sym c.requires.own.3)
+          (subst (λ (s : Numbers). IsWhy c.args.last.now.version s start.listing.cone start.last.n0 start.last.closed (seen JOURNAL) stop.before.events stop.before.weight stop.gate stop.fault fault)
+          (sym c.requires.own.0)
+          (subst (λ (cone : ℕ). IsWhy c.args.last.now.version c.args.settings.now cone start.last.n0 start.last.closed (seen JOURNAL) stop.before.events stop.before.weight stop.gate stop.fault
+          fault) (sym c.requires.own.1)
+          (subst (λ (last : LogPoint). IsWhy c.args.last.now.version c.args.settings.now c.args.number last.n0 last.closed (seen JOURNAL) stop.before.events stop.before.weight stop.gate stop.fault
+          fault) (sym c.requires.own.2)
+          (subst (λ (bytes : List ℕ). IsWhy c.args.last.now.version c.args.settings.now c.args.number c.args.last.now.n0 c.args.last.now.closed bytes stop.before.events stop.before.weight stop.gate
+          stop.fault fault) there.2
+          found)))) in
+          stopped_of start.listing.settings start.listing.cone start.last.n0 start.last.closed (seen JOURNAL) start.listing.events start.weight c.args.last.now.offset stop.gate
+          stop.before.events stopped.0 stop.before.weight stopped.1 stopped.2 fault stop.fault why stopped.3
           (λ file at is. c.in-Err.ensures.full seen told some file at is);
       fails = λ seen told h begun.
           let there = c.replay_all.ensures.journal.told seen told in
           let found = c.why_stopped-fault.ensures.told there.0 (ap g.B.Bay.files c.into_bay-bay.ensures ∙ there.1) in
-          outside_of c.args.settings.now c.args.number c.args.last.now.n0 c.args.last.now.closed (there.0 JOURNAL) c.in-Err.stop.events c.in-Err.stop.gate
+          outside_of c.args.last.now.version c.args.settings.now c.args.number c.args.last.now.n0 c.args.last.now.closed (there.0 JOURNAL) c.in-Err.stop.before.events c.in-Err.stop.before.weight
+          c.in-Err.stop.gate
           c.why_stopped-fault.result c.in-Err.stop.fault found (c.in-Err.ensures.replays seen told h begun);
       stands = tt;
       passed = tt;

@@ -4,11 +4,15 @@ use Rattle.lert_cone.specs.{Record.LogPlace, declared.state.ConeState.ConeState}
 use Rattle.lert_gatelog.specs.Gated.{Log}
 use Rattle.lert_cone.proofs.StandLaws.{new_cone, new_stands, new_was_sound}
 use Rattle.lert_cone.proofs.cone.Cone.create.Goals as goal
+use Rattle.lert_cone.specs.History.{most_version}
 
 pub invariant_of-result : goal.invariant_of-result
 invariant_of-result g c =
     new_cone g.B.Bay.files g.B.Bay.leaves g.B.Faulty.faults g.B.Faulty.mark c.begin.new.bay c.of.result.value c.args.room.settings c.args.cone c.into_parts-tally.result.0 _ _ _ _ _
-    c.requires.room.valid c.into_parts-tally.ensures.listing c.into_parts-tally.ensures.counted c.in-Ok.ensures.journal c.in-Ok.ensures.log c.into_parts-tally.ensures.buffer
+    (ap (λ (p : LogPoint). p.version) c.without_record.ensures)
+    (ap (λ (p : LogPoint). p.n0) c.without_record.ensures, ap (λ (p : LogPoint). p.weight) c.without_record.ensures) c.requires.room.valid c.into_parts-tally.ensures.listing
+    c.into_parts-tally.ensures.counted c.in-Ok.ensures.journal
+    c.in-Ok.ensures.log c.into_parts-tally.ensures.buffer
     c.into_parts-tally.ensures.entry c.of.ensures
     c.in-Ok.ensures.begun
 
@@ -31,9 +35,9 @@ returns-in-Err-clause-not_fresh g c seen told same = c.in-Err.ensures.not_fresh 
 
 pub returns-in-Ok-clause-made : goal.returns-in-Ok-clause-made
 returns-in-Ok-clause-made g c =
-    let last_is : c.without_record.result ≡ record { n0 = 0; offset = 32; first = 1; closed = false; log_end = 8 } =
+    let last_is : c.without_record.result ≡ record { n0 = 0; offset = 32; first = 1; closed = false; log_end = 8; version = most_version; weight = 0 } =
     c.without_record.ensures
-    ∙ ap (λ at. (let last : LogPoint = record { n0 = 0; offset = 32; first = 1; closed = false; log_end = at } in last))
+    ∙ ap (λ at. (let last : LogPoint = record { n0 = 0; offset = 32; first = 1; closed = false; log_end = at; version = most_version; weight = 0 } in last))
     (c.gate.ensures ∙ ap (λ (log : LogPlace). log.gate) c.in-Ok.ensures.log) in
     λ i. record {
       bay = c.begin.new.bay;

@@ -16,6 +16,8 @@ use Rattle.lert_io.proofs.Rising.{risen_since}
 use Rattle.lert_cone.proofs.cone.Cone.finish.Given as given
 use Rattle.lert_cone.proofs.cone.Cone.finish.Goals as goal
 use Rattle.lert_cone.proofs.cone.Cone.finish.Goals.{After-len}
+use Rattle.lert_cone.specs.History.{end_of}
+use Rattle.lert_cone.proofs.WeighLaws.{light_whole}
 
 abbrev bays : (g : given.Over) → Bays g.row.B.Denot
 bays g = seen_by g.B.Faulty g.B.Bay
@@ -68,7 +70,9 @@ returns-in_err-test_state g c =
 pub invariant_of-self : goal.invariant_of-self
 invariant_of-self g c =
     let len_is : c.self.inside.buffer.len ≡ length c.self.inside.buffer.items = omega (arith, c.self.inside.buffer.ok) in
-    broken_cone (ap is_broken c.broken_by-self-inside.ensures ∙ is_broken_by c.in-Err.fault) (ap (λ (l : Listing). l.settings) c.finish.ensures.listing) refl refl refl refl refl
+    broken_cone (ap is_broken c.broken_by-self-inside.ensures ∙ is_broken_by c.in-Err.fault) (ap (λ (l : Listing). l.settings) c.finish.ensures.listing) (ap (λ (l : Listing). l.version)
+    c.finish.ensures.listing)
+    refl refl refl refl refl refl
     (sym (length_refill c.self.inside.buffer.len c.self.inside.buffer.items c.finish.new.buffer len_is) ∙ len_is) refl c.finish.ensures.keeps.kept.never_falls
     (any_turn c.finish.ensures.keeps.journal.seen) c.finish.ensures.keeps.kept.mark
     (λ same. risen_since (g.B.Faulty.faults c.self.inside.made.value) (g.B.Faulty.faults c.self.inside.bay) (g.B.Faulty.faults c.finish.new.bay) c.self.invariant.never_falls
@@ -92,7 +96,9 @@ returns-in-Err g c =
         made = refl;
         last = refl;
       }) running (any_turn did.keeps.journal.seen) c.broken_by-self-inside.ensures (ap Err c.from.ensures) refl c.self.invariant.never_falls did.keeps.kept did.keeps.journal.now
-          (λ seen told h whole. did.sound seen told h whole.in_step) (λ seen told h whole image may. inl (did.each_moment seen told h whole.keys whole.in_step image may)) did.keeps.shows;
+          (λ seen told h stands whole. did.sound seen told h whole.in_step (light_whole c.self.inside.tally.listing h whole.keys
+          (whole.in_step.journal seen (g.met.B.Bay.as_read c.self.inside.bay seen told)).light)) (λ seen told h stands whole image may. inl (did.each_moment seen told h whole.keys whole.in_step
+          image may)) did.keeps.shows;
       broke = λ _ i. record (cone_at c.finish.new.bay c.self.inside.made.value c.finish.new.tally c.self.inside.events c.self.inside.weight c.broken_by-self-inside.result (over_of c.self.inside.over)
           c.self.inside.journal.gate c.finish.new.log c.self.inside.last) { listing = c.finish.ensures.listing i; rows = c.finish.ensures.rows i };
       never_full = λ n len same. false≢true (sym (no_refusal c.in-Err.fault) ∙ ap is_refusal (sym c.from.ensures ∙ one_fault same));
@@ -140,7 +146,7 @@ stands_then g c h stands =
     let whole = stands.whole (ap is_broken running) sound was.0 was.1 in
     whole_of (g.B.Bay.leaves c.finish.new.bay) seen h c.finish.new.tally c.self.inside.journal.gate c.finish.new.log c.in_default.ensures.counted
     (c.in_default.ensures.in_step was.0 was.1 h whole.keys whole.in_step seen told) (g.met.B.Bay.as_read c.finish.new.bay seen told)
-    (ap (λ (l : Listing). l.events) is ∙ whole.keys) whole.gate_is)
+    (ap (λ (l : Listing). l.events) is ∙ whole.keys) (whole.gate_is ∙ ap (λ (l : Listing). end_of l.version h) (sym is)))
     stands
 
 pub returns : goal.returns

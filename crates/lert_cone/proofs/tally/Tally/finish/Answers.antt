@@ -4,20 +4,21 @@ use Rattle.lert_cone.proofs.{EndCounted.{not_ended, no_room_left, all_counted}}
 use Rattle.lert_bay.proofs.KeptLaws.{IsLawful}
 use Rattle.std.specs.Prelude.{Result}
 use Rattle.lert_levels.specs.{declared.rows.fault.FlushFault.FlushFault, OnDisk.OnDisk, rows.Young.Young}
-use Rattle.lert_cone.specs.{Counts.Scans, History.written}
+use Rattle.lert_cone.specs.{Counts.Scans}
 use Rattle.lert_cone.specs.{Due.{Dues, started}, Tally.{Tallied, IsCounted, due_in}}
 use Rattle.lert_cone.proofs.tally.Tally.finish.Given as given
 use Rattle.lert_cone.proofs.tally.Tally.finish.Goals as goal
+use Rattle.std.proofs.Common.{ℕ}
 
 lawful : (g : given.Over) → IsLawful (seen_by g.B.Faulty g.B.Bay)
 lawful g = record { as_read = g.met.B.Bay.as_read; since_now = g.met.B.Bay.since_now; only_now = g.met.B.Bay.only_now; since_earlier = g.met.B.Bay.since_earlier }
 
--- a scan of levels of the version that is written
-of_version : (g : given.Over) (levels : OnDisk) → levels.version ≡ written → {start due : Dues} {bay after : g.row.B.Denot} {zero : Young} {levels_after : OnDisk} {result : Result
+-- a scan of levels of the cone's version
+of_version : (g : given.Over) (levels : OnDisk) {version : ℕ} → levels.version ≡ version → {start due : Dues} {bay after : g.row.B.Denot} {zero : Young} {levels_after : OnDisk} {result : Result
     (Unit {0}) FlushFault} →
     Scans (seen_by g.B.Faulty g.B.Bay) start bay after zero levels levels_after due result →
-    Scans (seen_by g.B.Faulty g.B.Bay) start bay after zero (record { settings = levels.settings; version = written; rows = levels.rows }) levels_after due result
-of_version g levels is {start} {due} {bay} {after} {zero} {levels_after} {result} scans =
+    Scans (seen_by g.B.Faulty g.B.Bay) start bay after zero (record { settings = levels.settings; version = version; rows = levels.rows }) levels_after due result
+of_version g levels {version} is {start} {due} {bay} {after} {zero} {levels_after} {result} scans =
     subst (λ v. Scans (seen_by g.B.Faulty g.B.Bay) start bay after zero (record { settings = levels.settings; version = v; rows = levels.rows }) levels_after due result) is scans
 
 pub returns-in_err-result : goal.returns-in_err-result
@@ -63,6 +64,7 @@ invariant_of-self g c = record {
   young_settings = c.self.invariant.young_settings;
   levels_settings = ap (λ (l : OnDisk). l.settings) c.scan_into-due.ensures.stays ∙ c.self.invariant.levels_settings;
   version = ap (λ (l : OnDisk). l.version) c.scan_into-due.ensures.stays ∙ c.self.invariant.version;
+  known = c.self.invariant.known;
   there = refl;
   len_is = c.self.invariant.len_is;
   flush_is = c.self.invariant.flush_is;
@@ -75,6 +77,7 @@ invariant_of-self-2 g c = record {
   young_settings = c.self.invariant.young_settings;
   levels_settings = ap (λ (l : OnDisk). l.settings) c.scan_into-due.ensures.stays ∙ c.self.invariant.levels_settings;
   version = ap (λ (l : OnDisk). l.version) c.scan_into-due.ensures.stays ∙ c.self.invariant.version;
+  known = c.self.invariant.known;
   there = refl;
   len_is = c.self.invariant.len_is;
   flush_is = c.self.invariant.flush_is;
@@ -87,6 +90,7 @@ invariant_of-self-then-is_full g c = record {
   young_settings = c.self.invariant.young_settings;
   levels_settings = ap (λ (l : OnDisk). l.settings) c.scan_into-due.ensures.stays ∙ c.self.invariant.levels_settings;
   version = ap (λ (l : OnDisk). l.version) c.scan_into-due.ensures.stays ∙ c.self.invariant.version;
+  known = c.self.invariant.known;
   there = refl;
   len_is = c.self.invariant.len_is;
   flush_is = c.self.invariant.flush_is;

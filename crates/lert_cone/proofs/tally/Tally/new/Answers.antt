@@ -1,6 +1,5 @@
 use Rattle.lert_spec.specs.Counts.{weighed}
 use Rattle.lert_spec.specs.declared.item.Item.{Item}
-use Rattle.lert_cone.specs.History.{written}
 use Rattle.std.proofs.Common.{◌≡◌, ◌∙◌, false, All, List, [], replicate, length, ap, sym, subst, arith}
 use Rattle.lert_levels.specs.{declared.rows.bin_at.BinAt.BinAt, OnDisk.OnDisk, rows.Rows.{IsAt, AreRows, HoldsBins}}
 use Rattle.lert_levels.proofs.{LaterLaws.HoldsBins-none, rows.MoveLaws.AreRows-none}
@@ -22,7 +21,7 @@ pub adopted-requires-clause-keys_own : goal.adopted-requires-clause-keys_own
 adopted-requires-clause-keys_own g c = subst (IsPartOf weighed c.args.settings.now c.args.cone) (sym c.requires.unread) tt
 
 pub adopted-requires-clause-light : goal.adopted-requires-clause-light
-adopted-requires-clause-light g c = subst (AreOfVersion written) (sym c.requires.unread) (λ k d below. absurd (omega (arith, below)))
+adopted-requires-clause-light g c = subst (AreOfVersion c.args.version) (sym c.requires.unread) (λ k d below. absurd (omega (arith, below)))
 
 pub adopted-requires-clause-version : goal.adopted-requires-clause-version
 adopted-requires-clause-version g c = ap (λ (v : OnDisk). v.version) c.requires.levels
@@ -32,7 +31,7 @@ adopted-requires-clause-within g c = omega (arith, ap (length {A = Item}) c.requ
 
 pub returns-clause-listing : goal.returns-clause-listing
 returns-clause-listing g c =
-    c.adopted.ensures.listing ∙ ap (λ (keys : List Item). record { settings = c.args.settings.now; cone = c.args.cone; events = keys; closed = false }) c.requires.unread
+    c.adopted.ensures.listing ∙ ap (λ (keys : List Item). record { settings = c.args.settings.now; version = c.args.version; cone = c.args.cone; events = keys; closed = false }) c.requires.unread
 
 pub returns-clause-counted : goal.returns-clause-counted
 returns-clause-counted g c =
@@ -64,7 +63,7 @@ returns-clause-held g c seen =
     returns-clause-rows g c ∙ ap (λ (l : Listing). replicate l.settings.levels []) (sym is) in
     record {
       frames = subst
-          (λ (rows : List (List BinAt)). HoldsBins c.adopted.result.listing.settings written c.adopted.result.listing.events rows (seen 2))
-          (sym rows_are) (HoldsBins-none c.adopted.result.listing.settings 1 c.adopted.result.listing.events (seen 2));
+          (λ (rows : List (List BinAt)). HoldsBins c.adopted.result.listing.settings c.adopted.result.listing.version c.adopted.result.listing.events rows (seen 2))
+          (sym rows_are) (HoldsBins-none c.adopted.result.listing.settings c.adopted.result.listing.version c.adopted.result.listing.events (seen 2));
       reports = returns-clause-none g c ∙ ap (λ (l : Listing). reports_of l) (sym is);
     }

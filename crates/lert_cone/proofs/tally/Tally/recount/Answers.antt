@@ -1,6 +1,5 @@
 use Rattle.std.proofs.Common.{◌≡◌, ◌∙◌, ◌<◌, ◌≤◌, ◌++◌, ◌∷◌, [], ℕ, ap, sym, subst, refl}
 use Rattle.lert_spec.specs.{Items.{unit, most_weight}, Mix.cone_of, declared.item.Item.Item}
-use Rattle.lert_cone.specs.History.{written}
 use Rattle.lert_spec.specs.Edges.{edge, capacity}
 use Rattle.lert_cone.specs.{Listing.Listing, Tally.Tallied}
 use Rattle.lert_cone.proofs.KeysRecounted.{with_keys, none_again, zero_least, own_again, within_again, one_again, all_again}
@@ -35,8 +34,9 @@ recount_item-requires-clause-some g c = subst (λ (item : Item). 1 ≤ item.weig
     (c.requires.light c.loop-number.number (unit 0) (below c.loop-number-test.true c.len-number-end.ensures.value)).0
 
 pub recount_item-requires-clause-light : goal.recount_item-requires-clause-light
-recount_item-requires-clause-light g c = subst (λ (item : Item). item.weight ≤ most_weight written) (sym (c.at.ensures.value (unit 0)))
-    (c.requires.light c.loop-number.number (unit 0) (below c.loop-number-test.true c.len-number-end.ensures.value)).1
+recount_item-requires-clause-light g c = subst (λ (l : Listing). c.at.result.weight ≤ most_weight l.version) (sym c.loop-number.invariant.listing)
+    (subst (λ (item : Item). item.weight ≤ most_weight c.args.self.now.listing.version) (sym (c.at.ensures.value (unit 0)))
+    (c.requires.light c.loop-number.number (unit 0) (below c.loop-number-test.true c.len-number-end.ensures.value)).1)
 
 pub recount_item-requires-clause-from : goal.recount_item-requires-clause-from
 recount_item-requires-clause-from g c =

@@ -5,6 +5,8 @@ use Rattle.lert_levels.specs.rows.Young.{IsNextPosition, with_event}
 use Rattle.lert_cone.specs.Tally.{Tallied, IsRecounted, due_in}
 use Rattle.lert_cone.proofs.{RecountLaws.{again_settings, recount_position, recounted_more}, NextFlush.flush_next}
 use Rattle.lert_cone.proofs.tally.Tally.recount_item.Goals as goal
+use Rattle.std.proofs.Common.{◌≤◌}
+use Rattle.lert_spec.specs.Items.{most_weight}
 
 pub overflow_add-m : goal.overflow_add-m
 overflow_add-m g c =
@@ -25,7 +27,7 @@ count_again-requires-clause-below g c = subst (λ (s : Numbers). c.tail_of-tail.
 
 pub returns-clause-listing : goal.returns-clause-listing
 returns-clause-listing g c =
-    ap (λ (keys : List Item). record { settings = c.self.inside.settings; cone = c.self.inside.cone; events = keys; closed = c.self.inside.closed })
+    ap (λ (keys : List Item). record { settings = c.self.inside.settings; version = c.self.inside.version; cone = c.self.inside.cone; events = keys; closed = c.self.inside.closed })
     (ap (λ keys. c.self.inside.unread ++ keys) c.push.ensures ∙ sym (append_assoc c.self.inside.unread c.self.inside.taken (c.args.item ∷ [])))
     ∙ ap (λ (v : Tallied). record v.listing { events = v.listing.events ++ c.args.item ∷ [] }) c.self.view_is
 
@@ -55,6 +57,7 @@ invariant_of-self g c = record {
       ∙ c.self.invariant.young_settings;
   levels_settings = c.self.invariant.levels_settings;
   version = c.self.invariant.version;
+  known = c.self.invariant.known;
   there = c.self.invariant.there;
   len_is = omega (
     arith,
@@ -78,12 +81,12 @@ returns-clause-recounted g c =
     subst (λ (v : Tallied). c.args.from ≡ edge v.listing.settings 0 c.args.n0) (sym c.self.view_is) c.requires.from in
     let from_young : c.args.from ≡ edge c.self.inside.zero.settings 0 c.args.n0 = from_is ∙ ap (λ (v : Numbers). edge v 0 c.args.n0) (sym c.self.invariant.young_settings) in
     recounted_more _ c.args.n0 recounted c.self.invariant.young_settings before c.args.item c.tail_of-tail.result (c.self.inside.len + 1) c.tail_of-tail.ensures.value m_is c.requires.below own
-    c.requires.some c.requires.light
+    c.requires.some (subst (λ (v : Tallied). c.args.item.weight ≤ most_weight v.listing.version) (sym c.self.view_is) c.requires.light)
     c.count_again.new.zero
     (c.count_again.ensures ∙ ap (λ e. cond (ltb e (c.self.inside.len + 1)) (with_event c.self.inside.zero c.tail_of-tail.result c.args.item.weight (c.self.inside.len + 1)) c.self.inside.zero)
     from_young) _
     (ap (λ (keys : List Item). record {
-      listing = record { settings = c.self.inside.settings; cone = c.self.inside.cone; events = keys; closed = c.self.inside.closed };
+      listing = record { settings = c.self.inside.settings; version = c.self.inside.version; cone = c.self.inside.cone; events = keys; closed = c.self.inside.closed };
       young = c.count_again.new.zero;
       rows = c.self.inside.levels.rows;
       due = due_in c.self.inside.due;

@@ -5,7 +5,7 @@ use Rattle.lert_cone.proofs.{KeyCounted.{not_counted, no_room, key_counted}, Nex
 use Rattle.lert_bay.specs.Kept.{seen_by}
 use Rattle.std.specs.Prelude.{ℕ, Result}
 use Rattle.lert_levels.specs.{declared.rows.fault.FlushFault.FlushFault, OnDisk.OnDisk, rows.Young.{AreLight, IsNextPosition, Young}}
-use Rattle.lert_cone.specs.{Counts.GivesTotals, Due.Dues, History.written}
+use Rattle.lert_cone.specs.{Counts.GivesTotals, Due.Dues}
 use Rattle.lert_bay.proofs.KeptLaws.{IsLawful}
 use Rattle.lert_cone.proofs.tally.Tally.take.Given as given
 use Rattle.lert_cone.proofs.tally.Tally.take.Goals as goal
@@ -13,11 +13,11 @@ use Rattle.lert_cone.proofs.tally.Tally.take.Goals as goal
 lawful : (g : given.Over) → IsLawful (seen_by g.B.Faulty g.B.Bay)
 lawful g = record { as_read = g.met.B.Bay.as_read; since_now = g.met.B.Bay.since_now; only_now = g.met.B.Bay.only_now; since_earlier = g.met.B.Bay.since_earlier }
 
--- totals given over levels of the version that is written
-of_version : (g : given.Over) (levels : OnDisk) → levels.version ≡ written → {start due : Dues} {m tail : ℕ} {bay after : g.row.B.Denot} {zero zero_after : Young} {levels_after : OnDisk}
+-- totals given over levels of the cone's version
+of_version : (g : given.Over) (levels : OnDisk) {version : ℕ} → levels.version ≡ version → {start due : Dues} {m tail : ℕ} {bay after : g.row.B.Denot} {zero zero_after : Young} {levels_after : OnDisk}
     {result : Result (Unit {0}) FlushFault} → GivesTotals (seen_by g.B.Faulty g.B.Bay) start m tail bay after zero zero_after levels levels_after due result →
-    GivesTotals (seen_by g.B.Faulty g.B.Bay) start m tail bay after zero zero_after (record { settings = levels.settings; version = written; rows = levels.rows }) levels_after due result
-of_version g levels is {start} {due} {m} {tail} {bay} {after} {zero} {zero_after} {levels_after} {result} gives =
+    GivesTotals (seen_by g.B.Faulty g.B.Bay) start m tail bay after zero zero_after (record { settings = levels.settings; version = version; rows = levels.rows }) levels_after due result
+of_version g levels {version} is {start} {due} {m} {tail} {bay} {after} {zero} {zero_after} {levels_after} {result} gives =
     subst (λ v. GivesTotals (seen_by g.B.Faulty g.B.Bay) start m tail bay after zero zero_after (record { settings = levels.settings; version = v; rows = levels.rows }) levels_after due result)
     is gives
 
@@ -80,6 +80,7 @@ invariant_of-self g c = record {
   young_settings = c.give_totals.ensures.gives.young_settings ∙ ap (λ (y : Young). y.settings) c.add.ensures ∙ c.self.invariant.young_settings;
   levels_settings = c.give_totals.ensures.gives.settings ∙ c.self.invariant.levels_settings;
   version = c.give_totals.ensures.gives.version ∙ c.self.invariant.version;
+  known = c.self.invariant.known;
   there = c.give_totals.ensures.there;
   len_is = c.self.invariant.len_is;
   flush_is = c.self.invariant.flush_is;
@@ -92,6 +93,7 @@ invariant_of-self-then-is_full g c = record {
   young_settings = c.give_totals.ensures.gives.young_settings ∙ ap (λ (y : Young). y.settings) c.add.ensures ∙ c.self.invariant.young_settings;
   levels_settings = c.give_totals.ensures.gives.settings ∙ c.self.invariant.levels_settings;
   version = c.give_totals.ensures.gives.version ∙ c.self.invariant.version;
+  known = c.self.invariant.known;
   there = c.give_totals.ensures.there;
   len_is = c.self.invariant.len_is;
   flush_is = c.self.invariant.flush_is;
@@ -104,6 +106,7 @@ invariant_of-self-2 g c = record {
   young_settings = c.give_totals.ensures.gives.young_settings ∙ ap (λ (y : Young). y.settings) c.add.ensures ∙ c.self.invariant.young_settings;
   levels_settings = c.give_totals.ensures.gives.settings ∙ c.self.invariant.levels_settings;
   version = c.give_totals.ensures.gives.version ∙ c.self.invariant.version;
+  known = c.self.invariant.known;
   there = c.give_totals.ensures.there;
   len_is = omega (
     arith,

@@ -31,7 +31,7 @@ invariant_of-result g c =
     )
 
 pub returns : goal.returns
-returns g c = ap (λ rows. record { settings = c.args.settings.now; version = 1; rows = rows }) (empty _ _ _ c.in_ok-rows.ensures c.numbers-numbers.ensures.value)
+returns g c = ap (λ rows. record { settings = c.args.settings.now; version = 2; rows = rows }) (empty _ _ _ c.in_ok-rows.ensures c.numbers-numbers.ensures.value)
 
 -- ---- the sums, and the refusals, at which there are no levels
 

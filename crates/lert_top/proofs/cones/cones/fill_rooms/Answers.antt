@@ -7,6 +7,7 @@ use Rattle.lert_top.specs.cones.Unmade.{IsUnmade}
 use Rattle.lert_ingest.proofs.{BayLaws.are_same, EachLaws.unused_same}
 use Rattle.lert_top.proofs.cones.ConeLaws.{back_later, bay_there, call_later, each-push, made_later, made_unused, none_left, unmade_by}
 use Rattle.lert_top.proofs.cones.cones.fill_rooms.Goals as goal
+use Rattle.lert_cone.specs.History.{most_version}
 
 pub returns-in-Err-clause-room : goal.returns-in-Err-clause-room
 returns-in-Err-clause-room g c = c.push_front_reserved.ensures.capacity ∙ (c.pop_front.ensures.capacity ∙ c.loop-number.invariant.room)
@@ -92,8 +93,8 @@ loop-number-preserved g c =
       made_is = ap (λ (x : Standing g.row.B.Denot). x.made) c.in-Ok.ensures.made;
       listing_is =
           ap (λ (x : Standing g.row.B.Denot). x.listing) c.in-Ok.ensures.made
-          ∙ (ap (λ (n : Numbers). record { settings = n; cone = c.loop-number.number; events = []; closed = false }) popped.1.0
-          ∙ ap (λ (n : ℕ). record { settings = s; cone = n; events = []; closed = false }) (sym here.number));
+          ∙ (ap (λ (n : Numbers). record { settings = n; version = most_version; cone = c.loop-number.number; events = []; closed = false }) popped.1.0
+          ∙ ap (λ (n : ℕ). record { settings = s; version = most_version; cone = n; events = []; closed = false }) (sym here.number));
       state_is = ap (λ (x : Standing g.row.B.Denot). x.state) c.in-Ok.ensures.made;
     } in
     record {

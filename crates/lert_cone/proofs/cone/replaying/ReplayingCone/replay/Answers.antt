@@ -2,7 +2,6 @@ use Rattle.lert_spec.specs.Items.{AreOfVersion, keys_in}
 use Rattle.lert_cone.proofs.KeyLemmas.{of_keys}
 use Rattle.lert_spec.specs.declared.item.Item.{Item}
 use Rattle.std.proofs.Common.{◌≡◌, ◌∙◌, ℕ, ◌+◌, ◌*◌, ◌<◌, ◌++◌, ◌∷◌, [], All, List, length, max, None, Some, Err, Ok, IsFalse, ◌≤◌, le_refl, refl, sym, ap, subst, arith}
-use Rattle.lert_cone.specs.History.{written}
 use Rattle.lert_base.specs.{Entries.packet_of, Packet.events_of}
 use Rattle.lert_bay.specs.Files.{Files}
 use Rattle.lert_bay.proofs.KeptLaws.{calls_as}
@@ -10,7 +9,7 @@ use Rattle.lert_gatelog.specs.Gated.{IsClosed, Log}
 use Rattle.lert_journal.specs.Payload.{payload_of}
 use Rattle.lert_reports.specs.Log.{most_record}
 use Rattle.lert_spec.specs.Mix.{cone_of}
-use Rattle.lert_cone.specs.{declared.refusal.ReplayFault.ReplayFault, declared.refusal.ReplayFault.TheVariants.{Failed, Malformed, Unsound}, Framed.HoldsSome, History.most_payload, InStep.IsLogging}
+use Rattle.lert_cone.specs.{declared.refusal.ReplayFault.ReplayFault, declared.refusal.ReplayFault.TheVariants.{Failed, Malformed, Unsound}, Framed.HoldsSome, InStep.IsLogging}
 use Rattle.lert_cone.specs.{Listing.Listing, Replay.IsPast, Replays.WhyRefused, Replaying.Replaying}
 use Rattle.lert_cone.proofs.{GateLaws.past_more, JournalPlaceLaws.next_holds, ReadCosts.{broken_read, ended_read, taken_read}, Calls.alone_reading, ReplayCalls.{alone_behind, calls_behind, ended_at}}
 use Rattle.lert_cone.proofs.ReplayCalls.{ended_replays, held_at, keys_stay, keys_unwritten, length_more, listing_more, moved_on, read_stays, logged_behind, read_logged, read_unwritten, refilled}
@@ -20,11 +19,19 @@ use Rattle.lert_cone.proofs.cone.replaying.ReplayingCone.replay.Given as given
 use Rattle.lert_cone.proofs.cone.replaying.ReplayingCone.replay.Goals as goal
 use Rattle.lert_cone.proofs.cone.replaying.ReplayingCone.replay.Answers.Kept.{bays, lawful, broken_keys_kept, broken_record_kept, ended_kept, taken_kept}
 use Rattle.lert_cone.proofs.cone.replaying.ReplayingCone.replay.Answers.Refused.{record_refused}
+use Rattle.lert_journal.specs.Payload.{most_payload}
+use Rattle.lert_cone.proofs.ItemLaws.{most_payload_most, most_payload_to}
+use Rattle.lert_spec.specs.declared.numbers.Numbers.{Numbers}
+use Rattle.lert_cone.specs.Room.{room_of}
+use Rattle.lert_spec.specs.{Counts.{weighed, weight_of}, Edges.edge}
+use Rattle.std.proofs.Common.{take}
+use Rattle.lert_cone.proofs.WeighLaws.{weight_from_small}
 mod Kept
 mod Refused
 
 pub read_packet-requires-clause-most : goal.read_packet-requires-clause-most
-read_packet-requires-clause-most g c = ap (λ (j : Log). j.most) c.at_gate-self-inside.ensures ∙ c.greatest_payload-most.ensures.value ∙ ap most_payload c.settings.ensures
+read_packet-requires-clause-most g c = ap (λ (j : Log). j.most) c.at_gate-self-inside.ensures ∙ c.greatest_payload-most.ensures.value
+    ∙ (λ i. most_payload (sym c.self.invariant.version i) (c.settings.ensures i))
 
 pub read_packet-requires-clause-entry : goal.read_packet-requires-clause-entry
 read_packet-requires-clause-entry g c = subst (λ n. n ≤ c.self.inside.entry.keys.room) c.self.invariant.keys_roomy (le_refl _)
@@ -32,15 +39,27 @@ read_packet-requires-clause-entry g c = subst (λ n. n ≤ c.self.inside.entry.k
 pub read_packet-requires-clause-file : goal.read_packet-requires-clause-file
 read_packet-requires-clause-file g c = ap (λ (j : Log). j.file) c.at_gate-self-inside.ensures
 
-most_fits : (most payload record_ room here : ℕ) → most ≡ payload → room ≡ max payload record_ + 5 → here ≡ room → most ≤ here
-most_fits most payload record_ room here most_is roomy here_is = omega (arith, most_is, roomy, here_is)
+most_fits : (version most : ℕ) (s : Numbers) (room here : ℕ) → most ≡ most_payload version s → room ≡ room_of s → here ≡ room → most ≤ here
+most_fits version most s room here most_is roomy here_is = omega (arith, most_is, roomy, here_is, most_payload_most version s)
 
 pub read_packet-requires-clause-room : goal.read_packet-requires-clause-room
 read_packet-requires-clause-room g c =
     let s = c.self.inside.tally.listing.settings in
-    let most_is = ap (λ (j : Log). j.most) c.at_gate-self-inside.ensures ∙ c.greatest_payload-most.ensures.value ∙ ap most_payload c.settings.ensures in
-    most_fits c.at_gate-self-inside.result.most (most_payload s) (most_record s) (length c.self.inside.buffer.items) (length c.deref_mut.result.now)
+    let most_is = ap (λ (j : Log). j.most) c.at_gate-self-inside.ensures ∙ c.greatest_payload-most.ensures.value
+    ∙ (λ i. most_payload (sym c.self.invariant.version i) (c.settings.ensures i)) in
+    most_fits c.self.inside.tally.listing.version c.at_gate-self-inside.result.most s (length c.self.inside.buffer.items) (length c.deref_mut.result.now)
     most_is c.self.invariant.roomy (ap (length {A = ℕ}) c.deref_mut.ensures.value)
+
+pub read_packet-requires-clause-light : goal.read_packet-requires-clause-light
+read_packet-requires-clause-light g c =
+    let taking : c.self.inside.stopped ≡ None = subst (λ (v : Replaying g.row.B.Denot). v.stopped ≡ None) (sym c.self.view_is) c.requires.taking in
+    let was = c.self.invariant.taking taking in
+    omega (
+      arith,
+      was.weight_is,
+      weight_from_small c.self.inside.tally.listing.settings c.self.inside.last c.self.inside.tally.listing.events c.self.invariant.valid was.recounted.n0_fits was.recounted.fits
+          (subst (λ v. AreOfVersion v c.self.inside.tally.listing.events) c.self.invariant.version was.recounted.light) c.self.invariant.point.weighs,
+    )
 
 pub read_packet-requires-clause-reach : goal.read_packet-requires-clause-reach
 read_packet-requires-clause-reach g c = subst (λ n. n ≤ 4611686018427387904) (sym (ap (λ (j : Log). j.gate) c.at_gate-self-inside.ensures)) c.requires.reach
@@ -67,7 +86,7 @@ replay_items-requires g c =
     record {
       own = subst (λ (items : List Item). All (λ item. cone_of c.self.inside.tally.listing.settings item.key ≡ c.self.inside.tally.listing.cone) items) (sym c.of.ensures.value)
           (of_keys (λ key. cone_of c.self.inside.tally.listing.settings key ≡ c.self.inside.tally.listing.cone) c.read_packet.new.entry.keys.items journaled.of_cone);
-      light = subst (AreOfVersion written) (sym c.of.ensures.value) journaled.weighed;
+      light = subst (AreOfVersion c.self.inside.tally.listing.version) (sym c.of.ensures.value) journaled.weighed;
       fits = omega (arith, follows.within, ap (length {A = Item}) c.of.ensures.value);
       before_closing = λ closed. omega (arith, follows.before_closing (sym was.closed ∙ closed), ap (length {A = Item}) c.of.ensures.value);
       recounted = was.recounted;
@@ -77,10 +96,10 @@ replay_items-requires g c =
       };
     }
 
-went_on : (at gate new next packet : ℕ) → at ≡ gate → next ≡ new → (at < new) × (new ≤ at + 13 + 32 * packet) → packet ≤ 1024 →
+went_on : (version at gate new next : ℕ) (s : Numbers) → at ≡ gate → next ≡ new → (at < new) × (new ≤ at + 5 + most_payload version s) → s.packet ≤ 1024 →
     (gate < next) × (next ≤ gate + 65536)
-went_on at gate new next packet at_is next_is forward few =
-    (omega (arith, at_is, next_is, forward.0), omega (arith, at_is, next_is, forward.1, few))
+went_on version at gate new next s at_is next_is forward few =
+    (omega (arith, at_is, next_is, forward.0), omega (arith, at_is, next_is, forward.1, few, most_payload_to version s))
 
 pub invariant_of-self : goal.invariant_of-self
 invariant_of-self = broken_keys_kept
@@ -92,7 +111,7 @@ returns-in-Err-replay_items g c =
       taken = tt;
       forward = tt;
       ended = tt;
-      refused = let cone = seen_as c.self.inside.bay c.self.inside.made.value c.self.inside.tally c.self.inside.events c.self.inside.stopped
+      refused = let cone = seen_as c.self.inside.bay c.self.inside.made.value c.self.inside.tally c.self.inside.events c.self.inside.weight c.self.inside.stopped
           c.self.inside.journal.gate c.self.inside.log c.self.inside.last in
           λ seen told. subst (λ (fault : ReplayFault). WhyRefused cone (seen 0) c.args.gate fault) (sym c.from-fault.ensures)
           (refused_keys cone (seen 0) c.args.gate c.in-Err-replay_items.fault (record {
@@ -100,14 +119,15 @@ returns-in-Err-replay_items g c =
             stands = (held_at c.at_gate-self-inside.ensures (c.in-Ok-true.ensures.found seen told c.in-Ok-true.field-0-test));
             follows = c.in-Ok-true.ensures.follows c.in-Ok-true.field-0-test;
           }));
-      broke = λ i. record (seen_as c.replay_items.new.bay c.self.inside.made.value c.replay_items.new.tally c.self.inside.events (Some c.from-fault.result)
+      broke = λ i. record (seen_as c.replay_items.new.bay c.self.inside.made.value c.replay_items.new.tally c.self.inside.events c.self.inside.weight (Some c.from-fault.result)
           c.read_packet.new.journal.gate c.replay_items.new.log c.self.inside.last) { listing = c.replay_items.ensures.listing i };
       replays = λ seen told h done way gate_same. subst (λ (fault : ReplayFault). fault ≡ Failed) (sym c.from-fault.ensures) (only_by_bay c.in-Err-replay_items.fault (λ file at same.
           with_keys (bays g) (lawful g) c.read_packet.ensures.keeps c.self.inside.tally c.self.inside.log c.self.inside.last seen told h done c.args.gate way gate_same
           (packet_of c.read_packet.new.entry) (held_at c.at_gate-self-inside.ensures (c.in-Ok-true.ensures.found seen told
           c.in-Ok-true.field-0-test)) c.of.result c.of.ensures.value (λ told_read next is on_read. c.replay_items.ensures.sound seen told_read h (events_of next.rest) is
           (next_holds h done c.self.inside.tally.listing.events c.args.gate (packet_of c.read_packet.new.entry) c.of.result _
-          (subst (λ g. IsPast h done c.self.inside.tally.listing.events g) (sym gate_same) way.past) next c.of.ensures.value refl (ap (λ n. n + 1) c.len-first.ensures)) on_read file at
+          (subst (λ g. IsPast c.self.inside.tally.listing.version h done c.self.inside.tally.listing.events g) (sym gate_same) way.past) next c.of.ensures.value refl (ap (λ n. n + 1)
+          c.len-first.ensures)) on_read file at
           (c.in-Err-replay_items.is ∙ ap Err same))));
       stays_sound = λ seen told h done way gate_same. keys_stay (bays g) (lawful g) c.read_packet.ensures.keeps c.self.inside.tally c.self.inside.log c.self.inside.last
           seen told h done c.args.gate way gate_same (c.self.invariant.taking way.taking).recounted
@@ -143,7 +163,8 @@ returns-in-Err-replay_items g c =
       kept = calls_behind (bays g) (lawful g) c.read_packet.ensures.keeps c.replay_items.new.bay _ _ (λ same.
           let answer : c.from-fault.result ≡ Failed = one_fault same in
           c.in-Err-replay_items.is ∙ ap Err (failed_keys c.in-Err-replay_items.fault (sym c.from-fault.ensures ∙ answer))) c.replay_items.ensures.keeps.kept;
-      handed = broken_read c.self.inside.tally.listing.settings (packet_of c.read_packet.new.entry) _ _ (g.B.Bay.handed_out c.replay_items.new.bay) c.replay_items.ensures.keeps.kept.journal
+      handed = broken_read c.self.inside.tally.listing.version c.self.inside.tally.listing.settings (packet_of c.read_packet.new.entry) _ _ (g.B.Bay.handed_out c.replay_items.new.bay)
+          c.replay_items.ensures.keeps.kept.journal
           c.in-Ok-true.field-0 _ _ c.in-Ok-true.ensures.handed c.in-Ok-true.field-0-test (ap (λ (j : Log). j.gate) (c.in-Ok-true.ensures.moved c.in-Ok-true.field-0-test))
           (c.in-Ok-true.ensures.forward c.in-Ok-true.field-0-test).1;
     })
@@ -159,7 +180,8 @@ returns-in_default g c =
           let was = c.self.invariant.taking taking in
           let listing_is = listing_more c.self.inside.tally.listing c.replay_items.new.tally.listing c.read_packet.new.entry.keys.items c.of.result
           c.replay_items.ensures.listing c.in_default.ensures.taken c.of.ensures.value in
-          let moved = moved_on (payload_of written (packet_of c.read_packet.new.entry)) (c.in-Ok-true.ensures.moved c.in-Ok-true.field-0-test) c.at_gate-self-inside.ensures in
+          let moved = moved_on (payload_of c.self.inside.tally.listing.version (packet_of c.read_packet.new.entry)) (c.in-Ok-true.ensures.moved c.in-Ok-true.field-0-test)
+          c.at_gate-self-inside.ensures in
           let events_is = length_more c.self.inside.tally.listing c.replay_items.new.tally.listing c.read_packet.new.entry.keys.items c.self.inside.events c.len-self-inside.result
           listing_is was.counted c.len-self-inside.ensures in
           record {
@@ -168,28 +190,33 @@ returns-in_default g c =
             journaled = c.in-Ok-true.ensures.journaled c.in-Ok-true.field-0-test;
             follows = c.in-Ok-true.ensures.follows c.in-Ok-true.field-0-test;
             next_is = c.gate.ensures.value ∙ moved;
-            is = λ i. record (seen_as c.replay_items.new.bay c.self.inside.made.value c.replay_items.new.tally (events_is i) c.self.inside.stopped
+            is = λ i. record (seen_as c.replay_items.new.bay c.self.inside.made.value c.replay_items.new.tally (events_is i) (c.in-Ok-true.ensures.weight c.in-Ok-true.field-0-test i)
+                c.self.inside.stopped
                 ((sym c.gate.ensures.value) i) c.replay_items.new.log c.self.inside.last) { listing = listing_is i };
           };
-      forward = went_on c.at_gate-self-inside.result.gate c.args.gate c.read_packet.new.journal.gate c.gate.result
-          c.self.inside.tally.listing.settings.packet (ap (λ (j : Log). j.gate) c.at_gate-self-inside.ensures) c.gate.ensures.value
+      forward = went_on c.self.inside.tally.listing.version c.at_gate-self-inside.result.gate c.args.gate c.read_packet.new.journal.gate c.gate.result
+          c.self.inside.tally.listing.settings (ap (λ (j : Log). j.gate) c.at_gate-self-inside.ensures) c.gate.ensures.value
           (c.in-Ok-true.ensures.forward c.in-Ok-true.field-0-test) c.self.invariant.valid.limits.packet_to;
       ended = tt;
       refused = tt;
       broke = tt;
       replays = let listing_is = listing_more c.self.inside.tally.listing c.replay_items.new.tally.listing c.read_packet.new.entry.keys.items c.of.result
           c.replay_items.ensures.listing c.in_default.ensures.taken c.of.ensures.value in
-          let moved = moved_on (payload_of written (packet_of c.read_packet.new.entry)) (c.in-Ok-true.ensures.moved c.in-Ok-true.field-0-test) c.at_gate-self-inside.ensures in
+          let moved = moved_on (payload_of c.self.inside.tally.listing.version (packet_of c.read_packet.new.entry)) (c.in-Ok-true.ensures.moved c.in-Ok-true.field-0-test)
+          c.at_gate-self-inside.ensures in
           λ seen told h done way gate_same.
-          let past : IsPast h done c.self.inside.tally.listing.events c.args.gate = subst (λ g. IsPast h done c.self.inside.tally.listing.events g) (sym gate_same) way.past in
+          let past : IsPast c.self.inside.tally.listing.version h done c.self.inside.tally.listing.events c.args.gate = subst (λ g. IsPast c.self.inside.tally.listing.version h done
+          c.self.inside.tally.listing.events g) (sym gate_same) way.past in
           with_keys (bays g) (lawful g) c.read_packet.ensures.keeps c.self.inside.tally c.self.inside.log c.self.inside.last seen told h done c.args.gate way gate_same
           (packet_of c.read_packet.new.entry) (held_at c.at_gate-self-inside.ensures (c.in-Ok-true.ensures.found seen told
           c.in-Ok-true.field-0-test)) c.of.result c.of.ensures.value (λ told_read next is on_read. (
             (packet_of c.read_packet.new.entry),
             record {
               taking = way.taking;
-              past = subst (λ (l : Listing). IsPast h (done ++ (packet_of c.read_packet.new.entry) ∷ []) l.events c.read_packet.new.journal.gate) (sym listing_is)
-                  (subst (λ g. IsPast h (done ++ (packet_of c.read_packet.new.entry) ∷ []) (c.self.inside.tally.listing.events ++ c.read_packet.new.entry.keys.items) g) (sym moved)
+              weighed_is = λ _ _. ap (λ (l : Listing). weight_of weighed (take (edge l.settings 0 c.self.inside.last.n0) (events_of h))) listing_is ∙ way.weighed_is seen told;
+              past = subst (λ (l : Listing). IsPast l.version h (done ++ (packet_of c.read_packet.new.entry) ∷ []) l.events c.read_packet.new.journal.gate) (sym listing_is)
+                  (subst (λ g. IsPast c.self.inside.tally.listing.version h (done ++ (packet_of c.read_packet.new.entry) ∷ []) (c.self.inside.tally.listing.events ++
+                  c.read_packet.new.entry.keys.items) g) (sym moved)
                   (past_more h done c.self.inside.tally.listing.events c.args.gate (packet_of c.read_packet.new.entry) past next));
               on_way = c.in_default.ensures.on_way seen told_read h (events_of next.rest) is
                   (next_holds h done c.self.inside.tally.listing.events c.args.gate (packet_of c.read_packet.new.entry) c.of.result _ past next c.of.ensures.value refl
@@ -219,9 +246,11 @@ returns-in_default g c =
       };
       journal = alone_behind (bays g) (lawful g) c.read_packet.ensures.keeps 0 c.replay_items.new.bay c.replay_items.ensures.keeps.journal;
       kept = calls_behind (bays g) (lawful g) c.read_packet.ensures.keeps c.replay_items.new.bay _ _ (λ same. absurd (no_fault same)) c.replay_items.ensures.keeps.kept;
-      handed = taken_read c.self.inside.tally.listing.settings (packet_of c.read_packet.new.entry) _ _ (g.B.Bay.handed_out c.replay_items.new.bay) c.replay_items.ensures.keeps.kept.journal
+      handed = taken_read c.self.inside.tally.listing.version c.self.inside.tally.listing.settings (packet_of c.read_packet.new.entry) _ _ (g.B.Bay.handed_out c.replay_items.new.bay)
+          c.replay_items.ensures.keeps.kept.journal
           c.in-Ok-true.field-0 c.args.gate c.gate.result c.in-Ok-true.ensures.handed c.in-Ok-true.field-0-test
-          (c.gate.ensures.value ∙ moved_on (payload_of written (packet_of c.read_packet.new.entry)) (c.in-Ok-true.ensures.moved c.in-Ok-true.field-0-test) c.at_gate-self-inside.ensures);
+          (c.gate.ensures.value ∙ moved_on (payload_of c.self.inside.tally.listing.version (packet_of c.read_packet.new.entry)) (c.in-Ok-true.ensures.moved c.in-Ok-true.field-0-test)
+          c.at_gate-self-inside.ensures);
     })
 
 pub invariant_of-self-in-Ok-false : goal.invariant_of-self-in-Ok-false
@@ -238,7 +267,7 @@ returns-in-Ok-false g c =
           let gate_at : c.read_packet.new.journal.gate ≡ c.args.gate =
           ap (λ (j : Log). j.gate) ((c.in-Ok-false.ensures.waits no_packet).0 ∙ c.at_gate-self-inside.ensures) in
           ended_at (bays g) (lawful g) c.read_packet.ensures.keeps c.self.inside.made.value c.self.inside.tally
-          c.self.inside.events c.self.inside.stopped c.self.inside.journal.gate c.read_packet.new.journal.gate c.args.gate c.self.inside.log c.self.inside.last
+          c.self.inside.events c.self.inside.weight c.self.inside.stopped c.self.inside.journal.gate c.read_packet.new.journal.gate c.args.gate c.self.inside.log c.self.inside.last
           gate_at (c.in-Ok-false.ensures.enough no_packet) (c.self.invariant.taking taking).journal_settled
           (λ seen told. subst (λ (j : Log). IsClosed (seen 0) j.gate) c.at_gate-self-inside.ensures (c.in-Ok-false.ensures.closed seen told no_packet));
       refused = tt;
@@ -254,7 +283,7 @@ returns-in-Ok-false g c =
       malformed = λ at same. absurd (no_fault same);
       log = let taking : c.self.inside.stopped ≡ None = subst (λ (v : Replaying g.row.B.Denot). v.stopped ≡ None) (sym c.self.view_is) c.requires.taking in
           read_logged (bays g) (lawful g) c.read_packet.ensures.keeps c.self.inside.tally.listing.settings _ _ (c.self.invariant.taking taking).log_shut;
-      framed = λ seen told some after told_after. subst (λ (files : Files). HoldsSome c.self.inside.tally.listing.settings (max c.self.inside.last.n0 (length
+      framed = λ seen told some after told_after. subst (λ (files : Files). HoldsSome c.self.inside.tally.listing.version c.self.inside.tally.listing.settings (max c.self.inside.last.n0 (length
           c.self.inside.tally.listing.events)) c.self.inside.tally.rows (files 2))
           (told_once (g.B.Bay.files c.self.inside.bay) seen after told (sym c.read_packet.ensures.keeps.reads.seen ∙ told_after)) some;
       whole = λ seen told some at same. no_fault same;
@@ -262,7 +291,7 @@ returns-in-Ok-false g c =
       same_cone = record { settings = refl; cone = refl; made = refl; last = refl };
       journal = alone_reading (lawful g) 0 c.read_packet.ensures.keeps.reads;
       kept = calls_as (bays g) (lawful g) c.self.inside.bay c.read_packet.new.bay _ _ (λ same. absurd (no_fault same)) c.read_packet.ensures.keeps.reads.kept;
-      handed = ended_read c.self.inside.tally.listing.settings (packet_of c.read_packet.new.entry) _ _
+      handed = ended_read c.self.inside.tally.listing.version c.self.inside.tally.listing.settings (packet_of c.read_packet.new.entry) _ _
           (g.B.Bay.handed_out c.read_packet.new.bay) refl c.in-Ok-false.field-0 c.in-Ok-false.ensures.handed c.in-Ok-false.field-0-test;
     })
 

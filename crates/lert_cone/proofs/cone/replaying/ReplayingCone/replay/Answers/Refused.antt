@@ -9,6 +9,8 @@ use Rattle.lert_cone.proofs.{ReplayLaws.never_on_way, ReadCosts.refused_read, Ca
 use Rattle.lert_cone.proofs.{ReplayStands.{leaves_listing, never_unsound, failed_record, only_failed, refused_record, seen_as}, Refusals.one_fault}
 use Rattle.lert_cone.proofs.cone.replaying.ReplayingCone.replay.Goals as goal
 use Rattle.lert_cone.proofs.cone.replaying.ReplayingCone.replay.Answers.Kept.{bays, lawful}
+use Rattle.lert_spec.specs.{Counts.{weighed, weight_of}, Edges.edge}
+use Rattle.std.proofs.Common.{◌+◌, drop}
 
 -- what stands there isn't taken
 pub record_refused : goal.returns-in-Err
@@ -17,24 +19,28 @@ record_refused g c =
       taken = tt;
       forward = tt;
       ended = tt;
-      refused = let cone = seen_as c.self.inside.bay c.self.inside.made.value c.self.inside.tally c.self.inside.events c.self.inside.stopped
+      refused = let cone = seen_as c.self.inside.bay c.self.inside.made.value c.self.inside.tally c.self.inside.events c.self.inside.weight c.self.inside.stopped
           c.self.inside.journal.gate c.self.inside.log c.self.inside.last in
           λ seen told. subst (λ (fault : ReplayFault). WhyRefused cone (seen 0) c.args.gate fault) (sym c.from-fault-in-Err.ensures)
           (refused_record cone (seen 0) c.args.gate c.in-Err.fault (λ at same.
-          subst (λ (j : Log). ReplayLeavesAt c.self.inside.tally.listing.settings c.self.inside.tally.listing.cone c.self.inside.last.n0 c.self.inside.last.closed
-          (length c.self.inside.tally.listing.events) (seen 0) j.gate at) c.at_gate-self-inside.ensures (c.in-Err.ensures.malformed seen told at (ap Err same))));
-      broke = λ i. seen_as c.read_packet.new.bay c.self.inside.made.value c.self.inside.tally c.self.inside.events
+          subst (λ (j : Log). ReplayLeavesAt c.self.inside.tally.listing.version c.self.inside.tally.listing.settings c.self.inside.tally.listing.cone c.self.inside.last.n0 c.self.inside.last.closed
+          (length c.self.inside.tally.listing.events) c.self.inside.weight (seen 0) j.gate at) c.at_gate-self-inside.ensures (c.in-Err.ensures.malformed seen told at (ap Err same))));
+      broke = λ i. seen_as c.read_packet.new.bay c.self.inside.made.value c.self.inside.tally c.self.inside.events c.self.inside.weight
           (Some c.from-fault-in-Err.result) c.read_packet.new.journal.gate c.self.inside.log c.self.inside.last;
       replays = λ seen told h done way gate_same.
-          let past : IsPast h done c.self.inside.tally.listing.events c.args.gate = subst (λ g. IsPast h done c.self.inside.tally.listing.events g) (sym gate_same) way.past in
+          let past : IsPast c.self.inside.tally.listing.version h done c.self.inside.tally.listing.events c.args.gate = subst (λ g. IsPast c.self.inside.tally.listing.version h done
+          c.self.inside.tally.listing.events g) (sym gate_same) way.past in
           let on_way = way.on_way seen told in
           let read = g.met.B.Bay.as_read c.self.inside.bay seen told in
           c.from-fault-in-Err.ensures ∙ only_failed c.in-Err.fault (λ at same. never_on_way (g.B.Bay.leaves c.self.inside.bay) seen h c.self.inside.tally.listing c.self.inside.tally.rows
-          c.self.inside.tally.due.reports c.self.inside.log c.self.inside.last.n0 on_way read done c.args.gate at past
-          (leaves_listing c.self.inside.tally.listing.settings c.self.inside.tally.listing.cone c.self.inside.last.n0 (length c.self.inside.tally.listing.events) c.args.gate at
+          c.self.inside.tally.due.reports c.self.inside.log c.self.inside.last.n0 on_way read done c.self.inside.weight c.args.gate at past
+          ((c.self.invariant.taking way.taking).weight_is ∙ ap (λ w. w + weight_of weighed (drop (edge c.self.inside.tally.listing.settings 0 c.self.inside.last.n0)
+          c.self.inside.tally.listing.events))
+          (sym (way.weighed_is seen told)))
+          (leaves_listing c.self.inside.tally.listing.settings c.self.inside.tally.listing.cone c.self.inside.last.n0 (length c.self.inside.tally.listing.events) c.self.inside.weight c.args.gate at
           c.self.inside.tally.listing.closed c.self.inside.last.closed (seen 0) (c.self.invariant.taking way.taking).closed
-          (subst (λ (j : Log). ReplayLeavesAt c.self.inside.tally.listing.settings c.self.inside.tally.listing.cone c.self.inside.last.n0 c.self.inside.last.closed
-          (length c.self.inside.tally.listing.events) (seen 0) j.gate at) c.at_gate-self-inside.ensures (c.in-Err.ensures.malformed seen told at (ap Err same)))));
+          (subst (λ (j : Log). ReplayLeavesAt c.self.inside.tally.listing.version c.self.inside.tally.listing.settings c.self.inside.tally.listing.cone c.self.inside.last.n0 c.self.inside.last.closed
+          (length c.self.inside.tally.listing.events) c.self.inside.weight (seen 0) j.gate at) c.at_gate-self-inside.ensures (c.in-Err.ensures.malformed seen told at (ap Err same)))));
       stays_sound = λ seen told h done way gate_same. read_stays (bays g) (lawful g) c.read_packet.ensures.keeps c.self.inside.tally c.self.inside.log c.self.inside.last
           seen told h done c.args.gate way gate_same (c.self.invariant.taking way.taking).recounted;
       unflushed = λ seen told none. read_unwritten (bays g) (lawful g) c.read_packet.ensures.keeps;
@@ -52,6 +58,6 @@ record_refused g c =
       kept = calls_as (bays g) (lawful g) c.self.inside.bay c.read_packet.new.bay _ _ (λ same.
           let answer : c.from-fault-in-Err.result ≡ Failed = one_fault same in
           c.in-Err.is ∙ ap Err (failed_record c.in-Err.fault (sym c.from-fault-in-Err.ensures ∙ answer))) c.read_packet.ensures.keeps.reads.kept;
-      handed = refused_read c.self.inside.tally.listing.settings (packet_of c.read_packet.new.entry) _ _
+      handed = refused_read c.self.inside.tally.listing.version c.self.inside.tally.listing.settings (packet_of c.read_packet.new.entry) _ _
           (g.B.Bay.handed_out c.read_packet.new.bay) refl c.in-Err.fault c.in-Err.ensures.handed;
     })
