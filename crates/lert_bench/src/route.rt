@@ -1,6 +1,6 @@
-//! The rings, and the loop over all keys.
+//! The rings, and the loop over all items.
 
-ghost use Rattle.std.specs.Prelude.{◌≡◌, ℕ, ◌*◌, ◌^◌, ◌<◌, [], length};
+ghost use Rattle.std.specs.Prelude.{◌≡◌, ℕ, ◌*◌, ◌^◌, ◌<◌, ◌≤◌, [], length};
 ghost use Rattle.lert_buffers.specs.Rings.{ring_of};
 
 use crate::timed::Timed;
@@ -10,7 +10,8 @@ use lert_base::{Entry, KeyList, Settings};
 use lert_buffers::{Buffers, Fill};
 use lert_io::{OutOfMemory, SteadySource};
 use lert_mixer::cone_of;
-use lert_trace::{MOST_KEYS, TraceReader};
+use lert_spec::Item;
+use lert_trace::{MOST_ITEMS, TraceReader};
 use std::alloc::Global;
 use std::rt::Clock;
 use std::time::Instant;
@@ -41,16 +42,18 @@ impl Routing {
     /// Reads a reader to its end, and answers a sum over all packets, in their order.
     pub fn route_all(&mut self, reader: &mut TraceReader<SteadySource>) -> u64 {
         let mut sum = 0;
-        while let Ok(Some(key)) = reader.next() {
-            sum = self.route(key, sum);
+        while let Ok(Some(item)) = reader.next() {
+            sum = self.route(item, sum);
         }
         sum
     }
 
-    // Puts a key into the ring of its cone. Where that holds a packet then, it is emptied into the sum.
-    fn route(&mut self, key: u64, sum: u64) -> u64 {
-        let cone = cone_of(&self.settings, key);
-        match self.rings.push(cone, key, 1) {
+    // Puts an item into the ring of its cone. Where that holds a packet then, it is emptied into the sum.
+    fn route(&mut self, item: Item, sum: u64) -> u64
+        requires { 1 ≤ item.weight }
+    {
+        let cone = cone_of(&self.settings, item.key);
+        match self.rings.push(cone, item.key, item.weight) {
             Fill::Low => sum,
             Fill::Ready | Fill::MustGo => {
                 self.rings.take(cone, &mut self.entry);
@@ -103,7 +106,7 @@ fn route_trace<R: Clock + AllocGlobal>(
     let source = SteadySource::new(rt.alloc(), bytes)
         .ok()
         .context("out of memory")?;
-    let mut reader = TraceReader::new(source, MOST_KEYS);
+    let mut reader = TraceReader::new(source, MOST_ITEMS);
     time_routing(rt, routing, &mut reader)
 }
 

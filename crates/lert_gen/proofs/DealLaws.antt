@@ -55,7 +55,7 @@ fourths-more seed trace number bytes is =
     let first : 0 + number ≡ number = omega arith in
     let key = key_at seed (4 * number + trace + 1) in
     ap (λ xs. xs ++ little_bytes 8 key) is
-    ∙ append_assoc trace_header (flat_map (little_bytes 8) (fourths seed trace number)) (little_bytes 8 key)
-    ∙ ap (λ xs. trace_header ++ xs)
+    ∙ append_assoc (trace_header 1) (flat_map (little_bytes 8) (fourths seed trace number)) (little_bytes 8 key)
+    ∙ ap (λ xs. trace_header 1 ++ xs)
     (sym (ap (flat_map (little_bytes 8)) (map-range_with_len_more (λ n. key_at seed (4 * n + trace + 1)) 0 number number first)
     ∙ flat_map-append (little_bytes 8) (fourths seed trace number) (key ∷ [])))

@@ -1,13 +1,14 @@
--- A trace of keys is well formed, and has these keys.
-use Rattle.std.proofs.Common.{◌≡◌, ℕ, ◌+◌, ◌-◌, ◌*◌, ◌/◌, ◌%◌, ◌<◌, ◌^◌, Bool, true, false, eqb, cond, List, [], ◌∷◌, ◌++◌, length, map, Some, None, refl, ap, ap₂, sym, ◌∙◌, arith}
+-- A trace of keys is well formed, and has these keys as items that weigh 1.
+use Rattle.std.proofs.Common.{◌≡◌, ℕ, ◌+◌, ◌*◌, ◌/◌, ◌%◌, ◌<◌, ◌≤◌, ◌^◌, Bool, true, false, eqb, cond, List, [], ◌∷◌, ◌++◌, length, map, None, refl, ap, ap₂, sym, ◌∙◌, arith}
 use Rattle.std.proofs.Common.{length-append, append_assoc}
 use Rattle.std.proofs.Math.Seq.{drop-append_seam}
 use Rattle.std.proofs.lemmas.List.Elements.{All-nil, All-cons, All-head, All-tail}
 use Rattle.std.specs.List.{All, flat_map, range_with_len}
 use Rattle.byteorder.specs.Endian.{little_bytes, little_from}
 use Rattle.byteorder.specs.Numbers.{length-bytes_low_first, little_number-reads_back}
-use Rattle.lert_spec.specs.Agreed.{agreed}
-use Rattle.lert_trace.specs.Trace.{key_at, left, trace_header, whole, whole_len}
+use Rattle.lert_spec.specs.Items.{unit, units}
+use Rattle.lert_trace.specs.Trace.{full_len, header_len, item_at, left, trace_header, whole}
+use Rattle.lert_trace.proofs.Format.{IsTraceOf-end, whole-full}
 use Rattle.lert_spec.proofs.TextLaws.{little_from-drop}
 use Rattle.lert_spec.specs.Mix.{mix}
 use Rattle.lert_spec.proofs.MixLaws.{mix_below}
@@ -21,18 +22,22 @@ length_keys (key ∷ keys) =
 pub length_trace : (keys : List ℕ) → length (trace_of keys) ≡ 8 + 8 * length keys
 length_trace keys = omega (arith, length_keys keys)
 
-begins : (xs : List ℕ) → agreed trace_header (trace_header ++ xs) ≡ 8
-begins xs = refl
+begins : (keys : List ℕ) → header_len (trace_of keys) ≡ 8
+begins keys = refl
+
+-- each item of the first version weighs 1
+weighed : (keys : List ℕ) (n : ℕ) → n < length keys → 1 ≤ (item_at 1 (trace_of keys) n).weight
+unfolding item_at
+weighed keys n within = omega arith
 
 pub left-trace : (keys : List ℕ) → left (trace_of keys) ≡ None
 left-trace keys =
-    let even : length (trace_of keys) % 8 ≡ 0 = omega (arith, length_trace keys) in
-    ap (λ n. cond (eqb n 0) None (Some (length (trace_of keys) - length (trace_of keys) % 8))) even
+    (IsTraceOf-end (trace_of keys) (begins keys) (length keys) 0 (omega arith) (omega (arith, length_trace keys)) (weighed keys) refl).well_formed
 
 -- the keys behind some bytes of a trace are read back from there
 read_back : (front : List ℕ) (number : ℕ) (keys : List ℕ) → length front ≡ 8 + 8 * number → All (λ key. key < 2 ^ 64) keys →
-    map (key_at (front ++ flat_map (little_bytes 8) keys)) (range_with_len number (length keys)) ≡ keys
-unfolding key_at
+    map (item_at 1 (front ++ flat_map (little_bytes 8) keys)) (range_with_len number (length keys)) ≡ units keys
+unfolding item_at
 read_back front number [] long are = refl
 read_back front number (key ∷ keys) long are =
     let rest = flat_map (little_bytes 8) keys in
@@ -43,12 +48,14 @@ read_back front number (key ∷ keys) long are =
     let longer : length (front ++ little_bytes 8 key) ≡ 8 + 8 * (number + 1) =
     omega (arith, length-append front (little_bytes 8 key), length-bytes_low_first 0 8 key, long) in
     let others = read_back (front ++ little_bytes 8 key) (number + 1) keys longer (All-tail (λ k. k < 2 ^ 64) key keys are) in
-    ap₂ (λ y ys. y ∷ ys) first (ap (λ xs. map (key_at xs) (range_with_len (number + 1) (length keys))) (sym (append_assoc front (little_bytes 8 key) rest)) ∙ others)
+    ap₂ (λ y ys. unit y ∷ ys) first (ap (λ xs. map (item_at 1 xs) (range_with_len (number + 1) (length keys))) (sym (append_assoc front (little_bytes 8 key) rest)) ∙ others)
 
-pub whole-trace : (keys : List ℕ) → All (λ key. key < 2 ^ 64) keys → whole (trace_of keys) ≡ keys
+-- each of these keys is an item of the trace that weighs 1
+pub whole-trace : (keys : List ℕ) → All (λ key. key < 2 ^ 64) keys → whole (trace_of keys) ≡ units keys
 whole-trace keys are =
-    let many : whole_len (trace_of keys) ≡ length keys = omega (arith, length_trace keys) in
-    ap (λ n. map (key_at (trace_of keys)) (range_with_len 0 n)) many ∙ read_back trace_header 0 keys refl are
+    let many : full_len (trace_of keys) ≡ length keys = omega (arith, length_trace keys) in
+    whole-full (trace_of keys) (begins keys) (length keys) 0 (omega arith) (omega (arith, length_trace keys)) (weighed keys)
+    ∙ ap (λ n. map (item_at 1 (trace_of keys)) (range_with_len 0 n)) many ∙ read_back (trace_header 1) 0 keys refl are
 
 -- generated keys fit their eight bytes
 of_mixed_below : (b : Bool) (v : ℕ) → v < 2 ^ 64 → cond b (v / 2 ^ 32 % 1000) v < 2 ^ 64

@@ -16,9 +16,9 @@ key_at seed event = key_of_mixed (mix ((seed + event) % 2 ^ 64))
 abbrev pub generated : ℕ → ℕ → List ℕ
 generated seed events = map (key_at seed) (range_with_len 1 events)
 
--- the bytes of a trace of these keys
+-- the bytes of a trace of version 1 of these keys
 abbrev pub trace_of : List ℕ → List ℕ
-trace_of keys = trace_header ++ flat_map (little_bytes 8) keys
+trace_of keys = trace_header 1 ++ flat_map (little_bytes 8) keys
 
 -- those of the first events that one of four traces gets, counted from 0: the first event's key goes to the first trace, the
 -- second's to the second, and the fifth's to the first again

@@ -11,7 +11,7 @@ ghost use Rattle.lert_trace.specs.Trace.{trace_header};
 use crate::key::key_at;
 use lert_io::{Failed, Sink, write_all};
 
-/// The bytes that begin a trace.
+/// The bytes that begin a trace without weights.
 pub const HEADER: [u8; 8] = [b'L', b'E', b'R', b'T', 1, 0, 0, 0];
 
 // How many keys a block has room for, and how many bytes.
@@ -19,8 +19,8 @@ const BLOCK_KEYS: u64 = 1_024;
 
 const BLOCK_LEN: usize = 8_192;
 
-/// Writes a trace of the keys of the first events of a seed, in writes of whole buffers, but for the last one. It takes no
-/// memory. After `Failed` the sink took a beginning of the trace.
+/// Writes a trace without weights, of the keys of the first events of a seed, in writes of whole buffers, but for the last
+/// one. It takes no memory. After `Failed` the sink took a beginning of the trace.
 pub fn write_trace<K: Sink>(seed: u64, events: u64, out: &mut K) -> Result<(), Failed>
     requires few { events ≤ 4294967296 }
     ensures told { (before : List ℕ) → K.taken out.old ≡ Some before →

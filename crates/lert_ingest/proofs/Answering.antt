@@ -3,17 +3,22 @@ use Rattle.std.proofs.{Common.{◌≡◌, ◌⊎◌, ℕ, ◌%◌, ◌^◌, ◌<
 use Rattle.std.proofs.lemmas.Option.{get_or_from_slice_get, none-some, same_Some, slice_get_within}
 use Rattle.std.specs.Prelude.{All}
 use Rattle.lert_base.specs.declared.cone_fault.ConeFault.{ConeFault}
-use Rattle.lert_spec.specs.Edges.{capacity}
+use Rattle.lert_spec.specs.{declared.item.Item.Item, declared.numbers.Numbers.Numbers, Edges.{capacity, weight_room}}
 use Rattle.lert_trace.specs.Trace.{left, whole}
 use Rattle.lert_trace.specs.{Reader.Reading, declared.fault.TraceFault.TraceFault}
 use Rattle.lert_trace.specs.declared.fault.TraceFault.TheVariants as trace_fault
 use Rattle.lert_worker.specs.{Ends.{IsAtEnd, Stopped}, declared.end.WorkerEnd.WorkerEnd}
 use Rattle.lert_worker.specs.declared.end.WorkerEnd.TheVariants as end
-use Rattle.lert_ingest.specs.{Bays.bays_of, Crews.IsReadOf, Faults.end_fault, Stops.{AreTelling, IsExact}, Traces.{AllFit, IsOver, part_length}, declared.status.Status.Status}
+use Rattle.lert_ingest.specs.{Bays.bays_of, Crews.IsReadOf, Faults.end_fault, Stops.{AreTelling, IsExact}, Traces.{AllFit, IsOver, part_length, part_weight}, declared.status.Status.Status}
 use Rattle.lert_ingest.specs.declared.status.Status.TheVariants as status
 use Rattle.lert_ingest.proofs.{BayLaws.{bay_at, slice_get-some, told_later}, Completing.{all_fit, read_to_end}, Crewed.{Crewed, first_fault}}
-use Rattle.lert_ingest.proofs.{Exactly.{MayBe, may_bad, may_full, may_memory, bytes_at, bytes_of, fault_risen, few_at, keys_same, may_be}, FaultOrder.IsNotAfter, Holding.none_full}
-use Rattle.lert_ingest.proofs.{Judging.{IsStop, bays_later, begun, cone_at, of_ends, running_told, shared, stop_shows, trace_stop, traces}, Told.{are_keys, named, there_is}}
+use Rattle.lert_ingest.proofs.{Exactly.{MayBe, may_bad, may_full, may_heavy, may_memory, bytes_at, bytes_of, fault_risen, few_at, items_same, may_be}, FaultOrder.IsNotAfter, Holding.none_full}
+use Rattle.lert_ingest.proofs.{Judging.{IsStop, bays_later, begun, cone_at, of_ends, running_told, shared, stop_shows, trace_stop, traces}, Told.{are_items, named, there_is}}
+
+-- a cone that takes all has neither too many items nor too heavy ones
+not_over : (s : Numbers) (traces : List (List Item)) (over : ℕ) → (part_length s over traces ≤ capacity s) × (part_weight s over traces ≤ weight_room s) → IsOver s traces over → ⊥
+not_over s traces over fits (inl many) = omega (arith, fits.0, many)
+not_over s traces over fits (inr heavy) = omega (arith, fits.1, heavy)
 
 well_at : (texts : List (List ℕ)) → All (λ bytes. left bytes ≡ None) texts → (trace : ℕ) (bytes : List ℕ) → slice_get texts trace ≡ Some bytes → left bytes ≡ None
 well_at texts well trace bytes is = subst (λ (b : List ℕ). left b ≡ None) (get_or_from_slice_get texts trace bytes bytes is) (well trace bytes (slice_get_within texts trace bytes is))
@@ -28,7 +33,7 @@ module _ {S B : Type 0} (crew : Crewed S B) where
 
   module _ (texts : List (List ℕ)) (are : Telling texts) where
     module _ (one : Status) (found : first_fault crew ≡ Some one) (fits : AllFit s (map whole texts)) where
-      -- no worker stopped at a cone, where the cones take all whole keys
+      -- no worker stopped at a cone, where the cones take all whole items
       no_cone : (by : ℕ) → by < workers → (cone : ℕ) (f : ConeFault) → ends by ≡ end.Cone cone f → ⊥
       no_cone by below cone f is =
           let within = left_by.named by cone f below is in
@@ -36,10 +41,10 @@ module _ {S B : Type 0} (crew : Crewed S B) where
           let now = told_later files b_faults b_mark (bays_of firsts) (bays_of backs) (bays_later crew) are.told cone c.closed.bay (bay_at backs cone c.closed c.closed_is) in
           let running = running_told crew one found cone c
           (are.faultless cone c.first.bay c.closed.bay (bay_at firsts cone c.first c.first_is) (bay_at backs cone c.closed c.closed_is)) now.0 now.1 in
-          let same = keys_same remaining opened texts (traces crew) are.bytes_are (are_keys crew.read) in
+          let same = items_same remaining opened texts (traces crew) are.bytes_are (are_items crew.read) in
           let enough = fits cone (subst (λ n. cone < n) left_by.cones_are within) in
           none_full files leaves b_faults b_mark s workers some cone (traces crew) shares reads stopped ends (shared crew) (added cone) (turned cone) c.left c.first c.closed c.back
-          (begun crew) (subst (λ (ts : List (List ℕ)). part_length s cone ts ≤ capacity s) (sym same) enough) running by below f is
+          (begun crew) (subst (λ (ts : List (List Item)). (part_length s cone ts ≤ capacity s) × (part_weight s cone ts ≤ weight_room s)) (sym same) enough) running by below f is
 
       module _ (trace at : ℕ) (bytes : List ℕ) (is : slice_get texts trace ≡ Some bytes) (bad : left bytes ≡ Some at)
           (lower : (other : ℕ) (before : List ℕ) → other < trace → slice_get texts other ≡ Some before → left before ≡ None) where
@@ -55,7 +60,7 @@ module _ {S B : Type 0} (crew : Crewed S B) where
         by_below : trace % workers < workers
         by_below = named crew.read trace
 
-        of : (now : Reading S) × (read : List ℕ) × (slice_get (readings (trace % workers)) there.0 ≡ Some now) × (slice_get (reads (trace % workers)) there.0 ≡ Some read)
+        of : (now : Reading S) × (read : List Item) × (slice_get (readings (trace % workers)) there.0 ≡ Some now) × (slice_get (reads (trace % workers)) there.0 ≡ Some read)
             × IsReadOf remaining s_faults s_mark opened laters trace now read
         of = run.each (trace % workers) there.0 trace by_below there.1
 
@@ -110,7 +115,8 @@ module _ {S B : Type 0} (crew : Crewed S B) where
             by_fault trace_fault.ReadFailed stop = absurd
                 (fault_risen (s_faults stop.before) (s_faults stop.now) stop.means (are.traces_faultless other stop.before stop.now stop.opened_is stop.later_is))
             by_fault (trace_fault.BadHeader place) stop = bad_there place stop.before stop.opened_is (λ text told. (stop.means.1 text told).place)
-            by_fault (trace_fault.CutKey place) stop = bad_there place stop.before stop.opened_is (λ text told. (stop.means.1 text told).place)
+            by_fault (trace_fault.CutKey place) stop = bad_there place stop.before stop.opened_is (λ text told. (stop.means.1 text told).leaves.place)
+            by_fault (trace_fault.ZeroWeight place) stop = bad_there place stop.before stop.opened_is (λ text told. (stop.means.1 text told).leaves.place)
             by_fault trace_fault.TooLong stop =
                 let text = bytes_of remaining opened texts are.bytes_are other stop.before stop.opened_is in
                 absurd (let many = stop.means.1 text.0 text.2 in let most =
@@ -147,27 +153,34 @@ module _ {S B : Type 0} (crew : Crewed S B) where
           which : (one : Status) → first_fault crew ≡ Some one → MayBe s texts one → fails (status.BadTrace trace at) ⊎ fails status.OutOfMemory
           which one found (may_bad other place text there leaves_at) =
               inl (subst fails (lowest texts are (status.BadTrace other place) found fits trace at bytes is leaves lower other place text refl there leaves_at) (when_some _ found))
-          which one found (may_full cone n len named over) = absurd (let most = fits cone named in omega (arith, most, over))
+          which one found (may_full cone n len named over) = absurd (let most = fits cone named in omega (arith, most.0, over))
+          which one found (may_heavy cone weight more named over) = absurd (let most = fits cone named in omega (arith, most.1, over))
           which one found may_memory = inr (when_some _ found)
 
       if_full : All (λ bytes. left bytes ≡ None) texts → (over : ℕ) → over < 2 ^ s.cone_bits → IsOver s (map whole texts) over →
-          ((cone n len : ℕ) × fails (status.CapacityFull cone n len)) ⊎ fails status.OutOfMemory
+          ((cone n len : ℕ) × fails (status.CapacityFull cone n len)) ⊎ (((cone weight more : ℕ) × fails (status.WeightFull cone weight more)) ⊎ fails status.OutOfMemory)
       if_full well over below is_over = by_answer (λ none.
-          let same = keys_same remaining opened texts (traces crew) are.bytes_are (are_keys crew.read) in
-          let fits = subst (λ (ts : List (List ℕ)). part_length s over ts ≤ capacity s) same (all_fit crew none over below) in
-          absurd (omega (arith, fits, is_over))) which
+          let same = items_same remaining opened texts (traces crew) are.bytes_are (are_items crew.read) in
+          let closed = slice_get-some backs over (let n = left_by.number in let m = left_by.cones_are in omega (arith, n, m, below)) in
+          let now = told_later files b_faults b_mark (bays_of firsts) (bays_of backs) (bays_later crew) are.told over closed.0.bay (bay_at backs over closed.0 closed.1) in
+          let taken = all_fit crew none over closed.0.bay (bay_at backs over closed.0 closed.1) in
+          absurd (not_over s (map whole texts) over (subst (λ (ts : List (List Item)). (part_length s over ts ≤ capacity s) × (part_weight s over ts ≤ weight_room s)) same
+          (taken.0, taken.1 now.0 now.1)) is_over)) which
         where
-          which : (one : Status) → first_fault crew ≡ Some one → MayBe s texts one → ((cone n len : ℕ) × fails (status.CapacityFull cone n len)) ⊎ fails status.OutOfMemory
+          which : (one : Status) → first_fault crew ≡ Some one → MayBe s texts one →
+              ((cone n len : ℕ) × fails (status.CapacityFull cone n len)) ⊎ (((cone weight more : ℕ) × fails (status.WeightFull cone weight more)) ⊎ fails status.OutOfMemory)
           which one found (may_bad other place text there leaves_at) = absurd (none-some place (sym (well_at texts well other text there) ∙ leaves_at))
           which one found (may_full cone n len named is) = inl (cone, n, len, when_some _ found)
-          which one found may_memory = inr (when_some _ found)
+          which one found (may_heavy cone weight more named is) = inr (inl (cone, weight, more, when_some _ found))
+          which one found may_memory = inr (inr (when_some _ found))
 
       if_complete : All (λ bytes. left bytes ≡ None) texts → AllFit s (map whole texts) → ok ⊎ fails status.OutOfMemory
       if_complete well fits = by_answer (λ none. inl (when_none none)) which
         where
           which : (one : Status) → first_fault crew ≡ Some one → MayBe s texts one → ok ⊎ fails status.OutOfMemory
           which one found (may_bad other place text there leaves_at) = absurd (none-some place (sym (well_at texts well other text there) ∙ leaves_at))
-          which one found (may_full cone n len named over) = absurd (let most = fits cone named in omega (arith, most, over))
+          which one found (may_full cone n len named over) = absurd (let most = fits cone named in omega (arith, most.0, over))
+          which one found (may_heavy cone weight more named over) = absurd (let most = fits cone named in omega (arith, most.1, over))
           which one found may_memory = inr (when_some _ found)
 
     pub is_exact : IsExact remaining s_faults files b_faults s workers opened laters (bays_of firsts) (bays_of backs) ok fails

@@ -11,7 +11,7 @@ use Rattle.lert_fleet.specs.Cones.{ClosesEach, FleetPassSight, FleetSight, IsWho
 use Rattle.lert_spec.specs.declared.numbers.Numbers.{Numbers}
 use Rattle.lert_ingest.specs.{Bays.bays_of, Crew.{IsPassFrom, IsQuiet}, Ingest.{HasIngested, answer_of, firsts_of}, Stops.{AreIngested, StopShows, out_of_memory}, declared.status.Status.Status}
 use Rattle.lert_ingest.specs.declared.status.Status.TheVariants as status
-use Rattle.lert_ingest.proofs.{Answering.is_exact, BayLaws.are_same, Crewed.{Crewed, first_fault}, Completing.{all_fit, are_weaving, keys_are, read_to_end, traces_later}, Exactly.exact_memory}
+use Rattle.lert_ingest.proofs.{Answering.is_exact, BayLaws.are_same, Crewed.{Crewed, first_fault}, Completing.{all_fit, are_weaving, items_are, read_to_end, traces_later}, Exactly.exact_memory}
 use Rattle.lert_ingest.proofs.Judging.{bays_later, stop_shows, traces}
 
 -- lists that agree place by place
@@ -75,7 +75,7 @@ module _ {S B : Type 0} (crew : Crewed S B) where
       reads_all : (answer : Option Status) → answer ≡ first_fault crew → OnOk (answer_of answer) (AreIngested remaining files leaves b_faults s workers opened laters backs)
       reads_all None none = record {
         traces = traces crew;
-        keys = keys_are crew (sym none);
+        items = items_are crew (sym none);
         read = read_to_end crew (sym none);
         weaving = are_weaving crew (sym none);
         fits = all_fit crew (sym none);

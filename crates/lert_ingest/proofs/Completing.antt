@@ -1,26 +1,29 @@
 -- A crew of workers that read all, and the exact answers of one that didn't.
-use Rattle.std.proofs.Common.{◌≡◌, ◌≢◌, ◌⊎◌, ℕ, ◌%◌, ◌<◌, List, [], ◌∷◌, length, Some, None, slice_get, refl, ap, sym, ◌∙◌, subst, inl, inr, arith}
+use Rattle.std.proofs.Common.{◌≡◌, ◌≢◌, ◌⊎◌, ℕ, ◌%◌, ◌<◌, ◌≤◌, List, [], ◌∷◌, length, Some, None, slice_get, refl, ap, sym, ◌∙◌, subst, inl, inr, arith}
 use Rattle.std.proofs.lemmas.Option.{none-some, same_Some, slice_get_within}
 use Rattle.std.specs.Prelude.{Contains}
 use Rattle.lert_base.specs.{Packet.{Packet, events_of}, declared.cone_fault.ConeFault.ConeFault}
 use Rattle.lert_cone.specs.{Stands.{Standing, is_finished}, declared.state.ConeState.ConeState}
 use Rattle.lert_cone.specs.declared.state.ConeState.TheVariants as state
 use Rattle.lert_conelock.proofs.Contained.{item_here}
+use Rattle.lert_spec.specs.{Counts.{weighed, weight_of}, Edges.weight_room, declared.item.Item.Item}
 use Rattle.lert_trace.specs.Reader.{Reading}
 use Rattle.lert_worker.specs.{Ends.{IsAtEnd, Stopped}, declared.end.WorkerEnd.WorkerEnd}
 use Rattle.lert_worker.specs.declared.end.WorkerEnd.TheVariants as end
-use Rattle.lert_ingest.specs.{Back.{IsBack, IsFullAt}, Crews.IsReadOf, Faults.{earliest, end_fault, fault_at, fault_of, full_fault, state_fault}, Stops.AreWeaving}
-use Rattle.lert_ingest.specs.Traces.{AllFit, AreKeysOf, AreReadToEnd, AreTracesLater}
+use Rattle.lert_ingest.specs.{Back.{IsBack, IsFullAt}, Crews.IsReadOf, Faults.{earliest, end_fault, fault_at, fault_of, full_fault, state_fault}, Stops.{AreTaken, AreWeaving}}
+use Rattle.lert_ingest.specs.{Bays.bays_of, Traces.part_weight}
+use Rattle.lert_bay.specs.Files.{IfTold}
+use Rattle.lert_ingest.specs.Traces.{AreItemsOf, AreReadToEnd, AreTracesLater}
 use Rattle.lert_ingest.specs.declared.status.Status.TheVariants as status
-use Rattle.lert_ingest.proofs.{BayLaws.slice_get-some, Crewed.{Crewed, first_fault}, Crew.was_turned, FaultOrder.{all_none, of_two_none}, Holding.{is_weaving, over_capacity, weaving_fits}}
-use Rattle.lert_ingest.proofs.{Judging.{IsCone, begun, cone_at, shared, traces}, Told.{all_whole, are_keys, named, there_is}}
+use Rattle.lert_ingest.proofs.{BayLaws.slice_get-some, Crewed.{Crewed, first_fault}, Crew.was_turned, FaultOrder.{all_none, of_two_none}, Holding.{is_weaving, weaving_fits, weaving_light}}
+use Rattle.lert_ingest.proofs.{Judging.{IsCone, cone_at, cone_of_bay, shared, traces}, RuleLaws.by_rule, Told.{all_whole, are_items, named, there_is}}
 
 module _ {S B : Type 0} (crew : Crewed S B) where
   open crew.read use {remaining, s_faults, s_mark, workers, some, opened, laters, shares, reads, was, readings, places, stopped, ends, run}
   open crew use {files, leaves, b_faults, b_mark, s, firsts, backs, added, turned, left_by}
 
   -- a trace as its reader left it
-  read_of : (trace : ℕ) → trace < length opened → (now : Reading S) × (read : List ℕ) × (place : ℕ) × (slice_get (readings (trace % workers)) place ≡ Some now)
+  read_of : (trace : ℕ) → trace < length opened → (now : Reading S) × (read : List Item) × (place : ℕ) × (slice_get (readings (trace % workers)) place ≡ Some now)
       × IsReadOf remaining s_faults s_mark opened laters trace now read
   read_of trace below =
       let there = there_is crew.read trace below in
@@ -83,16 +86,18 @@ module _ {S B : Type 0} (crew : Crewed S B) where
 
             by_refusal : (c.closed.state ≢ state.Running) ⊎ IsFullAt s c.back.history e.0 f → ⊥
             by_refusal (inl broke) = broke (all_run cone c.first c.closed c.first_is c.closed_is)
-            by_refusal (inr full) = none-some (status.CapacityFull cone (length (events_of full.past)) (length e.0.items))
-                (sym (no_end_fault by below) ∙ (ap end_fault is ∙ ap (full_fault cone)
-                (over_capacity files leaves b_faults b_mark s workers some cone (traces crew) shares reads stopped ends (shared crew) (added cone) (turned cone) c.left c.first c.closed
-                c.back (begun crew) by below e.0 f has full).0))
+            by_refusal (inr full) = elim (by_rule s (events_of full.past) e.0.items f full.refused) [
+              | inl rule ↦ none-some (status.CapacityFull cone (length (events_of full.past)) (length e.0.items))
+                  (sym (no_end_fault by below) ∙ (ap end_fault is ∙ ap (full_fault cone) rule.fault_is))
+              | inr rule ↦ none-some (status.WeightFull cone (weight_of weighed (events_of full.past)) (weight_of weighed e.0.items))
+                  (sym (no_end_fault by below) ∙ (ap end_fault is ∙ ap (full_fault cone) rule.fault_is))
+            ]
 
     at_ends : (by place : ℕ) (now : Reading S) → by < workers → slice_get (readings by) place ≡ Some now → IsAtEnd remaining now
     at_ends by place now below is = (subst (Stopped remaining (shares by) (was by) (readings by) (places by) (stopped by)) (all_ran by below) (run.stop by below)) place now is
 
-    pub keys_are : AreKeysOf remaining opened (traces crew)
-    keys_are = are_keys crew.read
+    pub items_are : AreItemsOf remaining opened (traces crew)
+    items_are = are_items crew.read
 
     pub read_to_end : AreReadToEnd remaining opened laters
     read_to_end = λ trace before now was_is is bytes told.
@@ -118,7 +123,12 @@ module _ {S B : Type 0} (crew : Crewed S B) where
         (λ by below. left_by.left number by (slice_get_within firsts number first.0 first.1) below) first.0 closed (left_by.each number first.0 closed first.1 is)
         (all_whole crew.read at_ends) all_ran (all_run number first.0 closed first.1 is)
 
-    pub all_fit : AllFit s (traces crew)
-    all_fit cone below =
-        let closed = slice_get-some backs cone (let n = left_by.number in let m = left_by.cones_are in omega (arith, n, m, below)) in
-        weaving_fits files leaves b_faults s workers cone (traces crew) closed.0 (are_weaving cone closed.0 closed.1)
+    pub all_fit : AreTaken files s (traces crew) (bays_of backs)
+    all_fit number bay is =
+        let cone = cone_of_bay crew number bay is in
+        let closed = cone.0.closed in
+        let weaving = are_weaving number closed cone.0.closed_is in (
+          weaving_fits files leaves b_faults s workers number (traces crew) closed weaving,
+          subst (λ (b : B). IfTold (files b) (λ _. part_weight s number (traces crew) ≤ weight_room s)) cone.1
+              (weaving_light files leaves b_faults s workers number (traces crew) closed weaving),
+        )

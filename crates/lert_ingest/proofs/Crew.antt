@@ -13,7 +13,7 @@ use Rattle.lert_ingest.proofs.Gathering.{cut_first, part_gathered, gathered}
 
 -- ---- one worker
 
-module _ (s : Numbers) (number cone : ℕ) (share : List ℕ) (reads : List (List ℕ)) where
+module _ (s : Numbers) (number cone : ℕ) (share : List ℕ) (reads : List (List Item)) where
   pub has_part : (packets : List Packet) → BringsPart s number cone share reads packets → HasPart s number cone share reads packets
   has_part packets brings = record { each = brings.each; joined = brings.joined; cut = brings.cut }
 
@@ -24,8 +24,8 @@ module _ (s : Numbers) (number cone : ℕ) (share : List ℕ) (reads : List (Lis
   pub part_first : (xs ys : List Packet) → HasPart s number cone share reads (xs ++ ys) → HasPart s number cone share reads xs
   part_first xs ys part = record {
     each = λ k d below. subst (IsOwn s number share) (get_or_append_left xs ys d k below) (part.each k d (omega (arith, below, length-append xs ys)));
-    joined = λ place trace keys there is.
-        let begins = part.joined place trace keys there is in
+    joined = λ place trace items there is.
+        let begins = part.joined place trace items there is in
         let parts = ap events_of (filter-append (λ (p : Packet). eqb p.trace trace) xs ys) ∙ flat_map-append (λ (p : Packet). p.items) (of_trace xs trace) (of_trace ys trace) in (
           events_of (of_trace ys trace) ++ begins.0,
           sym (append_assoc (events_of (of_trace xs trace)) (events_of (of_trace ys trace)) begins.0)
@@ -92,7 +92,7 @@ own-push_other history e number other =
     filter-append (λ (p : Packet). eqb p.by number) history (e ∷ [])
     ∙ (ap (λ (b : Bool). own history number ++ cond b (e ∷ []) []) (ne_eqb e.by number other) ∙ append-nil (own history number))
 
-module _ (s : Numbers) (cone workers : ℕ) (some : 1 ≤ workers) (traces : List (List ℕ)) (shares : ℕ → List ℕ) (reads : ℕ → List (List ℕ))
+module _ (s : Numbers) (cone workers : ℕ) (some : 1 ≤ workers) (traces : List (List Item)) (shares : ℕ → List ℕ) (reads : ℕ → List (List Item))
     (stopped : ℕ → ℕ) (ends : ℕ → WorkerEnd) (added : ℕ → List Packet) (turned : ℕ → List (Packet × ConeFault))
     (shared : (number : ℕ) → number < workers → IsShare workers (length traces) number (shares number))
     (left : (number : ℕ) → number < workers → LeftIn s number cone (shares number) (reads number) (stopped number) (ends number) (added number) (turned number))
@@ -109,8 +109,8 @@ module _ (s : Numbers) (cone workers : ℕ) (some : 1 ≤ workers) (traces : Lis
       Contains-last [] x = item_here x []
       Contains-last (y ∷ xs) x = let rest = Contains-last xs x in (suc rest.0, (let h = rest.1 in omega (arith, h)), rest.2)
 
-  module _ (begun : (number place trace : ℕ) (whole : List ℕ) → number < workers → slice_get (shares number) place ≡ Some trace → slice_get traces trace ≡ Some whole →
-      (read : List ℕ) × (slice_get (reads number) place ≡ Some read) × BeginsWith whole read) where
+  module _ (begun : (number place trace : ℕ) (whole : List Item) → number < workers → slice_get (shares number) place ≡ Some trace → slice_get traces trace ≡ Some whole →
+      (read : List Item) × (slice_get (reads number) place ≡ Some read) × BeginsWith whole read) where
     part_of_own : (number : ℕ) (named : number < workers) → HasPart s number cone (shares number) (reads number) (own history number)
     part_of_own number named = subst (HasPart s number cone (shares number) (reads number)) (sym (own_are number named))
         (left_part s number cone (shares number) (reads number) (stopped number) (ends number) (added number) (turned number) (left number named))
@@ -141,7 +141,7 @@ module _ (s : Numbers) (cone workers : ℕ) (some : 1 ≤ workers) (traces : Lis
         ]
 
   -- where all ran to the ends of their traces
-  pub crew_woven : ((number place trace : ℕ) (whole : List ℕ) → number < workers → slice_get (shares number) place ≡ Some trace → slice_get traces trace ≡ Some whole →
+  pub crew_woven : ((number place trace : ℕ) (whole : List Item) → number < workers → slice_get (shares number) place ≡ Some trace → slice_get traces trace ≡ Some whole →
       slice_get (reads number) place ≡ Some whole) → ((number : ℕ) → number < workers → ends number ≡ Ran) → IsWoven s cone workers traces history
   crew_woven whole_read all_ran = gathered s cone workers traces shares reads shared history numbered whole_read some
       (λ number named. subst (HasAll s number cone (shares number) (reads number)) (sym (own_are number named)) ((left number named).all (all_ran number named)))

@@ -3,7 +3,7 @@ use Rattle.std.proofs.Common.{ℕ, ◌≤◌, List, length, Option}
 use Rattle.lert_base.specs.{Packet.Packet, declared.cone_fault.ConeFault.ConeFault}
 use Rattle.lert_bay.specs.Files.{Files}
 use Rattle.lert_cone.specs.Stands.{Standing}
-use Rattle.lert_spec.specs.declared.numbers.Numbers.{Numbers}
+use Rattle.lert_spec.specs.{declared.item.Item.Item, declared.numbers.Numbers.Numbers}
 use Rattle.lert_trace.specs.Reader.{Reading}
 use Rattle.lert_worker.specs.declared.end.WorkerEnd.{WorkerEnd}
 use Rattle.lert_ingest.specs.{Crews.{AreLeftBy, AreReadBy}, Faults.{earlier, earliest, end_fault, fault_at}, declared.status.Status.Status}
@@ -18,7 +18,7 @@ pub record ReadCrew (S : Type 0) : Type 0 where
   pub opened : List S
   pub laters : List S
   pub shares : ℕ → List ℕ
-  pub reads : ℕ → List (List ℕ)
+  pub reads : ℕ → List (List Item)
   pub was : ℕ → List (Reading S)
   pub readings : ℕ → List (Reading S)
   pub places : ℕ → ℕ

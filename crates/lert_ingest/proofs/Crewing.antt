@@ -9,7 +9,7 @@ use Rattle.lert_cone.specs.Stands.{Standing, Terms}
 use Rattle.lert_conelock.specs.Sight.{LockSight, Sight, own_refused}
 use Rattle.lert_fleet.proofs.Places.{image_at, some_at}
 use Rattle.lert_fleet.specs.{Cones.{ClosesEach, FleetPassSight, FleetSight}, Each.{EachThree, EachTwo}}
-use Rattle.lert_spec.specs.declared.numbers.Numbers.{Numbers}
+use Rattle.lert_spec.specs.{declared.item.Item.Item, declared.numbers.Numbers.Numbers}
 use Rattle.lert_trace.specs.Reader.{Reading}
 use Rattle.lert_worker.specs.{Brings.IsOwn, Ends.{Stopped, WasRead}, Ran.{HasRun, RanIn, Working}, declared.end.WorkerEnd.TheVariants.Cone}
 use Rattle.lert_ingest.specs.{Back.AreSeen, Bays.IsLater, Cones.AreNew, Crew.{EachShows, Shows}, Crews.{AreLeftBy, AreReadBy, IsReadOf, fresh_reader}, Faults.end_of}
@@ -29,11 +29,11 @@ map_back P f (x ∷ xs) all = All-cons (λ y. P (f y)) x xs (All-head P (f x) (m
 
 -- what a run of a worker may be told by
 pub record Choice : Type 0 where
-  pub reads : List (List ℕ)
+  pub reads : List (List Item)
   pub place : ℕ
   pub stopped : ℕ
 
-abbrev pub reads_of : Option Choice → List (List ℕ)
+abbrev pub reads_of : Option Choice → List (List Item)
 reads_of None = []
 reads_of (Some choice) = choice.reads
 
@@ -141,7 +141,7 @@ module _ {S H : Type 0} (remaining : S → Option (List ℕ)) (faults mark : S �
         (subst (λ (c : Option Choice). Stopped remaining at.old.traces at.old.readers at.mid.readers (place_of c) (stopped_of c) at.mid.end) (sym at.choice_is) at.chosen.stopped_is));
   }
     where
-      each : (by place trace : ℕ) (at : AtWorker by) → slice_get at.old.traces place ≡ Some trace → (now : Reading S) × (read : List ℕ)
+      each : (by place trace : ℕ) (at : AtWorker by) → slice_get at.old.traces place ≡ Some trace → (now : Reading S) × (read : List Item)
           × (slice_get (readers_of (slice_get mids by)) place ≡ Some now) × (slice_get (reads_of (choice_at by)) place ≡ Some read) × IsReadOf remaining faults mark opened laters
           trace now read
       each by place trace at there =

@@ -4,8 +4,8 @@ use Rattle.std.proofs.{lemmas.List.Elements.Contains-get_or, lemmas.Option.{none
 use Rattle.std.specs.Prelude.{Contains, IsTrue}
 use Rattle.lert_base.specs.{declared.held.Held.{Ghosts as HeldOf}, Packet.{Packet, events_of, own}, declared.cone_fault.ConeFault.ConeFault}
 use Rattle.lert_bay.specs.Files.{Files}
-use Rattle.lert_cone.specs.{Listing.Listing, Locked.RefusesUnder, Refuses.IsRefused, declared.state.ConeState.TheVariants.Running}
-use Rattle.lert_cone.specs.Stands.{Standing, StandsFor, Terms, WereSound, is_broken, is_finished, terms_of}
+use Rattle.lert_cone.specs.{Listing.Listing, Locked.RefusesUnder, History.most_version, Refuses.IsRefused, declared.state.ConeState.TheVariants.Running}
+use Rattle.lert_cone.specs.Stands.{Standing, StandsFor, Terms, WereSound, is_broken, is_finished, terms_of, version_of}
 use Rattle.lert_conelock.proofs.Contained.{Contains-filter, Contains-filter_back}
 use Rattle.lert_conelock.specs.{Prefix.IsPrefix, Sight.{Closed, LockSight, Sight, own_refused}}
 use Rattle.lert_spec.specs.{declared.numbers.Numbers.Numbers, Counts.{weighed, weight_of}}
@@ -33,13 +33,15 @@ module _ {B R : Type 0} (files : B → Option Files) (leaves : B → Files → T
   same_terms = sym (is_held.terms_are closed) ∙ (closes.terms_are ∙ (ap held.terms first_is ∙ is_held.terms_are first))
 
   -- those of a cone that takes packets
-  abbrev running : Numbers → ℕ → Bool → Terms B
-  running t n finished = record (terms_of faults mark first) { settings = t; cone = n; finished = finished }
+  abbrev running : Numbers → ℕ → ℕ → Bool → Terms B
+  running t n version finished = record (terms_of faults mark first) { settings = t; cone = n; version = version; finished = finished }
 
-  first_terms : terms_of faults mark first ≡ running s number false
-  first_terms = ap (λ (l : Listing). running l.settings l.cone (is_finished first.state)) new.listing_is ∙ ap (running s number) (ap is_finished new.state_is)
+  first_terms : terms_of faults mark first ≡ running s number most_version false
+  first_terms =
+      ap (λ (l : Listing). running l.settings l.cone (version_of first) (is_finished first.state)) new.listing_is
+      ∙ (λ i. running s number (new.version_is i) (is_finished (new.state_is i)))
 
-  terms_here : terms_of faults mark closed ≡ running s number false
+  terms_here : terms_of faults mark closed ≡ running s number most_version false
   terms_here = same_terms ∙ first_terms
 
   -- what the pass of all shows as refused is shown of its number
@@ -77,14 +79,12 @@ module _ {B R : Type 0} (files : B → Option Files) (leaves : B → Files → T
       by_case (inl stopped) = inl (is_held.stopped_is closed stopped)
       by_case (inr rule) =
           let why = is_held.refuses (held.terms lock.first) rule.0 e f (rule.2 [] stood_first) in
-          let terms : held.terms lock.first ≡ running s number false =
+          let terms : held.terms lock.first ≡ running s number most_version false =
           ap held.terms first_is ∙ (is_held.terms_are first ∙ first_terms) in
           inr (record {
             past = rule.0;
             begins = rule.1;
-            version = (held.terms lock.first).version;
-            refused = subst (λ (t : Numbers). IsRefused t (held.terms lock.first).version (length (events_of rule.0)) (weight_of weighed (events_of rule.0)) e.items f)
-                (ap (λ (t : Terms B). t.settings) terms) why;
+            refused = subst (λ (t : Terms B). IsRefused t.settings t.version (length (events_of rule.0)) (weight_of weighed (events_of rule.0)) e.items f) terms why;
           })
 
   pub is_back : IsLater files faults mark first.bay closed.bay → (is_broken closed.state ≡ false → closed.listing.closed ≡ is_finished closed.state) →

@@ -3,10 +3,10 @@ use Rattle.std.proofs.Common.{◌≡◌, ℕ, ◌^◌, ◌<◌, ◌≤◌, zero,
 use Rattle.std.proofs.lemmas.Option.{get_or_from_slice_get, none-some, same_Some, slice_get_within}
 use Rattle.lert_bay.specs.Files.{Files}
 use Rattle.lert_io.specs.Fault.{HasRisen, IsFaultless}
-use Rattle.lert_spec.specs.{declared.numbers.Numbers.Numbers, Edges.capacity}
+use Rattle.lert_spec.specs.{declared.item.Item.Item, declared.numbers.Numbers.Numbers, Edges.{capacity, weight_room}}
 use Rattle.lert_trace.specs.Trace.{left, whole}
-use Rattle.lert_ingest.specs.{Bays.{HasFailed, IsUntold}, Stops.{AreTelling, IsExact, StopShows, trace_fault, bad_trace, too_long, bay_fault, malformed, capacity_full, out_of_memory}}
-use Rattle.lert_ingest.specs.{Traces.{AreBytesOf, AreKeysOf, HasTraceFailed, most_keys, part_length}, declared.status.Status.Status}
+use Rattle.lert_ingest.specs.{Bays.{HasFailed, IsUntold}, Stops.{AreTelling, IsExact, StopShows, trace_fault, bad_trace, too_long, bay_fault, malformed, capacity_full, weight_full, out_of_memory}}
+use Rattle.lert_ingest.specs.{Traces.{AreBytesOf, AreItemsOf, HasTraceFailed, most_items, part_length, part_weight}, declared.status.Status.Status}
 use Rattle.lert_ingest.specs.declared.status.Status.TheVariants as status
 use Rattle.lert_ingest.proofs.BayLaws.{slice_get-some}
 
@@ -27,18 +27,18 @@ module _ {S : Type 0} (remaining : S → Option (List ℕ)) where
   bytes_of (one ∷ opened) (text ∷ texts) are zero before is = (text, refl, (let head : remaining one ≡ Some text = cc in ap remaining (sym (same_Some one before is)) ∙ head))
   bytes_of (one ∷ opened) (text ∷ texts) are (suc trace) before is = bytes_of opened texts (let tail : map remaining opened ≡ map Some texts = cc in tail) trace before is
 
-  -- the keys of traces that are all told
-  pub keys_same : (opened : List S) (texts traces : List (List ℕ)) → AreBytesOf remaining opened texts → AreKeysOf remaining opened traces → traces ≡ map whole texts
-  keys_same [] [] [] are keys = refl
-  keys_same [] [] (one ∷ traces) are keys = absurd (let n = keys.number in omega (arith, n))
-  keys_same [] (text ∷ texts) traces are keys = absurd (let clash = are in cc)
-  keys_same (one ∷ opened) [] traces are keys = absurd (let clash = are in cc)
-  keys_same (one ∷ opened) (text ∷ texts) [] are keys = absurd (let n = keys.number in omega (arith, n))
-  keys_same (one ∷ opened) (text ∷ texts) (first ∷ traces) are keys =
+  -- the items of traces that are all told
+  pub items_same : (opened : List S) (texts : List (List ℕ)) (traces : List (List Item)) → AreBytesOf remaining opened texts → AreItemsOf remaining opened traces → traces ≡ map whole texts
+  items_same [] [] [] are items = refl
+  items_same [] [] (one ∷ traces) are items = absurd (let n = items.number in omega (arith, n))
+  items_same [] (text ∷ texts) traces are items = absurd (let clash = are in cc)
+  items_same (one ∷ opened) [] traces are items = absurd (let clash = are in cc)
+  items_same (one ∷ opened) (text ∷ texts) [] are items = absurd (let n = items.number in omega (arith, n))
+  items_same (one ∷ opened) (text ∷ texts) (first ∷ traces) are items =
       let head : remaining one ≡ Some text = cc in
       let tail : map remaining opened ≡ map Some texts = cc in
-      let here = keys.each 0 one first refl refl text head in
-      let rest = keys_same opened texts traces tail (record { number = (let n = keys.number in omega (arith, n)); each = λ trace before found. keys.each (suc trace) before found }) in
+      let here = items.each 0 one first refl refl text head in
+      let rest = items_same opened texts traces tail (record { number = (let n = items.number in omega (arith, n)); each = λ trace before found. items.each (suc trace) before found }) in
       ap (λ x. x ∷ traces) here ∙ ap (λ xs. whole text ∷ xs) rest
 
 pub fault_risen : (before now : ℕ) → HasRisen before now → IsFaultless before now → ⊥
@@ -48,6 +48,7 @@ fault_risen before now rose faultless = let up = rose faultless.below_last in le
 pub data MayBe (s : Numbers) (texts : List (List ℕ)) : Status → Type 0 where
   may_bad : (trace at : ℕ) (bytes : List ℕ) → slice_get texts trace ≡ Some bytes → left bytes ≡ Some at → MayBe s texts (status.BadTrace trace at)
   may_full : (cone n len : ℕ) → cone < 2 ^ s.cone_bits → capacity s < part_length s cone (map whole texts) → MayBe s texts (status.CapacityFull cone n len)
+  may_heavy : (cone weight more : ℕ) → cone < 2 ^ s.cone_bits → weight_room s < part_weight s cone (map whole texts) → MayBe s texts (status.WeightFull cone weight more)
   may_memory : MayBe s texts status.OutOfMemory
 
 module _ {S B : Type 0} (remaining : S → Option (List ℕ)) (faults : S → ℕ) (files : B → Option Files) (bay_faults : B → ℕ) (s : Numbers) (workers : ℕ) (opened now : List S)
@@ -64,8 +65,8 @@ module _ {S B : Type 0} (remaining : S → Option (List ℕ)) (faults : S → �
       let seen = are.told cone bay.0 bay.1 in
       untold.untold bay.0 bay.1 seen.0 seen.1
 
-  pub few_at : (trace : ℕ) (bytes : List ℕ) → slice_get texts trace ≡ Some bytes → length (whole bytes) ≤ most_keys
-  few_at trace bytes is = subst (λ (b : List ℕ). length (whole b) ≤ most_keys) (get_or_from_slice_get texts trace bytes bytes is)
+  pub few_at : (trace : ℕ) (bytes : List ℕ) → slice_get texts trace ≡ Some bytes → length (whole bytes) ≤ most_items
+  few_at trace bytes is = subst (λ (b : List ℕ). length (whole b) ≤ most_items) (get_or_from_slice_get texts trace bytes bytes is)
       (are.few trace bytes (slice_get_within texts trace bytes is))
 
   pub may_be : (one : Status) → StopShows remaining faults files bay_faults s workers opened now bays later one → MayBe s texts one
@@ -79,10 +80,15 @@ module _ {S B : Type 0} (remaining : S → Option (List ℕ)) (faults : S → �
   may_be one (bay_fault cone failed part) = absurd (no_bay_failed cone failed)
   may_be one (malformed cone file at untold part) = absurd (none_untold cone untold)
   may_be one (capacity_full cone n len full has trace part) =
-      let same = keys_same remaining opened texts has.traces are.bytes_are has.keys in
+      let same = items_same remaining opened texts has.traces are.bytes_are has.items in
       let enough = has.enough in
       let over = full.over in
-      may_full cone n len full.named (subst (λ (ts : List (List ℕ)). capacity s < part_length s cone ts) same (omega (arith, enough, over)))
+      may_full cone n len full.named (subst (λ (ts : List (List Item)). capacity s < part_length s cone ts) same (omega (arith, enough, over)))
+  may_be one (weight_full cone weight more heavy has trace part) =
+      let same = items_same remaining opened texts has.traces are.bytes_are has.items in
+      let enough = has.enough in
+      let over = heavy.over in
+      may_heavy cone weight more heavy.named (subst (λ (ts : List (List Item)). weight_room s < part_weight s cone ts) same (omega (arith, enough, over)))
   may_be one (out_of_memory same_traces same_bays) = may_memory
 
 -- ---- the exact answer
@@ -94,7 +100,7 @@ module _ {S B : Type 0} (remaining : S → Option (List ℕ)) (faults : S → �
       IsExact remaining faults files bay_faults s workers opened now bays later ok fails
   exact_memory workers bays later ok fails memory = record {
     bad = λ texts are fits trace at bytes is leaves lower. inr (memory texts are);
-    full = λ texts are well over below is_over. inr (memory texts are);
+    full = λ texts are well over below is_over. inr (inr (memory texts are));
     complete = λ texts are well fits. inr (memory texts are);
   }
 
@@ -107,7 +113,10 @@ module _ {S B : Type 0} (remaining : S → Option (List ℕ)) (faults : S → �
     bad = λ texts are fits trace at bytes is leaves lower. let to = turn texts are in
         elim (exact.bad texts to.0 fits trace at bytes is leaves lower) [ inl one ↦ inl (to.2 _ one) | inr memory ↦ inr (to.2 _ memory) ];
     full = λ texts are well over below is_over. let to = turn texts are in
-        elim (exact.full texts to.0 well over below is_over) [ inl one ↦ inl (one.0, one.1, one.2, to.2 _ one.3) | inr memory ↦ inr (to.2 _ memory) ];
+        elim (exact.full texts to.0 well over below is_over) [
+          | inl one ↦ inl (one.0, one.1, one.2, to.2 _ one.3)
+          | inr others ↦ elim others [ inl one ↦ inr (inl (one.0, one.1, one.2, to.2 _ one.3)) | inr memory ↦ inr (inr (to.2 _ memory)) ]
+        ];
     complete = λ texts are well fits. let to = turn texts are in
         elim (exact.complete texts to.0 well fits) [ inl done ↦ inl (to.1 done) | inr memory ↦ inr (to.2 _ memory) ];
   }

@@ -4,15 +4,16 @@ use Rattle.std.specs.Prelude.{IfErr, OnOk}
 use Rattle.lert_base.specs.{Packet.Packet, Weave.{IsBrought, IsPartWoven, IsWoven}}
 use Rattle.lert_bay.specs.Files.{Files}
 use Rattle.lert_cone.specs.Stands.{Standing}
-use Rattle.lert_spec.specs.declared.numbers.Numbers.{Numbers}
+use Rattle.lert_spec.specs.{declared.item.Item.Item, declared.numbers.Numbers.Numbers}
 use Rattle.lert_ingest.specs.{Bays.{ArePartWoven, HoldsOpen, HoldsPart, bays_of}, Ingest.HasIngested, Shares.AreReadBySame}
-use Rattle.lert_ingest.specs.{Stops.{AreIngested, AreOpenPartly, StopShows, trace_fault, bad_trace, too_long, bay_fault, malformed, capacity_full, out_of_memory}, declared.status.Status.Status}
+use Rattle.lert_ingest.specs.{Stops.{AreIngested, AreOpenPartly, StopShows}, declared.status.Status.Status}
+use Rattle.lert_ingest.specs.Stops.{trace_fault, bad_trace, too_long, bay_fault, malformed, capacity_full, weight_full, out_of_memory}
 use Rattle.lert_ingest.proofs.Exactly.{exact_turned}
 
 module _ (s : Numbers) (fewer workers : ℕ) where
   -- ---- the journal of a cone
 
-  module _ (cone : ℕ) (traces : List (List ℕ)) (same : AreReadBySame fewer workers (length traces)) where
+  module _ (cone : ℕ) (traces : List (List Item)) (same : AreReadBySame fewer workers (length traces)) where
     brought : (packet : Packet) → IsBrought s fewer (length traces) packet → IsBrought s workers (length traces) packet
     brought packet by = record {
       some = by.some;
@@ -42,19 +43,19 @@ module _ (s : Numbers) (fewer workers : ℕ) where
 
   module _ {S B : Type 0} (remaining : S → Option (List ℕ)) (faults mark : S → ℕ) (files : B → Option Files) (leaves : B → Files → Type 0)
       (bay_faults bay_mark : B → ℕ) (opened now : List S) (same : AreReadBySame fewer workers (length opened)) where
-    -- of as many keys as there are traces
-    of_keys : (traces : List (List ℕ)) → length traces ≡ length opened → AreReadBySame fewer workers (length traces)
-    of_keys traces number = subst (AreReadBySame fewer workers) (sym number) same
+    -- of as many lists of items as there are traces
+    of_items : (traces : List (List Item)) → length traces ≡ length opened → AreReadBySame fewer workers (length traces)
+    of_items traces number = subst (AreReadBySame fewer workers) (sym number) same
 
     ingested_by : (cones : List (Standing B)) → AreIngested remaining files leaves bay_faults s fewer opened now cones →
         AreIngested remaining files leaves bay_faults s workers opened now cones
     ingested_by cones are = record {
       traces = are.traces;
-      keys = are.keys;
+      items = are.items;
       read = are.read;
       weaving = λ number cone there. let one = are.weaving number cone there in record {
         history = one.history;
-        woven = woven number are.traces (of_keys are.traces are.keys.number) one.history one.woven;
+        woven = woven number are.traces (of_items are.traces are.items.number) one.history one.woven;
         stands = one.stands;
         sound = one.sound;
         settings_are = one.settings_are;
@@ -66,17 +67,17 @@ module _ (s : Numbers) (fewer workers : ℕ) where
     }
 
     module _ (bays later : List B) where
-      held_partly : (traces : List (List ℕ)) → length traces ≡ length opened → ArePartWoven files s fewer later traces → ArePartWoven files s workers later traces
-      held_partly traces number are cone bay there seen told = part_held cone traces (of_keys traces number) seen (are cone bay there seen told)
+      held_partly : (traces : List (List Item)) → length traces ≡ length opened → ArePartWoven files s fewer later traces → ArePartWoven files s workers later traces
+      held_partly traces number are cone bay there seen told = part_held cone traces (of_items traces number) seen (are cone bay there seen told)
 
       open_by : (still : ℕ → ℕ → Type 0) → AreOpenPartly remaining faults files bay_faults s fewer opened now bays later still →
           AreOpenPartly remaining faults files bay_faults s workers opened now bays later still
       open_by still are = record {
         traces = are.traces;
-        keys = are.keys;
-        woven = held_partly are.traces are.keys.number are.woven;
+        items = are.items;
+        woven = held_partly are.traces are.items.number are.woven;
         still = λ cone before after was is faultless seen told.
-            open_held cone are.traces (of_keys are.traces are.keys.number) still seen (are.still cone before after was is faultless seen told);
+            open_held cone are.traces (of_items are.traces are.items.number) still seen (are.still cone before after was is faultless seen told);
       }
 
       stops_by : (answer : Status) → StopShows remaining faults files bay_faults s fewer opened now bays later answer →
@@ -87,7 +88,9 @@ module _ (s : Numbers) (fewer workers : ℕ) where
       stops_by answer (bay_fault cone failed part) = bay_fault cone failed (open_by _ part)
       stops_by answer (malformed cone file at untold part) = malformed cone file at untold (open_by _ part)
       stops_by answer (capacity_full cone n len full has trace part) =
-          capacity_full cone n len full (record { traces = has.traces; keys = has.keys; enough = has.enough }) trace (open_by _ part)
+          capacity_full cone n len full (record { traces = has.traces; items = has.items; enough = has.enough }) trace (open_by _ part)
+      stops_by answer (weight_full cone weight more heavy has trace part) =
+          weight_full cone weight more heavy (record { traces = has.traces; items = has.items; enough = has.enough }) trace (open_by _ part)
       stops_by answer (out_of_memory same_traces same_bays) = out_of_memory same_traces same_bays
 
     -- what a crew of fewer leaves, said of more

@@ -9,8 +9,7 @@ use Rattle.lert_conelock.specs.Sight.{LockSight}
 use Rattle.lert_fleet.proofs.Places.{some_at}
 use Rattle.lert_fleet.specs.Cones.{ClosesEach, FleetPassSight, FleetSight}
 use Rattle.lert_journal.specs.Payload.{IsJournaled}
-use Rattle.lert_spec.specs.{declared.numbers.Numbers.Numbers, Items.{AreOfVersion, keys_in}}
-use Rattle.lert_spec.proofs.ItemLaws.{units_are, units_of_version}
+use Rattle.lert_spec.specs.declared.numbers.Numbers.{Numbers}
 use Rattle.lert_worker.specs.{Brings.MayBring, Ran.{MayRun, Working}}
 use Rattle.lert_ingest.specs.{Back.AreSeen, Cones.AreNew, Crew.{AllQuiet, Brought, EachShows, IsPassFrom, IsQuiet, Shows, Turned}, Crews.fresh_reader}
 use Rattle.lert_ingest.specs.{Faults.{earlier, earliest, end_fault, end_of, fault_at}, Ingest.{AreReady, HasCrewRun, HasIngested, answer_of, firsts_of}, Sharing.{AreManned, WereTaken}}
@@ -86,7 +85,7 @@ module _ {S B R : Type 0} (remaining : S → Option (List ℕ)) (s_faults s_mark
         by_most = may.by_most;
         trace_most = may.trace_most;
         of_cone = may.of_cone;
-        weighed = subst (AreOfVersion most_version) (sym (units_are packet.items may.weights)) (units_of_version most_version (keys_in packet.items));
+        weighed = may.weights;
       }
 
       fit : (cone : ℕ) (lock : LockSight (Standing B)) → slice_get fleet cone ≡ Some lock → (packet : Packet) → IsJournaled most_version s cone packet →

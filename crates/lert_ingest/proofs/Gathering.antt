@@ -1,10 +1,10 @@
 -- What all workers brought to a cone, told from what each of them brought.
 use Rattle.std.proofs.Common.{◌≡◌, ℕ, ◌%◌, ◌<◌, ◌≤◌, Bool, true, false, cond, eqb, List, [], ◌∷◌, ◌++◌, length, Some, slice_get, refl, ap, sym, ◌∙◌, subst, inl, inr, arith, append_assoc}
 use Rattle.std.proofs.{Common.length-append, lemmas.Bool.{cases_eq, eq-eqb, ne_eqb}, lemmas.List.Elements.{All-head, All-tail, All-cons, All-contains, All-nil, filter-append}}
-use Rattle.std.proofs.lemmas.{List.map-append, Option.slice_get_within}
+use Rattle.std.proofs.lemmas.Option.{slice_get_within}
 use Rattle.std.specs.Prelude.{All}
 use Rattle.lert_base.specs.{Beginning.BeginsWith, Packet.{Packet, events_of, of_trace, own}, Weave.{AreCut, IsBrought, IsPartWoven, IsWoven}}
-use Rattle.lert_spec.specs.{declared.numbers.Numbers.Numbers, Items.{unit, units}, Mix.{cone_of, part_of}}
+use Rattle.lert_spec.specs.{declared.item.Item.Item, declared.numbers.Numbers.Numbers, Counts.weighed, Mix.{cone_of, part_in}}
 use Rattle.lert_worker.specs.Brings.{IsOwn}
 use Rattle.lert_ingest.specs.Shares.{HasAll, HasPart, IsShare}
 use Rattle.lert_ingest.proofs.BayLaws.{slice_get-first}
@@ -51,12 +51,11 @@ module _ (P : Packet → Type 0) (workers : ℕ) where
 pub begins_more : {A : Type 0} (whole part less : List A) → BeginsWith whole part → BeginsWith part less → BeginsWith whole less
 begins_more whole part less one two = (two.0 ++ one.0, sym (append_assoc less two.0 one.0) ∙ (ap (λ xs. xs ++ one.0) two.1 ∙ one.1))
 
--- and so do their parts of a cone, as items
-pub begins_part : (s : Numbers) (cone : ℕ) (whole part : List ℕ) → BeginsWith whole part → BeginsWith (units (part_of s cone whole)) (units (part_of s cone part))
+-- and so do their parts of a cone
+pub begins_part : (s : Numbers) (cone : ℕ) (whole part : List Item) → BeginsWith whole part → BeginsWith (part_in weighed s cone whole) (part_in weighed s cone part)
 begins_part s cone whole part begins = (
-  units (part_of s cone begins.0),
-  sym (map-append unit (part_of s cone part) (part_of s cone begins.0))
-      ∙ ap units (sym (filter-append (λ k. eqb (cone_of s k) cone) part begins.0) ∙ ap (part_of s cone) begins.1),
+  part_in weighed s cone begins.0,
+  sym (filter-append (λ (item : Item). eqb (cone_of s item.key) cone) part begins.0) ∙ ap (part_in weighed s cone) begins.1,
 )
 
 pub cut_first : (size : ℕ) (xs ys : List Packet) → AreCut size (xs ++ ys) → AreCut size xs
@@ -72,7 +71,7 @@ own_brought s workers count number share shares e own_e =
     let of = All-contains (λ t. (t < count) × (t % workers ≡ number)) share e.trace shares.own own_e.of_one in
     record { some = own_e.some; few = own_e.few; of_them = of.0; by_is = own_e.by_is ∙ sym of.1 }
 
-module _ (s : Numbers) (cone workers : ℕ) (traces : List (List ℕ)) (shares : ℕ → List ℕ) (reads : ℕ → List (List ℕ))
+module _ (s : Numbers) (cone workers : ℕ) (traces : List (List Item)) (shares : ℕ → List ℕ) (reads : ℕ → List (List Item))
     (shared : (number : ℕ) → number < workers → IsShare workers (length traces) number (shares number)) (history : List Packet) (numbered : All (λ e. e.by < workers) history) where
   module _ (each : (number : ℕ) → number < workers → All (IsOwn s number (shares number)) (own history number)) where
     are_brought : All (IsBrought s workers (length traces)) history
@@ -85,43 +84,43 @@ module _ (s : Numbers) (cone workers : ℕ) (traces : List (List ℕ)) (shares :
     trace_own : (trace : ℕ) → of_trace history trace ≡ of_trace (own history (trace % workers)) trace
     trace_own trace = of_trace-own history trace (trace % workers) (λ k d below same. (are_brought k d below).by_is ∙ ap (λ t. t % workers) same)
 
-  pub part_gathered : ((number place trace : ℕ) (whole : List ℕ) → number < workers → slice_get (shares number) place ≡ Some trace → slice_get traces trace ≡ Some whole →
-      (read : List ℕ) × (slice_get (reads number) place ≡ Some read) × BeginsWith whole read) → (1 ≤ workers) →
+  pub part_gathered : ((number place trace : ℕ) (whole : List Item) → number < workers → slice_get (shares number) place ≡ Some trace → slice_get traces trace ≡ Some whole →
+      (read : List Item) × (slice_get (reads number) place ≡ Some read) × BeginsWith whole read) → (1 ≤ workers) →
       ((number : ℕ) → number < workers → HasPart s number cone (shares number) (reads number) (own history number)) →
       IsPartWoven s cone workers traces history
   part_gathered begun some brought = record {
     each = are_brought (λ number named. (brought number named).each);
-    joined = λ trace keys is. joined trace keys is (named trace);
+    joined = λ trace items is. joined trace items is (named trace);
     cut = λ trace below. subst (AreCut s.packet) (sym (trace_own (λ number below. (brought number below).each) trace)) ((brought (trace % workers) (named trace)).cut trace);
   }
     where
       named : (trace : ℕ) → trace % workers < workers
       named trace = omega (arith, some)
 
-      joined : (trace : ℕ) (keys : List ℕ) → slice_get traces trace ≡ Some keys → trace % workers < workers →
-          BeginsWith (units (part_of s cone keys)) (events_of (of_trace history trace))
-      joined trace keys is below =
-          let there = (shared (trace % workers) below).all trace (slice_get_within traces trace keys is) refl in
-          let read = begun (trace % workers) there.0 trace keys below there.1 is in
+      joined : (trace : ℕ) (items : List Item) → slice_get traces trace ≡ Some items → trace % workers < workers →
+          BeginsWith (part_in weighed s cone items) (events_of (of_trace history trace))
+      joined trace items is below =
+          let there = (shared (trace % workers) below).all trace (slice_get_within traces trace items is) refl in
+          let read = begun (trace % workers) there.0 trace items below there.1 is in
           let part = (brought (trace % workers) below).joined there.0 trace read.0 there.1 read.1 in
-          subst (λ (xs : List Packet). BeginsWith (units (part_of s cone keys)) (events_of xs)) (sym (trace_own (λ number below. (brought number below).each) trace))
-          (begins_more (units (part_of s cone keys)) (units (part_of s cone read.0)) (events_of (of_trace (own history (trace % workers)) trace)) (begins_part s cone keys read.0 read.2) part)
+          subst (λ (xs : List Packet). BeginsWith (part_in weighed s cone items) (events_of xs)) (sym (trace_own (λ number below. (brought number below).each) trace))
+          (begins_more (part_in weighed s cone items) (part_in weighed s cone read.0) (events_of (of_trace (own history (trace % workers)) trace)) (begins_part s cone items read.0 read.2) part)
 
-  pub gathered : ((number place trace : ℕ) (whole : List ℕ) → number < workers → slice_get (shares number) place ≡ Some trace → slice_get traces trace ≡ Some whole →
+  pub gathered : ((number place trace : ℕ) (whole : List Item) → number < workers → slice_get (shares number) place ≡ Some trace → slice_get traces trace ≡ Some whole →
       slice_get (reads number) place ≡ Some whole) → (1 ≤ workers) →
       ((number : ℕ) → number < workers → HasAll s number cone (shares number) (reads number) (own history number)) →
       IsWoven s cone workers traces history
   gathered whole_read some brought = record {
     each = are_brought (λ number named. (brought number named).each);
-    joined = λ trace keys is. joined trace keys is (named trace);
+    joined = λ trace items is. joined trace items is (named trace);
     cut = λ trace below. subst (AreCut s.packet) (sym (trace_own (λ number below. (brought number below).each) trace)) ((brought (trace % workers) (named trace)).cut trace);
   }
     where
       named : (trace : ℕ) → trace % workers < workers
       named trace = omega (arith, some)
 
-      joined : (trace : ℕ) (keys : List ℕ) → slice_get traces trace ≡ Some keys → trace % workers < workers → events_of (of_trace history trace) ≡ units (part_of s cone keys)
-      joined trace keys is below =
-          let there = (shared (trace % workers) below).all trace (slice_get_within traces trace keys is) refl in
+      joined : (trace : ℕ) (items : List Item) → slice_get traces trace ≡ Some items → trace % workers < workers → events_of (of_trace history trace) ≡ part_in weighed s cone items
+      joined trace items is below =
+          let there = (shared (trace % workers) below).all trace (slice_get_within traces trace items is) refl in
           ap events_of (trace_own (λ number below. (brought number below).each) trace)
-          ∙ (brought (trace % workers) below).joined there.0 trace keys there.1 (whole_read (trace % workers) there.0 trace keys below there.1 is)
+          ∙ (brought (trace % workers) below).joined there.0 trace items there.1 (whole_read (trace % workers) there.0 trace items below there.1 is)

@@ -1,28 +1,28 @@
 -- What the files of a cone hold that came back from its lock, by what all workers left in it.
-use Rattle.std.proofs.Common.{◌≡◌, ◌≢◌, ◌⊎◌, ℕ, ◌+◌, ◌%◌, ◌<◌, ◌≤◌, Bool, true, false, List, [], ◌∷◌, ◌++◌, length, Option, Some, slice_get, refl, ap, sym, ◌∙◌, subst, inl, inr, arith, length-append}
-use Rattle.std.proofs.{lemmas.List.Concat.flat_map-append, lemmas.List.Elements.{All-contains, Contains-push}}
+use Rattle.std.proofs.Common.{◌≡◌, ◌≢◌, ◌⊎◌, ℕ, ◌+◌, ◌%◌, ◌<◌, ◌≤◌, Bool, true, false, List, [], ◌∷◌, ◌++◌, length, Option, Some, slice_get, refl, ap, sym, ◌∙◌, subst, inl, inr, arith}
+use Rattle.std.proofs.lemmas.List.Concat.{flat_map-append}
 use Rattle.std.specs.Prelude.{All, Contains}
 use Rattle.lert_base.specs.{Beginning.BeginsWith, Packet.{Packet, events_of, of_trace}, Weave.{IsPartWoven, IsWhole}, declared.cone_fault.ConeFault.ConeFault}
-use Rattle.lert_base.specs.declared.cone_fault.ConeFault.TheVariants.{CapacityFull}
 use Rattle.lert_bay.specs.Files.{Files, IfTold}
 use Rattle.lert_cone.specs.{Sound.{IsSound, IsSoundAs, IsSoundOver}, Stands.{Standing, is_broken}, declared.state.ConeState.TheVariants.Running}
+use Rattle.lert_cone.proofs.SoundLaws.{events_more}
 use Rattle.lert_conelock.proofs.Contained.{item_here}
-use Rattle.lert_spec.specs.{declared.item.Item.Item, declared.numbers.Numbers.Numbers, Edges.capacity}
+use Rattle.lert_spec.specs.{declared.item.Item.Item, declared.numbers.Numbers.Numbers, Counts.{weighed, weight_of}, Edges.{capacity, weight_room}}
 use Rattle.lert_worker.specs.{Brings.HasNoRest, declared.end.WorkerEnd.WorkerEnd, declared.end.WorkerEnd.TheVariants.{Ran, Cone}}
-use Rattle.lert_ingest.specs.{Back.{IsBack, IsFullAt}, Bays.{HoldsKeys, HoldsOpen, HoldsPart}, Shares.{IsShare, LeftIn}, Stops.IsWeaving, Traces.part_length}
-use Rattle.lert_ingest.proofs.{Counting.{part_count, woven_count}, Crew.{crew_part, crew_turned, crew_woven, was_turned}, Gathering.of_trace-own}
-use Rattle.lert_ingest.proofs.{LightLaws.{IsLight, by_capacity, light_events, woven_light}, PartLaws.All-front}
+use Rattle.lert_ingest.specs.{Back.{IsBack, IsFullAt}, Bays.{HoldsFirst, HoldsOpen, HoldsPart}, Shares.{IsShare, LeftIn}, Stops.IsWeaving, Traces.{part_length, part_weight}}
+use Rattle.lert_ingest.proofs.{Counting.{AddsUp, length_adds, part_count, part_sum, weight_adds, woven_count}, Crew.{crew_part, crew_turned, crew_woven, was_turned}, Gathering.of_trace-own}
+use Rattle.lert_ingest.proofs.RuleLaws.{by_rule}
 
 module _ {B : Type 0} (files : B → Option Files) (leaves : B → Files → Type 0) (faults mark : B → ℕ) (s : Numbers) (workers : ℕ) (some : 1 ≤ workers) (number : ℕ)
-    (traces : List (List ℕ)) (shares : ℕ → List ℕ) (reads : ℕ → List (List ℕ)) (stopped : ℕ → ℕ) (ends : ℕ → WorkerEnd)
+    (traces : List (List Item)) (shares : ℕ → List ℕ) (reads : ℕ → List (List Item)) (stopped : ℕ → ℕ) (ends : ℕ → WorkerEnd)
     (shared : (by : ℕ) → by < workers → IsShare workers (length traces) by (shares by)) (added : ℕ → List Packet) (turned : ℕ → List (Packet × ConeFault))
     (left : (by : ℕ) → by < workers → LeftIn s by number (shares by) (reads by) (stopped by) (ends by) (added by) (turned by))
     (first closed : Standing B) (back : IsBack files leaves faults mark s workers number added turned first closed) where
   not_closed : closed.state ≡ Running → closed.listing.closed ≡ false
   not_closed running = back.closed_is (ap is_broken running) ∙ back.unfinished
 
-  module _ (begun : (by place trace : ℕ) (whole : List ℕ) → by < workers → slice_get (shares by) place ≡ Some trace → slice_get traces trace ≡ Some whole →
-      (read : List ℕ) × (slice_get (reads by) place ≡ Some read) × BeginsWith whole read) where
+  module _ (begun : (by place trace : ℕ) (whole : List Item) → by < workers → slice_get (shares by) place ≡ Some trace → slice_get traces trace ≡ Some whole →
+      (read : List Item) × (slice_get (reads by) place ≡ Some read) × BeginsWith whole read) where
     pub woven_part : IsPartWoven s number workers traces back.history
     woven_part = crew_part s number workers some traces shares reads stopped ends added turned shared left back.history back.numbered back.own_are begun
 
@@ -70,41 +70,33 @@ module _ {B : Type 0} (files : B → Option Files) (leaves : B → Files → Typ
         subst (All (IsWhole s.packet)) (sym (of_trace-own back.history trace (trace % workers) (λ k d below same. (woven_part.each k d below).by_is ∙ ap (λ t. t % workers) same)
         ∙ ap (λ (xs : List Packet). of_trace xs trace) (back.own_are (trace % workers) (omega (arith, some))))) none
 
-    -- a packet that was refused over the capacity, and the keys before it
-    pub enough : (by : ℕ) → by < workers → (e : Packet) (f : ConeFault) → Contains (turned by) (e, f) → (full : IsFullAt s back.history e f) →
-        length (events_of full.past) + length e.items ≤ part_length s number traces
-    enough by below e f has full =
-        let count = part_count s number workers traces (back.history ++ e ∷ []) (woven_over by below e f has) in
-        let parts = ap (λ (xs : List Item). length xs) (flat_map-append (λ (p : Packet). p.items) back.history (e ∷ [])) in
-        let sums = length-append (events_of back.history) (events_of (e ∷ [])) in
-        let one = length-append e.items [] in
-        let begins = ap (λ (xs : List Packet). length (events_of xs)) full.begins.splits in
-        let pasts = ap (λ (xs : List Item). length xs) (flat_map-append (λ (p : Packet). p.items) full.past full.begins.rest) in
-        let past_sums = length-append (events_of full.past) (events_of full.begins.rest) in
-        omega (arith, count, parts, sums, one, begins, pasts, past_sums)
+    -- the items of a history, as those of its first packets and the others'
+    parts_of : (e : Packet) (f : ConeFault) (full : IsFullAt s back.history e f) → events_of back.history ≡ events_of full.past ++ events_of full.begins.rest
+    parts_of e f full = ap events_of full.begins.splits ∙ flat_map-append (λ (p : Packet). p.items) full.past full.begins.rest
 
-    pub holds_keys : (e : Packet) (f : ConeFault) (full : IsFullAt s back.history e f) → closed.state ≡ Running → IfTold (files closed.bay)
-        (HoldsKeys s (length (events_of full.past)) number)
-    holds_keys e f full running = λ seen told. record {
+    -- a packet that was refused and those before it have no more items, and weigh no more, than the cone's items of all traces
+    pub enough : (g : List Item → ℕ) → AddsUp g → (by : ℕ) → by < workers → (e : Packet) (f : ConeFault) → Contains (turned by) (e, f) → (full : IsFullAt s back.history e f) →
+        g (events_of full.past) + g e.items ≤ part_sum g s number traces
+    enough g adds by below e f has full =
+        let count = part_count g adds s number workers traces (back.history ++ e ∷ []) (woven_over by below e f has) in
+        let whole = ap g (events_more back.history e) ∙ adds.joins (events_of back.history) e.items in
+        let parts = ap g (parts_of e f full) ∙ adds.joins (events_of full.past) (events_of full.begins.rest) in
+        omega (arith, count, whole, parts)
+
+    pub holds_first : (P : List Item → Type 0) (e : Packet) (f : ConeFault) (full : IsFullAt s back.history e f) → closed.state ≡ Running → P (events_of full.past) →
+        IfTold (files closed.bay) (HoldsFirst s P number)
+    holds_first P e f full running so = λ seen told. record {
       history = back.history;
       before = full.past;
       behind = full.begins.rest;
       history_is = full.begins.splits;
-      counted = refl;
+      first = so;
       sound = of_cone back.history seen (back.stands.whole (ap is_broken running) back.sound seen told).files.kept.as_read.sound;
     }
 
-    -- the items of the packet and those before it weigh 1 each, so it is refused over the capacity
-    pub over_capacity : (by : ℕ) → by < workers → (e : Packet) (f : ConeFault) → Contains (turned by) (e, f) → (full : IsFullAt s back.history e f) →
-        (f ≡ CapacityFull (length (events_of full.past)) (length e.items)) × (capacity s < length (events_of full.past) + length e.items)
-    over_capacity by below e f has full =
-        let light = woven_light s number workers traces (back.history ++ e ∷ []) (woven_over by below e f has) in
-        let past = All-front IsLight full.past full.begins.rest (subst (All IsLight) full.begins.splits (All-front IsLight back.history (e ∷ []) light)) in
-        by_capacity s full.version (events_of full.past) e.items (light_events full.past past) (All-contains IsLight (back.history ++ e ∷ []) e light (Contains-push back.history e)) f
-        full.refused
-
-    -- where the keys of all traces are few enough, nothing is refused over the capacity
-    pub none_full : part_length s number traces ≤ capacity s → closed.state ≡ Running → (by : ℕ) → by < workers → (f : ConeFault) → ends by ≡ Cone number f → ⊥
+    -- where the items of all traces are few enough and light enough, nothing is refused by a rule
+    pub none_full : (part_length s number traces ≤ capacity s) × (part_weight s number traces ≤ weight_room s) → closed.state ≡ Running → (by : ℕ) → by < workers →
+        (f : ConeFault) → ends by ≡ Cone number f → ⊥
     none_full fits running by below f is = by_case (back.refusals by below e.0 f has)
       where
         e : (e : Packet) × (turned by ≡ (e, f) ∷ [])
@@ -115,10 +107,22 @@ module _ {B : Type 0} (files : B → Option Files) (leaves : B → Files → Typ
 
         by_case : (closed.state ≢ Running) ⊎ IsFullAt s back.history e.0 f → ⊥
         by_case (inl stopped) = stopped running
-        by_case (inr full) = let many = enough by below e.0 f has full in let over = (over_capacity by below e.0 f has full).1 in omega (arith, fits, many, over)
+        by_case (inr full) = elim (by_rule s (events_of full.past) e.0.items f full.refused) [
+          | inl rule ↦
+              let many : length (events_of full.past) + length e.0.items ≤ part_length s number traces = enough (λ items. length items) length_adds by below e.0 f has full in
+              let most = fits.0 in
+              let over = rule.over in
+              omega (arith, most, many, over)
+          | inr rule ↦
+              let heavy : weight_of weighed (events_of full.past) + weight_of weighed e.0.items ≤ part_weight s number traces =
+              enough (weight_of weighed) weight_adds by below e.0 f has full in
+              let most = fits.1 in
+              let over = rule.over in
+              omega (arith, most, heavy, over)
+        ]
 
   -- all ran to their ends
-  pub is_weaving : ((by place trace : ℕ) (whole : List ℕ) → by < workers → slice_get (shares by) place ≡ Some trace → slice_get traces trace ≡ Some whole →
+  pub is_weaving : ((by place trace : ℕ) (whole : List Item) → by < workers → slice_get (shares by) place ≡ Some trace → slice_get traces trace ≡ Some whole →
       slice_get (reads by) place ≡ Some whole) → ((by : ℕ) → by < workers → ends by ≡ Ran) → closed.state ≡ Running → IsWeaving files leaves faults s workers traces
       number closed
   is_weaving whole_read all_ran running = record {
@@ -132,11 +136,22 @@ module _ {B : Type 0} (files : B → Option Files) (leaves : B → Files → Typ
     closed_is = not_closed running;
   }
 
--- a cone that weaves all keys takes them
-pub weaving_fits : {B : Type 0} (files : B → Option Files) (leaves : B → Files → Type 0) (faults : B → ℕ) (s : Numbers) (workers number : ℕ) (traces : List (List ℕ)) (cone : Standing B) →
-    IsWeaving files leaves faults s workers traces number cone → part_length s number traces ≤ capacity s
-weaving_fits files leaves faults s workers number traces cone weaving =
-    let count = woven_count s number workers traces weaving.history weaving.woven in
-    let counted = weaving.stands.counted in
-    let within = subst (λ (t : Numbers). cone.events ≤ capacity t) weaving.settings_are weaving.stands.within in
-    omega (arith, count, counted, within)
+-- a cone that weaves all items takes them
+module _ {B : Type 0} (files : B → Option Files) (leaves : B → Files → Type 0) (faults : B → ℕ) (s : Numbers) (workers number : ℕ) (traces : List (List Item)) (cone : Standing B)
+    (weaving : IsWeaving files leaves faults s workers traces number cone) where
+  pub weaving_fits : part_length s number traces ≤ capacity s
+  weaving_fits =
+      let count : part_length s number traces ≤ length (events_of weaving.history) =
+      woven_count (λ items. length items) length_adds s number workers traces weaving.history weaving.woven in
+      let counted = weaving.stands.counted in
+      let within = subst (λ (t : Numbers). cone.events ≤ capacity t) weaving.settings_are weaving.stands.within in
+      omega (arith, count, counted, within)
+
+  -- and their weight, as its journal says
+  pub weaving_light : IfTold (files cone.bay) (λ _. part_weight s number traces ≤ weight_room s)
+  weaving_light seen told =
+      let weight : part_weight s number traces ≤ weight_of weighed (events_of weaving.history) =
+      woven_count (weight_of weighed) weight_adds s number workers traces weaving.history weaving.woven in
+      let sound = (weaving.stands.whole (ap is_broken weaving.state_is) weaving.sound seen told).files.kept.as_read.sound in
+      let light = subst (λ (t : Numbers). weight_of weighed (events_of weaving.history) ≤ weight_room t) weaving.settings_are sound.journal.light in
+      omega (arith, weight, light)

@@ -1,29 +1,31 @@
 -- What the fault shows that is answered, where a crew of workers stopped.
-use Rattle.std.proofs.{Common.{◌≡◌, ◌≢◌, ◌⊎◌, ℕ, ◌+◌, ◌%◌, ◌<◌, ◌≤◌, List, [], ◌∷◌, ◌++◌, length, Some, slice_get, refl, ap, sym, ◌∙◌, subst, inl, inr, arith}, lemmas.List.length-map}
+use Rattle.std.proofs.{Common.{◌≡◌, ◌≢◌, ◌⊎◌, ℕ, ◌*◌, ◌%◌, ◌^◌, ◌<◌, ◌≤◌, List, [], ◌∷◌, ◌++◌, length, Some, slice_get, refl, ap, sym, ◌∙◌, subst, inl, inr, arith}, lemmas.List.length-map}
 use Rattle.std.proofs.{lemmas.List.Elements.{All-contains, Contains-push}, lemmas.Option.{get_or_from_slice_get, none-some, same_Some, slice_get_within}}
-use Rattle.std.specs.Prelude.{All, Contains}
+use Rattle.std.specs.Prelude.{Contains}
 use Rattle.lert_base.specs.{Beginning.BeginsWith, Packet.{Packet, events_of}, declared.cone_fault.ConeFault.ConeFault}
 use Rattle.lert_bay.specs.Files.{Files, IfTold}
+use Rattle.lert_cone.proofs.WeighLaws.{weight_within}
 use Rattle.lert_cone.specs.Stands.{Standing, is_finished}
 use Rattle.lert_base.specs.declared.cone_fault.ConeFault.TheVariants as fault
 use Rattle.lert_cone.specs.declared.state.ConeState.{ConeState}
 use Rattle.lert_cone.specs.declared.state.ConeState.TheVariants as state
 use Rattle.lert_conelock.proofs.Contained.{item_here}
 use Rattle.lert_io.specs.Fault.{HasRisen, IsFaultless}
-use Rattle.lert_spec.specs.Edges.{capacity}
+use Rattle.lert_spec.specs.{declared.item.Item.Item, Counts.{weighed, weight_of}}
 use Rattle.lert_trace.specs.Trace.{left}
 use Rattle.lert_trace.specs.{Reader.Means, declared.fault.TraceFault.TraceFault}
 use Rattle.lert_trace.specs.declared.fault.TraceFault.TheVariants as trace_fault
 use Rattle.lert_worker.specs.{Brings.{HasNoRest, IsOwn}, Ran.StillOpen, Ends.Stopped, declared.end.WorkerEnd.WorkerEnd}
 use Rattle.lert_worker.specs.declared.end.WorkerEnd.TheVariants as end
-use Rattle.lert_ingest.specs.{Back.{IsBack, IsFullAt}, Bays.{AreLater, ArePartWoven, HoldsPart, IsLater, bays_of}}
+use Rattle.lert_ingest.specs.{Back.{IsBack, IsFullAt}, Bays.{AreLater, ArePartWoven, HoldsItems, HoldsPart, HoldsWeight, IfHeld, IsLater, bays_of}}
 use Rattle.lert_ingest.specs.{Faults.{earliest, end_fault, fault_at, fault_of, full_fault, rank, state_fault}, Shares.{IsShare, LeftIn}, Status.stop_status, Stops.{AreOpenPartly, StopShows}}
-use Rattle.lert_ingest.specs.{Traces.most_keys, declared.status.Status.Status}
+use Rattle.lert_ingest.specs.{Traces.most_items, declared.status.Status.Status}
 use Rattle.lert_ingest.specs.declared.status.Status.TheVariants as status
 use Rattle.lert_ingest.proofs.{BayLaws.{bay_at, slice_get-some, untold_since}, Crew.{turned_part, was_turned}, Crewed.{Crewed, first_fault}, FaultOrder.{IsFirstOf, each_of, of_all, of_two}}
-use Rattle.lert_ingest.proofs.{Holding.{enough, holds_keys, holds_open, holds_part, no_rest_of, over_capacity}, Told.{all_begun, all_keys, are_keys}}
+use Rattle.lert_ingest.proofs.{Counting.{length_adds, weight_adds}, Holding.{enough, holds_first, holds_open, holds_part, no_rest_of}}
+use Rattle.lert_ingest.proofs.{RuleLaws.{IsOverCapacity, IsOverWeight, by_rule}, Told.{all_begun, all_read, are_items}}
 
--- a full cone ranks behind all that break one
+-- a cone that is full, or whose weight is, ranks behind all that break one
 full_ranks : (cone : ℕ) (f : ConeFault) (one : Status) → full_fault cone f ≡ Some one → 6 ≤ rank one
 full_ranks cone fault.Closed one none = absurd (none-some one none)
 full_ranks cone fault.Broken one none = absurd (none-some one none)
@@ -37,17 +39,17 @@ module _ {S B : Type 0} (crew : Crewed S B) where
   open crew.read use {remaining, s_faults, s_mark, workers, some, opened, laters, shares, reads, was, readings, places, stopped, ends, run}
   open crew use {files, leaves, b_faults, b_mark, s, firsts, backs, added, turned, left_by}
 
-  abbrev pub traces : List (List ℕ)
-  traces = (all_keys crew.read).items
+  abbrev pub traces : List (List Item)
+  traces = (all_read crew.read).items
 
   traces_number : length traces ≡ length opened
-  traces_number = (all_keys crew.read).number
+  traces_number = (all_read crew.read).number
 
   pub shared : (by : ℕ) → by < workers → IsShare workers (length traces) by (shares by)
   shared by below = subst (λ n. IsShare workers n by (shares by)) (sym traces_number) (run.shared by below)
 
-  pub begun : (by place trace : ℕ) (keys : List ℕ) → by < workers → slice_get (shares by) place ≡ Some trace → slice_get traces trace ≡ Some keys →
-      (read : List ℕ) × (slice_get (reads by) place ≡ Some read) × BeginsWith keys read
+  pub begun : (by place trace : ℕ) (items : List Item) → by < workers → slice_get (shares by) place ≡ Some trace → slice_get traces trace ≡ Some items →
+      (read : List Item) × (slice_get (reads by) place ≡ Some read) × BeginsWith items read
   begun = all_begun crew.read
 
   -- a cone that came back, by its place
@@ -113,7 +115,7 @@ module _ {S B : Type 0} (crew : Crewed S B) where
     pub given : ℕ
     pub opened_is : slice_get opened trace ≡ Some before
     pub later_is : slice_get laters trace ≡ Some now
-    pub means : Means remaining s_faults before now most_keys given f
+    pub means : Means remaining s_faults before now most_items given f
 
   pub trace_stop : (by : ℕ) → by < workers → (trace : ℕ) (f : TraceFault) → ends by ≡ end.Trace trace f → IsStop trace f
   trace_stop by below trace f is =
@@ -164,7 +166,7 @@ module _ {S B : Type 0} (crew : Crewed S B) where
             let up = rose faultless.below_last in let same = faultless.same in omega (arith, up, same))
         by_state (state.BrokenByRead file at) is = absurd (none-some seen (sym (c.back.stands.by_read file at is c.back.sound) ∙ told))
 
-    -- each cone may take more, where a full cone is answered
+    -- each cone may take more, where a full cone is answered, or one whose weight is
     running_all : 6 ≤ rank one → (cone : ℕ) (c : IsCone cone) → c.closed.state ≡ state.Running
     running_all above cone c = by_state c.closed.state refl
       where
@@ -179,7 +181,7 @@ module _ {S B : Type 0} (crew : Crewed S B) where
         OpenPartly open_trace
     open_partly open_trace no_rest = record {
       traces = traces;
-      keys = are_keys crew.read;
+      items = are_items crew.read;
       woven = parts_woven;
       still = λ cone before now was_is is faultless seen told.
           let found = cone_of_bay cone now is in
@@ -219,10 +221,11 @@ module _ {S B : Type 0} (crew : Crewed S B) where
           shows : (f : TraceFault) → IsStop trace f → Shows (stop_status trace f)
           shows trace_fault.ReadFailed stop = StopShows.trace_fault trace (record { before = stop.before; now = stop.now; was = stop.opened_is; is = stop.later_is; rose = stop.means }) opens
           shows (trace_fault.BadHeader at) stop = bad at stop (λ bytes told. (stop.means.1 bytes told).place)
-          shows (trace_fault.CutKey at) stop = bad at stop (λ bytes told. (stop.means.1 bytes told).place)
+          shows (trace_fault.CutKey at) stop = bad at stop (λ bytes told. (stop.means.1 bytes told).leaves.place)
+          shows (trace_fault.ZeroWeight at) stop = bad at stop (λ bytes told. (stop.means.1 bytes told).leaves.place)
           shows trace_fault.TooLong stop = StopShows.too_long trace (record { before = stop.before; was = stop.opened_is; told = stop.means.1 }) opens
 
-      -- a cone that refused a packet by its rule, which is one over its capacity
+      -- a cone that refused a packet by its rule
       module _ (cone : ℕ) (f : ConeFault) (is : ends by ≡ end.Cone cone f) (above : 6 ≤ rank one) where
         c : IsCone cone
         c = cone_at cone (left_by.named by cone f below is)
@@ -236,48 +239,74 @@ module _ {S B : Type 0} (crew : Crewed S B) where
         full : IsFullAt s c.back.history e.0 f
         full = elim (c.back.refusals by below e.0 f has) [ inl broke ↦ absurd (broke (running_all above cone c)) | inr refused ↦ refused ]
 
-        abbrev n : ℕ
-        n = length (events_of full.past)
+        abbrev past : List Item
+        past = events_of full.past
 
-        abbrev len : ℕ
-        len = length e.0.items
-
-        over : (f ≡ fault.CapacityFull n len) × (capacity s < n + len)
-        over = over_capacity files leaves b_faults b_mark s workers some cone traces shares reads stopped ends shared (added cone) (turned cone) c.left c.first c.closed c.back begun by below
-            e.0 f has full
+        abbrev refused : List Item
+        refused = e.0.items
 
         opens : OpenPartly (λ other t. (cone ≤ other) × (t ≡ stopped by))
         opens = open_partly (λ other t. (cone ≤ other) × (t ≡ stopped by)) (λ other trace c at. none_at (end.Cone cone f) is (λ e. absurd (let clash = e in cc)) other trace c at.0 at.1)
 
-        by_full : Shows (status.CapacityFull cone n len)
-        by_full =
-            let own_e = last_own (shares by) (added cone by) e.0
-            (turned_part s by cone (shares by) (reads by) (stopped by) (ends by) (added cone by) (turned cone by) (c.left by below) e.0 f e.1).each in
-            let many = enough files leaves b_faults b_mark s workers some cone traces shares reads stopped ends shared (added cone) (turned cone) c.left c.first c.closed c.back begun by
-            below e.0 f has full in
-            let keys = holds_keys files leaves b_faults b_mark s workers some cone traces shares reads stopped ends shared (added cone) (turned cone) c.left c.first c.closed c.back begun
-            e.0 f full (running_all above cone c) in
-            StopShows.capacity_full cone n len (record {
-              named = subst (λ k. cone < k) left_by.cones_are (left_by.named by cone f below is);
-              some = own_e.some;
-              few = own_e.few;
-              over = over.1;
-              journal = λ bay there seen told.
-                  let bay_is = same_Some c.closed.bay bay (sym (bay_at backs cone c.closed c.closed_is) ∙ there) in
-                  keys seen (ap files bay_is ∙ told);
-            }) (record { traces = traces; keys = are_keys crew.read; enough = many }) (stopped by) opens
+        named : cone < 2 ^ s.cone_bits
+        named = subst (λ k. cone < k) left_by.cones_are (left_by.named by cone f below is)
+
+        own_e : IsOwn s by (shares by) e.0
+        own_e = All-contains (IsOwn s by (shares by)) (added cone by ++ e.0 ∷ []) e.0
+            (turned_part s by cone (shares by) (reads by) (stopped by) (ends by) (added cone by) (turned cone by) (c.left by below) e.0 f e.1).each (Contains-push (added cone by) e.0)
+
+        -- what is so of its files, where its bay tells them
+        held : (P : Files → Type 0) → IfTold (files c.closed.bay) P → IfHeld files (bays_of backs) cone P
+        held P so = λ bay there seen told.
+            let bay_is = same_Some c.closed.bay bay (sym (bay_at backs cone c.closed c.closed_is) ∙ there) in
+            so seen (ap files bay_is ∙ told)
+
+        by_capacity : IsOverCapacity s past refused f → Shows (status.CapacityFull cone (length past) (length refused))
+        by_capacity rule = StopShows.capacity_full cone (length past) (length refused) (record {
+          named = named;
+          some = own_e.some;
+          few = own_e.few;
+          over = rule.over;
+          journal = held (HoldsItems s (length past) cone) (holds_first files leaves b_faults b_mark s workers some cone traces shares reads stopped ends shared (added cone) (turned cone)
+              c.left c.first c.closed c.back begun (λ items. length items ≡ length past) e.0 f full (running_all above cone c) refl);
+        }) (record {
+          traces = traces;
+          items = are_items crew.read;
+          enough = enough files leaves b_faults b_mark s workers some cone traces shares reads stopped ends shared (added cone) (turned cone) c.left c.first c.closed c.back begun
+              (λ items. length items) length_adds by below e.0 f has full;
+        }) (stopped by) opens
+
+        by_weight : IsOverWeight s past refused f → Shows (status.WeightFull cone (weight_of weighed past) (weight_of weighed refused))
+        by_weight rule = StopShows.weight_full cone (weight_of weighed past) (weight_of weighed refused) (record {
+          named = named;
+          some = let w = weighs.0 in let n = own_e.some in omega (arith, w, n);
+          few = let w = weighs.1 in let n = own_e.few in omega (arith, w, n);
+          over = rule.over;
+          journal = held (HoldsWeight s (weight_of weighed past) cone) (holds_first files leaves b_faults b_mark s workers some cone traces shares reads stopped ends shared (added cone)
+              (turned cone) c.left c.first c.closed c.back begun (λ items. weight_of weighed items ≡ weight_of weighed past) e.0 f full (running_all above cone c) refl);
+        }) (record {
+          traces = traces;
+          items = are_items crew.read;
+          enough = enough files leaves b_faults b_mark s workers some cone traces shares reads stopped ends shared (added cone) (turned cone) c.left c.first c.closed c.back begun
+              (weight_of weighed) weight_adds by below e.0 f has full;
+        }) (stopped by) opens
           where
-            last_own : (share : List ℕ) (xs : List Packet) (x : Packet) → All (IsOwn s by share) (xs ++ x ∷ []) → IsOwn s by share x
-            last_own share xs x all = All-contains (IsOwn s by share) (xs ++ x ∷ []) x all (Contains-push xs x)
+            -- as many items of the second version weigh so much
+            weighs : (length refused ≤ weight_of weighed refused) × (weight_of weighed refused ≤ 255 * length refused)
+            weighs = weight_within 2 refused own_e.weights
+
+        by_refusal : full_fault cone f ≡ Some one → Shows one
+        by_refusal same = elim (by_rule s past refused f full.refused) [
+          | inl rule ↦ subst Shows (same_Some (status.CapacityFull cone (length past) (length refused)) one (sym (ap (full_fault cone) rule.fault_is) ∙ same)) (by_capacity rule)
+          | inr rule ↦ subst Shows (same_Some (status.WeightFull cone (weight_of weighed past) (weight_of weighed refused)) one (sym (ap (full_fault cone) rule.fault_is) ∙ same)) (by_weight rule)
+        ]
 
       by_end : (e : WorkerEnd) → ends by ≡ e → end_fault e ≡ Some one → Shows one
       by_end end.Ran is none = absurd (none-some one none)
       by_end (end.Trace trace f) is same =
           subst Shows (same_Some (stop_status trace f) one same) (by_fault trace f is)
       by_end (end.Cone cone f) is same =
-          let above = full_ranks cone f one same in
-          let which = sym (ap (full_fault cone) (over cone f is above).0) ∙ same in
-          subst Shows (same_Some (status.CapacityFull cone (n cone f is above) (len cone f is above)) one which) (by_full cone f is above)
+          by_refusal cone f is (full_ranks cone f one same) same
 
     -- a cone broke: which traces were still open isn't said
     open_broken : OpenPartly (λ _ _. ⊥)

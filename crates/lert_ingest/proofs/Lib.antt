@@ -4,7 +4,7 @@ pub mod Gathering
 pub mod Counting
 pub mod Crew
 pub mod Ended
-pub mod LightLaws
+pub mod RuleLaws
 pub mod Holding
 pub mod FaultOrder
 pub mod PartLaws

@@ -1,6 +1,6 @@
 -- Tests of numbers, and parts of lists.
-use Rattle.std.proofs.{Common.{◌≡◌, ℕ, ◌+◌, true, eqb, List, [], ◌∷◌, ◌++◌, length, subst, inl, inr, arith, length-append}, lemmas.Bool.{cases_eq, ne_eqb}}
-use Rattle.std.proofs.{lemmas.List.get_or-append-add, lemmas.List.Elements.{All-cons, All-head, All-nil, All-tail}}
+use Rattle.std.proofs.{Common.{◌≡◌, ℕ, ◌+◌, true, eqb, List, ◌++◌, length, subst, inl, inr, arith, length-append}, lemmas.Bool.{cases_eq, ne_eqb}}
+use Rattle.std.proofs.{lemmas.List.get_or-append-add}
 use Rattle.std.specs.Prelude.{All}
 
 pub eqb_true : (a b : ℕ) → eqb a b ≡ true → a ≡ b
@@ -9,10 +9,6 @@ eqb_true a b equal =
       | inl same ↦ same
       | inr other ↦ absurd (let differs = ne_eqb a b other in cc)
     ]
-
-pub All-front : {X : Type 0} (P : X → Type 0) (xs ys : List X) → All P (xs ++ ys) → All P xs
-All-front P [] ys all = All-nil P
-All-front P (x ∷ xs) ys all = All-cons P x xs (All-head P x (xs ++ ys) all) (All-front P xs ys (All-tail P x (xs ++ ys) all))
 
 pub All-behind : {X : Type 0} (P : X → Type 0) (xs ys : List X) → All P (xs ++ ys) → All P ys
 All-behind P xs ys all = λ k d below. subst P (get_or-append-add xs ys k d) (all (length xs + k) d (omega (arith, below, length-append xs ys)))

@@ -1,13 +1,14 @@
--- The keys of all traces, by what was read of each.
+-- The items of all traces, by what was read of each.
 use Rattle.std.proofs.Common.{◌≡◌, ℕ, ◌%◌, ◌<◌, zero, suc, List, [], ◌∷◌, ◌++◌, length, take, drop, Option, Some, None, slice_get, refl, ap, sym, ◌∙◌, subst, inl, inr, arith, append-nil}
 use Rattle.std.proofs.{Common.length-append, lemmas.Bool.cases_lt, lemmas.List.{take-append-drop, take_all}, lemmas.Option.{get_or_from_slice_get, none-some, same_Some, slice_get_within}}
 use Rattle.lert_base.specs.Beginning.{BeginsWith}
 use Rattle.lert_io.specs.Reading.{IfTold}
+use Rattle.lert_spec.specs.declared.item.Item.{Item}
 use Rattle.lert_trace.specs.Trace.{whole}
 use Rattle.lert_trace.specs.Reader.{Reading}
 use Rattle.lert_worker.specs.Ends.{IsAtEnd, WasRead}
 use Rattle.lert_ingest.proofs.{Crewed.ReadCrew, BayLaws.{slice_get-first, slice_get-seam}}
-use Rattle.lert_ingest.specs.{Crews.{IsReadOf, fresh_reader}, Traces.AreKeysOf}
+use Rattle.lert_ingest.specs.{Crews.{IsReadOf, fresh_reader}, Traces.AreItemsOf}
 
 -- a list of what there is at each place
 pub record IsListOf {A : Type 0} (count : ℕ) (P : ℕ → A → Type 0) : Type 0 where
@@ -34,17 +35,17 @@ list_of P (suc count) each =
       ];
     }
 
--- the first keys begin all of them
-begins_taken : (keys all : List ℕ) (n : ℕ) → keys ≡ take n all → BeginsWith all keys
-begins_taken keys all n is = (drop n all, ap (λ xs. xs ++ drop n all) is ∙ take-append-drop n all)
+-- the first items begin all of them
+begins_taken : (items all : List Item) (n : ℕ) → items ≡ take n all → BeginsWith all items
+begins_taken items all n is = (drop n all, ap (λ xs. xs ++ drop n all) is ∙ take-append-drop n all)
 
 module _ {S : Type 0} (remaining : S → Option (List ℕ)) (faults mark : S → ℕ) where
-  -- what was read of a trace begins its keys, and is them all at its end
-  pub read_begins : (before : S) (now : Reading S) (read bytes : List ℕ) → WasRead remaining faults mark (fresh_reader before) now read → remaining before ≡ Some bytes
+  -- what was read of a trace begins its items, and is them all at its end
+  pub read_begins : (before : S) (now : Reading S) (read : List Item) (bytes : List ℕ) → WasRead remaining faults mark (fresh_reader before) now read → remaining before ≡ Some bytes
       → BeginsWith (whole bytes) read
   read_begins before now read bytes was told = begins_taken read (whole bytes) (length read) (was.told bytes told)
 
-  pub read_whole : (before : S) (now : Reading S) (read bytes : List ℕ) → WasRead remaining faults mark (fresh_reader before) now read → remaining before ≡ Some bytes
+  pub read_whole : (before : S) (now : Reading S) (read : List Item) (bytes : List ℕ) → WasRead remaining faults mark (fresh_reader before) now read → remaining before ≡ Some bytes
       → IsAtEnd remaining now →
       read ≡ whole bytes
   read_whole before now read bytes was told at_end =
@@ -56,12 +57,12 @@ module _ {S : Type 0} (remaining : S → Option (List ℕ)) (faults mark : S →
 module _ {S : Type 0} (crew : ReadCrew S) where
   open crew use {remaining, s_faults, s_mark, workers, some, opened, laters, shares, reads, was, readings, places, stopped, ends, run}
 
-  -- the keys of a trace, read to their end or not
-  pub record IsKeysAt (trace : ℕ) (keys : List ℕ) : Type 0 where
-    pub told : (before : S) → slice_get opened trace ≡ Some before → IfTold (remaining before) (λ bytes. keys ≡ whole bytes)
-    pub begun : (by place : ℕ) → by < workers → slice_get (shares by) place ≡ Some trace → (read : List ℕ) × (slice_get (reads by) place ≡ Some read) × BeginsWith keys read
+  -- the items of a trace, read to their end or not
+  pub record AreAt (trace : ℕ) (items : List Item) : Type 0 where
+    pub told : (before : S) → slice_get opened trace ≡ Some before → IfTold (remaining before) (λ bytes. items ≡ whole bytes)
+    pub begun : (by place : ℕ) → by < workers → slice_get (shares by) place ≡ Some trace → (read : List Item) × (slice_get (reads by) place ≡ Some read) × BeginsWith items read
     pub untold : (before : S) → slice_get opened trace ≡ Some before → remaining before ≡ None →
-        (by place : ℕ) → by < workers → slice_get (shares by) place ≡ Some trace → slice_get (reads by) place ≡ Some keys
+        (by place : ℕ) → by < workers → slice_get (shares by) place ≡ Some trace → slice_get (reads by) place ≡ Some items
 
   -- the worker and the place of a trace
   by_trace : (by place trace : ℕ) → by < workers → slice_get (shares by) place ≡ Some trace → (trace < length opened) × (trace % workers ≡ by)
@@ -84,22 +85,22 @@ module _ {S : Type 0} (crew : ReadCrew S) where
       let place_same = (run.shared (trace % workers) (named trace)).once (there_is trace below).0 place trace (there_is trace below).1 there_same in
       subst (λ n. P n place) same (subst (P (trace % workers)) place_same here)
 
-  keys_at : (trace : ℕ) → trace < length opened → (keys : List ℕ) × IsKeysAt trace keys
-  keys_at trace below = by_case (remaining of.before) refl
+  items_at : (trace : ℕ) → trace < length opened → (items : List Item) × AreAt trace items
+  items_at trace below = by_case (remaining of.before) refl
     where
-      at : (now : Reading S) × (read : List ℕ) × (slice_get (readings (trace % workers)) (there_is trace below).0 ≡ Some now)
+      at : (now : Reading S) × (read : List Item) × (slice_get (readings (trace % workers)) (there_is trace below).0 ≡ Some now)
           × (slice_get (reads (trace % workers)) (there_is trace below).0 ≡ Some read) × IsReadOf remaining s_faults s_mark opened laters trace now read
       at = run.each (trace % workers) (there_is trace below).0 trace (named trace) (there_is trace below).1
 
       of : IsReadOf remaining s_faults s_mark opened laters trace at.0 at.1
       of = at.4
 
-      by_case : (told : Option (List ℕ)) → remaining of.before ≡ told → (keys : List ℕ) × IsKeysAt trace keys
+      by_case : (told : Option (List ℕ)) → remaining of.before ≡ told → (items : List Item) × AreAt trace items
       by_case None none = (
         at.1,
         record {
           told = λ before there bytes told. absurd (none-some bytes (sym none ∙ (ap remaining (same_Some of.before before (sym of.was ∙ there)) ∙ told)));
-          begun = only_there trace below (λ by place. (read : List ℕ) × (slice_get (reads by) place ≡ Some read) × BeginsWith at.1 read) (at.1, at.3, ([], append-nil at.1));
+          begun = only_there trace below (λ by place. (read : List Item) × (slice_get (reads by) place ≡ Some read) × BeginsWith at.1 read) (at.1, at.3, ([], append-nil at.1));
           untold = λ before there untold. only_there trace below (λ by place. slice_get (reads by) place ≡ Some at.1) at.3;
         },
       )
@@ -108,38 +109,38 @@ module _ {S : Type 0} (crew : ReadCrew S) where
         record {
           told = λ before there others told'.
               ap whole (same_Some bytes others (sym told ∙ (ap remaining (same_Some of.before before (sym of.was ∙ there)) ∙ told')));
-          begun = only_there trace below (λ by place. (read : List ℕ) × (slice_get (reads by) place ≡ Some read) × BeginsWith (whole bytes) read)
+          begun = only_there trace below (λ by place. (read : List Item) × (slice_get (reads by) place ≡ Some read) × BeginsWith (whole bytes) read)
               (at.1, at.3, read_begins remaining s_faults s_mark of.before at.0 at.1 bytes of.read_is told);
           untold = λ before there untold. absurd (none-some bytes (sym untold ∙ (ap remaining (same_Some before of.before (sym there ∙ of.was)) ∙ told)));
         },
       )
 
-  pub all_keys : IsListOf (length opened) IsKeysAt
-  all_keys = list_of IsKeysAt (length opened) keys_at
+  pub all_read : IsListOf (length opened) AreAt
+  all_read = list_of AreAt (length opened) items_at
 
-  pub are_keys : AreKeysOf remaining opened all_keys.items
-  are_keys = record { number = all_keys.number; each = λ trace before keys there is. (all_keys.each trace keys is).told before there }
+  pub are_items : AreItemsOf remaining opened all_read.items
+  are_items = record { number = all_read.number; each = λ trace before items there is. (all_read.each trace items is).told before there }
 
   -- what was read begins them
-  pub all_begun : (by place trace : ℕ) (keys : List ℕ) → by < workers → slice_get (shares by) place ≡ Some trace → slice_get all_keys.items trace ≡ Some keys →
-      (read : List ℕ) × (slice_get (reads by) place ≡ Some read) × BeginsWith keys read
-  all_begun by place trace keys below there is = (all_keys.each trace keys is).begun by place below there
+  pub all_begun : (by place trace : ℕ) (items : List Item) → by < workers → slice_get (shares by) place ≡ Some trace → slice_get all_read.items trace ≡ Some items →
+      (read : List Item) × (slice_get (reads by) place ≡ Some read) × BeginsWith items read
+  all_begun by place trace items below there is = (all_read.each trace items is).begun by place below there
 
   -- and is them all, where each reader stands at its end
   pub all_whole : ((by place : ℕ) (now : Reading S) → by < workers → slice_get (readings by) place ≡ Some now → IsAtEnd remaining now) →
-      (by place trace : ℕ) (keys : List ℕ) → by < workers → slice_get (shares by) place ≡ Some trace → slice_get all_keys.items trace ≡ Some keys → slice_get (reads by)
-      place ≡ Some keys
-  all_whole at_ends by place trace keys below there is = by_case (remaining of.before) refl
+      (by place trace : ℕ) (items : List Item) → by < workers → slice_get (shares by) place ≡ Some trace → slice_get all_read.items trace ≡ Some items →
+      slice_get (reads by) place ≡ Some items
+  all_whole at_ends by place trace items below there is = by_case (remaining of.before) refl
     where
-      at : (now : Reading S) × (read : List ℕ) × (slice_get (readings by) place ≡ Some now) × (slice_get (reads by) place ≡ Some read) × IsReadOf remaining s_faults s_mark opened
+      at : (now : Reading S) × (read : List Item) × (slice_get (readings by) place ≡ Some now) × (slice_get (reads by) place ≡ Some read) × IsReadOf remaining s_faults s_mark opened
           laters trace now read
       at = run.each by place trace below there
 
       of : IsReadOf remaining s_faults s_mark opened laters trace at.0 at.1
       of = at.4
 
-      by_case : (told : Option (List ℕ)) → remaining of.before ≡ told → slice_get (reads by) place ≡ Some keys
-      by_case None none = (all_keys.each trace keys is).untold of.before of.was none by place below there
+      by_case : (told : Option (List ℕ)) → remaining of.before ≡ told → slice_get (reads by) place ≡ Some items
+      by_case None none = (all_read.each trace items is).untold of.before of.was none by place below there
       by_case (Some bytes) told =
           at.3 ∙ ap Some (read_whole remaining s_faults s_mark of.before at.0 at.1 bytes of.read_is told (at_ends by place at.0 below at.2) ∙ sym
-          ((all_keys.each trace keys is).told of.before of.was bytes told))
+          ((all_read.each trace items is).told of.before of.was bytes told))

@@ -2,17 +2,16 @@
 use Rattle.std.specs.Prelude.{◌≡◌, ◌≢◌, ◌⊎◌, ℕ, ◌<◌, ◌≤◌, false, All, Contains, List, length, Option, Some, slice_get}
 use Rattle.lert_base.specs.{Packet.{Packet, events_of, own}, declared.cone_fault.ConeFault.ConeFault}
 use Rattle.lert_bay.specs.Files.{Files, Turns}
-use Rattle.lert_cone.specs.{Refuses.IsRefused, Stands.{Standing, StandsFor, WasSound, is_broken, is_finished}, declared.state.ConeState.TheVariants.Running, Wrote.Anything}
+use Rattle.lert_cone.specs.{History.most_version, Refuses.IsRefused, Stands.{Standing, StandsFor, WasSound, is_broken, is_finished}, declared.state.ConeState.TheVariants.Running, Wrote.Anything}
 use Rattle.lert_conelock.specs.Prefix.{IsPrefix}
 use Rattle.lert_spec.specs.{declared.numbers.Numbers.Numbers, Counts.{weighed, weight_of}}
 use Rattle.lert_ingest.specs.Bays.{IsLater}
 
--- a packet was refused by its cone's rule, as the cone had the items of the first packets of a history, in files of some version
+-- a packet was refused by its cone's rule, as the cone had the items of the first packets of a history, in files that it made
 pub record IsFullAt (s : Numbers) (history : List Packet) (packet : Packet) (fault : ConeFault) : Type 0 where
   pub past : List Packet
   pub begins : IsPrefix past history
-  pub version : ℕ
-  pub refused : IsRefused s version (length (events_of past)) (weight_of weighed (events_of past)) packet.items fault
+  pub refused : IsRefused s most_version (length (events_of past)) (weight_of weighed (events_of past)) packet.items fault
 
 -- what a look at a cone says of its bay since the cone was made, and of its closing record
 pub record IsSeen {B : Type 0} (files : B → Option Files) (faults mark : B → ℕ) (cone : Standing B) : Type 0 where

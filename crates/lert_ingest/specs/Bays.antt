@@ -4,7 +4,7 @@ use Rattle.lert_base.specs.{Packet.{Packet, events_of, of_trace}, Weave.{IsWhole
 use Rattle.lert_bay.specs.Files.{Files, IfTold, Turns}
 use Rattle.lert_cone.specs.{Sound.{AreEmpty, IsSound, IsSoundAs, IsSoundClosed}, Stands.Standing}
 use Rattle.lert_io.specs.Fault.{HasRisen, IsFaultless}
-use Rattle.lert_spec.specs.declared.numbers.Numbers.{Numbers}
+use Rattle.lert_spec.specs.{declared.item.Item.Item, declared.numbers.Numbers.Numbers, Counts.{weighed, weight_of}}
 
 -- the bays of cones
 abbrev pub bays_of : {B : Type 0} → List (Standing B) → List B
@@ -85,34 +85,42 @@ AreFaultlessTo faults last bays later = EachBay (λ cone before now. cone ≤ la
 abbrev pub AreToldFresh : {B : Type 0} → (B → Option Files) → List B → Type 0
 AreToldFresh {B = B} files bays = (cone : ℕ) (bay : B) → slice_get bays cone ≡ Some bay → (seen : Files) × (files bay ≡ Some seen) × AreEmpty seen
 
--- the files of a cone are so for a weave of its part of the keys of all traces
-pub record HoldsAll (s : Numbers) (workers : ℕ) (traces : List (List ℕ)) (cone : ℕ) (are_so : List Packet → Files → Type 0) (seen : Files) : Type 0 where
+-- the files of a cone are so for a weave of its part of the items of all traces
+pub record HoldsAll (s : Numbers) (workers : ℕ) (traces : List (List Item)) (cone : ℕ) (are_so : List Packet → Files → Type 0) (seen : Files) : Type 0 where
   pub history : List Packet
   pub woven : IsWoven s cone workers traces history
   pub sound : are_so history seen
 
 -- they are sound for one, and closed
-abbrev pub HoldsWeave : Numbers → ℕ → List (List ℕ) → ℕ → Files → Type 0
+abbrev pub HoldsWeave : Numbers → ℕ → List (List Item) → ℕ → Files → Type 0
 HoldsWeave s workers traces cone = HoldsAll s workers traces cone (IsSoundClosed s cone)
 
--- the files of a cone are sound for a weave of beginnings of its part of the keys of all traces
-pub record HoldsPart (s : Numbers) (workers : ℕ) (traces : List (List ℕ)) (cone : ℕ) (seen : Files) : Type 0 where
+-- the files of a cone are sound for a weave of beginnings of its part of the items of all traces
+pub record HoldsPart (s : Numbers) (workers : ℕ) (traces : List (List Item)) (cone : ℕ) (seen : Files) : Type 0 where
   pub history : List Packet
   pub woven : IsPartWoven s cone workers traces history
   pub sound : IsSound s cone history seen
 
--- the files of a cone are sound for packets of which the first so many have a number of keys together
-pub record HoldsKeys (s : Numbers) (number cone : ℕ) (seen : Files) : Type 0 where
+-- the files of a cone are sound for packets of which this is so of the items of the first so many
+pub record HoldsFirst (s : Numbers) (are_so : List Item → Type 0) (cone : ℕ) (seen : Files) : Type 0 where
   pub history : List Packet
   pub before : List Packet
   pub behind : List Packet
   pub history_is : history ≡ before ++ behind
-  pub counted : length (events_of before) ≡ number
+  pub first : are_so (events_of before)
   pub sound : IsSound s cone history seen
 
--- The files of a cone are sound for a weave of beginnings of its part of the keys of all traces, and not closed. Of a trace that
+-- they have a number of items together
+abbrev pub HoldsItems : Numbers → ℕ → ℕ → Files → Type 0
+HoldsItems s number cone = HoldsFirst s (λ items. length items ≡ number) cone
+
+-- they weigh so much together
+abbrev pub HoldsWeight : Numbers → ℕ → ℕ → Files → Type 0
+HoldsWeight s weight cone = HoldsFirst s (λ items. weight_of weighed items ≡ weight) cone
+
+-- The files of a cone are sound for a weave of beginnings of its part of the items of all traces, and not closed. Of a trace that
 -- was still open there each packet is whole, so that nothing of what waits for a whole packet was handed out.
-pub record HoldsOpen (s : Numbers) (workers : ℕ) (traces : List (List ℕ)) (open_trace : ℕ → ℕ → Type 0) (cone : ℕ) (seen : Files) : Type 0 where
+pub record HoldsOpen (s : Numbers) (workers : ℕ) (traces : List (List Item)) (open_trace : ℕ → ℕ → Type 0) (cone : ℕ) (seen : Files) : Type 0 where
   pub history : List Packet
   pub woven : IsPartWoven s cone workers traces history
   pub sound : IsSoundAs s cone false history seen
@@ -132,14 +140,14 @@ abbrev pub AreUnused : {B : Type 0} → (B → Option Files) → Numbers → Lis
 AreUnused files s bays later = EachBay (IsUnused files s) bays later
 
 -- each bay that tells its files holds a weave
-abbrev pub AreWoven : {B : Type 0} → (B → Option Files) → Numbers → ℕ → List B → List (List ℕ) → Type 0
+abbrev pub AreWoven : {B : Type 0} → (B → Option Files) → Numbers → ℕ → List B → List (List Item) → Type 0
 AreWoven {B = B} files s workers bays traces = (cone : ℕ) → IfHeld files bays cone (HoldsWeave s workers traces cone)
 
 -- each bay that tells its files holds a weave of beginnings
-abbrev pub ArePartWoven : {B : Type 0} → (B → Option Files) → Numbers → ℕ → List B → List (List ℕ) → Type 0
+abbrev pub ArePartWoven : {B : Type 0} → (B → Option Files) → Numbers → ℕ → List B → List (List Item) → Type 0
 ArePartWoven {B = B} files s workers bays traces = (cone : ℕ) → IfHeld files bays cone (HoldsPart s workers traces cone)
 
 -- and each of which no fault was counted holds one that isn't closed
-abbrev pub AreOpenWoven : {B : Type 0} → (B → Option Files) → (B → ℕ) → Numbers → ℕ → (ℕ → ℕ → Type 0) → List B → List B → List (List ℕ) → Type 0
+abbrev pub AreOpenWoven : {B : Type 0} → (B → Option Files) → (B → ℕ) → Numbers → ℕ → (ℕ → ℕ → Type 0) → List B → List B → List (List Item) → Type 0
 AreOpenWoven files faults s workers open_trace bays later traces = EachBay (λ cone before now. IsFaultless (faults before) (faults now)
     → IfTold (files now) (HoldsOpen s workers traces open_trace cone)) bays later

@@ -1,20 +1,21 @@
 -- Cones that were just made, and their memory.
 use Rattle.std.specs.Prelude.{◌≡◌, ℕ, length, false, List, [], Option, Some, slice_get}
 use Rattle.lert_bay.specs.Files.{Files}
-use Rattle.lert_cone.specs.{declared.room.ConeRoom.ConeRoom, Room.IsRoom, Stands.{Standing, StandsFor, WasSound}, declared.state.ConeState.TheVariants.Running}
-use Rattle.lert_cone.specs.History.{most_version}
+use Rattle.lert_cone.specs.{declared.room.ConeRoom.ConeRoom, History.most_version, Room.IsRoom, Stands.{Standing, StandsFor, WasSound, version_of}, declared.state.ConeState.TheVariants.Running}
 use Rattle.lert_spec.specs.declared.numbers.Numbers.{Numbers}
 
 -- the memory of a cone with these settings, as it is made
 abbrev pub IsNewRoom : {T C : Type 0} → Numbers → ConeRoom T C → Type 0
 IsNewRoom s room = (room.settings ≡ s) × IsRoom room.settings room.zero room.levels room.store room.entry.keys (length room.buffer.items)
 
--- a cone of a number was just made: it stands for no packet yet, over files that were sound for none, and may take some
+-- a cone of a number was just made: it stands for no packet yet, over files that were sound for none, of the greatest version, and
+-- may take some
 pub record IsNew {B : Type 0} (files : B → Option Files) (leaves : B → Files → Type 0) (faults : B → ℕ) (s : Numbers) (number : ℕ) (cone : Standing B) : Type 0 where
   pub stands : StandsFor files leaves faults cone []
   pub sound : WasSound files cone
   pub made_is : cone.made ≡ cone.bay
   pub listing_is : cone.listing ≡ record { settings = s; version = most_version; cone = number; events = []; closed = false }
+  pub version_is : version_of cone ≡ most_version
   pub state_is : cone.state ≡ Running
 
 -- each cone of a list, by its place

@@ -1,7 +1,7 @@
 -- How traces are shared out among workers, and what each worker leaves in a cone.
 use Rattle.std.specs.Prelude.{◌≡◌, ℕ, ◌%◌, ◌<◌, ◌++◌, ◌∷◌, List, [], map, All, Some, slice_get}
 use Rattle.lert_base.specs.{Beginning.BeginsWith, Packet.{Packet, events_of, of_trace}, Weave.AreCut, declared.cone_fault.ConeFault.ConeFault}
-use Rattle.lert_spec.specs.{declared.numbers.Numbers.Numbers, Items.units, Mix.part_of}
+use Rattle.lert_spec.specs.{declared.item.Item.Item, declared.numbers.Numbers.Numbers, Counts.weighed, Mix.part_in}
 use Rattle.lert_worker.specs.{Brings.{HasNoRest, IsOwn}, Ran.{IsTurned, StillOpen}, declared.end.WorkerEnd.WorkerEnd, declared.end.WorkerEnd.TheVariants.Ran}
 
 -- the traces of a worker, of so many workers and traces: all those that leave its number behind, in ascending order
@@ -15,22 +15,22 @@ pub record IsShare (workers count number : ℕ) (traces : List ℕ) : Type 0 whe
 abbrev pub AreReadBySame : ℕ → ℕ → ℕ → Type 0
 AreReadBySame workers others count = (trace : ℕ) → trace < count → trace % workers ≡ trace % others
 
--- packets of a worker to a cone, of which the items of each trace's join to the cone's part of the keys that were read of it, each of
--- which weighs 1, or to a beginning of that part, in whatever order the traces are
-pub record HasAll (s : Numbers) (number cone : ℕ) (share : List ℕ) (reads : List (List ℕ)) (packets : List Packet) : Type 0 where
+-- packets of a worker to a cone, of which the items of each trace's join to the cone's part of the items that were read of it, or to
+-- a beginning of that part, in whatever order the traces are
+pub record HasAll (s : Numbers) (number cone : ℕ) (share : List ℕ) (reads : List (List Item)) (packets : List Packet) : Type 0 where
   pub each : All (IsOwn s number share) packets
-  pub joined : (place trace : ℕ) (keys : List ℕ) → slice_get share place ≡ Some trace → slice_get reads place ≡ Some keys
-      → events_of (of_trace packets trace) ≡ units (part_of s cone keys)
+  pub joined : (place trace : ℕ) (items : List Item) → slice_get share place ≡ Some trace → slice_get reads place ≡ Some items
+      → events_of (of_trace packets trace) ≡ part_in weighed s cone items
   pub cut : (trace : ℕ) → AreCut s.packet (of_trace packets trace)
 
-pub record HasPart (s : Numbers) (number cone : ℕ) (share : List ℕ) (reads : List (List ℕ)) (packets : List Packet) : Type 0 where
+pub record HasPart (s : Numbers) (number cone : ℕ) (share : List ℕ) (reads : List (List Item)) (packets : List Packet) : Type 0 where
   pub each : All (IsOwn s number share) packets
-  pub joined : (place trace : ℕ) (keys : List ℕ) → slice_get share place ≡ Some trace → slice_get reads place ≡ Some keys
-      → BeginsWith (units (part_of s cone keys)) (events_of (of_trace packets trace))
+  pub joined : (place trace : ℕ) (items : List Item) → slice_get share place ≡ Some trace → slice_get reads place ≡ Some items
+      → BeginsWith (part_in weighed s cone items) (events_of (of_trace packets trace))
   pub cut : (trace : ℕ) → AreCut s.packet (of_trace packets trace)
 
 -- what a worker leaves in a cone: the packets that were taken in, and the one that was refused, by how it ended
-pub record LeftIn (s : Numbers) (number cone : ℕ) (share : List ℕ) (reads : List (List ℕ)) (stopped : ℕ) (end : WorkerEnd)
+pub record LeftIn (s : Numbers) (number cone : ℕ) (share : List ℕ) (reads : List (List Item)) (stopped : ℕ) (end : WorkerEnd)
     (added : List Packet) (turned : List (Packet × ConeFault)) : Type 0 where
   pub turned_is : IsTurned end cone turned
   pub part : HasPart s number cone share reads (added ++ map (λ pair. pair.0) turned)

@@ -47,6 +47,7 @@ stop_status trace fault.ReadFailed = status.TraceFault trace
 stop_status trace (fault.BadHeader at) = status.BadTrace trace at
 stop_status trace (fault.CutKey at) = status.BadTrace trace at
 stop_status trace fault.TooLong = status.TooLong trace
+stop_status trace (fault.ZeroWeight at) = status.BadTrace trace at
 
 -- a finished cone and a broken one refuse every call, and an old journal takes no weights; none is met by a run
 abbrev pub cone_status : ℕ → ConeFault → Status

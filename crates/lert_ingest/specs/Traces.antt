@@ -1,12 +1,12 @@
--- What is known of the traces of a run: those that were opened, the same ones later, and the keys of all.
-use Rattle.std.specs.Prelude.{◌≡◌, ℕ, ◌+◌, ◌^◌, ◌<◌, ◌≤◌, List, [], length, map, sum_by, Option, Some, None, slice_get}
+-- What is known of the traces of a run: those that were opened, the same ones later, and the items of all.
+use Rattle.std.specs.Prelude.{◌≡◌, ◌⊎◌, ℕ, ◌+◌, ◌^◌, ◌<◌, ◌≤◌, List, [], flat_map, length, map, sum_by, Option, Some, None, slice_get}
 use Rattle.lert_io.specs.{Fault.{HasRisen, IsFaultless}, Reading.IfTold}
-use Rattle.lert_spec.specs.{declared.numbers.Numbers.Numbers, Edges.capacity, Mix.part_of}
+use Rattle.lert_spec.specs.{declared.item.Item.Item, declared.numbers.Numbers.Numbers, Counts.{weighed, weight_of}, Edges.{capacity, weight_room}, Mix.part_in}
 use Rattle.lert_trace.specs.Trace.{left, whole}
 
--- the most keys that a trace may have, 2^36
-abbrev pub most_keys : ℕ
-most_keys = 68719476736
+-- the most items that a trace may have, 2^36
+abbrev pub most_items : ℕ
+most_items = 68719476736
 
 -- the same trace later: its mark is the same, and its count of faults never falls
 pub record IsTraceLater {S : Type 0} (faults mark : S → ℕ) (opened now : S) : Type 0 where
@@ -22,11 +22,11 @@ pub record AreTracesLater {S : Type 0} (faults mark : S → ℕ) (opened later :
 abbrev pub AtTrace : {S : Type 0} → (S → S → Type 0) → List S → List S → ℕ → Type 0
 AtTrace {S = S} R opened later trace = (before now : S) → slice_get opened trace ≡ Some before → slice_get later trace ≡ Some now → R before now
 
--- the keys of all traces: of each that tells its bytes all whole keys
-pub record AreKeysOf {S : Type 0} (remaining : S → Option (List ℕ)) (opened : List S) (traces : List (List ℕ)) : Type 0 where
+-- the items of all traces: of each that tells its bytes all whole items
+pub record AreItemsOf {S : Type 0} (remaining : S → Option (List ℕ)) (opened : List S) (traces : List (List Item)) : Type 0 where
   pub number : length traces ≡ length opened
-  pub each : (trace : ℕ) (before : S) (keys : List ℕ) → slice_get opened trace ≡ Some before → slice_get traces trace ≡ Some keys
-      → IfTold (remaining before) (λ bytes. keys ≡ whole bytes)
+  pub each : (trace : ℕ) (before : S) (items : List Item) → slice_get opened trace ≡ Some before → slice_get traces trace ≡ Some items
+      → IfTold (remaining before) (λ bytes. items ≡ whole bytes)
 
 -- all traces tell their bytes, and these are they
 abbrev pub AreBytesOf : {S : Type 0} → (S → Option (List ℕ)) → List S → List (List ℕ) → Type 0
@@ -35,7 +35,7 @@ AreBytesOf remaining opened texts = map remaining opened ≡ map Some texts
 -- bytes are a trace within the limit, and were read to their end
 pub record IsReadToEnd (bytes : List ℕ) (remaining : Option (List ℕ)) : Type 0 where
   pub well_formed : left bytes ≡ None
-  pub few : length (whole bytes) ≤ most_keys
+  pub few : length (whole bytes) ≤ most_items
   pub read : remaining ≡ Some []
 
 -- so each trace that tells its bytes
@@ -62,18 +62,30 @@ pub record IsOpened {S : Type 0} (remaining : S → Option (List ℕ)) (opened :
   pub was : slice_get opened trace ≡ Some before
   pub told : IfTold (remaining before) P
 
--- how many keys of all traces belong to a cone
-abbrev pub part_length : Numbers → ℕ → List (List ℕ) → ℕ
-part_length s cone traces = sum_by (λ keys. length (part_of s cone keys)) traces
+-- the items of all traces, one behind the other
+abbrev pub all_items : List (List Item) → List Item
+all_items traces = flat_map (λ items. items) traces
 
--- each cone takes its part of the keys of all traces
-abbrev pub AllFit : Numbers → List (List ℕ) → Type 0
-AllFit s traces = (cone : ℕ) → cone < 2 ^ s.cone_bits → part_length s cone traces ≤ capacity s
+-- how many items of all traces belong to a cone
+abbrev pub part_length : Numbers → ℕ → List (List Item) → ℕ
+part_length s cone traces = sum_by (λ items. length (part_in weighed s cone items)) traces
 
--- a cone has more keys in all traces than it takes
-abbrev pub IsOver : Numbers → List (List ℕ) → ℕ → Type 0
-IsOver s traces cone = capacity s < part_length s cone traces
+-- and what they weigh
+abbrev pub part_weight : Numbers → ℕ → List (List Item) → ℕ
+part_weight s cone traces = sum_by (λ items. weight_of weighed (part_in weighed s cone items)) traces
 
--- a cone has as many keys in all traces as a beginning of its journal and a packet together, or more
-abbrev pub HasThem : Numbers → List (List ℕ) → ℕ → ℕ → ℕ → Type 0
+-- each cone takes its part of the items of all traces, by their number and by their weight
+abbrev pub AllFit : Numbers → List (List Item) → Type 0
+AllFit s traces = (cone : ℕ) → cone < 2 ^ s.cone_bits → (part_length s cone traces ≤ capacity s) × (part_weight s cone traces ≤ weight_room s)
+
+-- a cone has more items in all traces than it takes, or more weight
+abbrev pub IsOver : Numbers → List (List Item) → ℕ → Type 0
+IsOver s traces cone = (capacity s < part_length s cone traces) ⊎ (weight_room s < part_weight s cone traces)
+
+-- a cone has as many items in all traces as a beginning of its journal and a packet together, or more
+abbrev pub HasThem : Numbers → List (List Item) → ℕ → ℕ → ℕ → Type 0
 HasThem s traces cone n len = n + len ≤ part_length s cone traces
+
+-- and as much weight
+abbrev pub HasWeight : Numbers → List (List Item) → ℕ → ℕ → ℕ → Type 0
+HasWeight s traces cone weight more = weight + more ≤ part_weight s cone traces

@@ -39,9 +39,9 @@ pub type Ingested<S, B, T> = (VecDeque<S>, Vec<Cone<B, T>>, Result<(), Status>);
 ///
 /// Trace t is read by worker t modulo their number; those that would read none aren't made. Answers the traces and the cones in
 /// their order. With Ok all was read, and the cones take more packets. Of several faults that of the lowest trace is answered; else
-/// the lowest bad trace; else the lowest trace with more than 2^36 keys; else the lowest cone that its bay broke; else the lowest
-/// that a read broke; else the lowest that is full. The memory of locks, workers and rings is taken before the first byte of a trace
-/// is read, and where it is wanting none is.
+/// the lowest bad trace; else the lowest trace with more than 2^36 items; else the lowest cone that its bay broke; else the lowest
+/// that a read broke; else the lowest that is full; else the lowest whose weight is. The memory of locks, workers and rings is taken
+/// before the first byte of a trace is read, and where it is wanting none is.
 pub fn ingest<S: Source + Send, B: Bay + Send, T: CountTable + Send, R: Threads + Wait + Sync>(
     rt: &R,
     alloc: Global,

@@ -8,7 +8,7 @@ ghost use Rattle.lert_worker.specs.Ran.{Working};
 use lert_base::Held;
 use lert_cone::ConeFault;
 use lert_io::Source;
-use lert_trace::{MOST_KEYS, TraceReader};
+use lert_trace::{MOST_ITEMS, TraceReader};
 use lert_worker::{GiveRefused, Worker};
 use std::collections::VecDeque;
 
@@ -55,7 +55,7 @@ fn give_one<S: Source, H: Held<Refusal = ConeFault>>(
 {
     let by = trace as usize % crew.len(); // so that a worker's traces ascend
     let worker = &mut crew[by];
-    match worker.give(trace, TraceReader::new(source, MOST_KEYS)) {
+    match worker.give(trace, TraceReader::new(source, MOST_ITEMS)) {
         Ok(()) => Ok(()),
         Err(GiveRefused { reader }) => Err(reader.into_source()),
     }

@@ -21,13 +21,13 @@ pub enum Status {
     TraceFault { trace: u32 },
     /// The bytes of a trace leave its format first at the offset `at`.
     BadTrace { trace: u32, at: u64 },
-    /// A trace has more than 2^36 keys.
+    /// A trace has more than 2^36 items.
     TooLong { trace: u32 },
     /// A file of this cone has some bytes, and those of the cones below it have none.
     NotFresh { cone: u32 },
     /// A call of this cone's bay failed.
     BayFault { cone: u32 },
-    /// A cone has `n` keys, and the `len` of the next packet are more than it takes besides.
+    /// A cone has `n` items, and the `len` of the next packet are more than it takes besides.
     CapacityFull { cone: u32, n: u64, len: u64 },
     /// A file of this cone, by its number, left its format at the place `at`. In a run, which wrote it itself, it
     /// comes only where the cone's bay doesn't tell its files.
@@ -103,10 +103,9 @@ impl Status {
     {
         match fault {
             TraceFault::ReadFailed => Status::TraceFault { trace },
-            TraceFault::BadHeader { at } | TraceFault::CutKey { at } => Status::BadTrace {
-                trace,
-                at,
-            },
+            TraceFault::BadHeader { at }
+            | TraceFault::CutKey { at }
+            | TraceFault::ZeroWeight { at } => Status::BadTrace { trace, at },
             TraceFault::TooLong => Status::TooLong { trace },
         }
     }

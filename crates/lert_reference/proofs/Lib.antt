@@ -4,3 +4,4 @@ mod LookExamples
 pub mod Deciding
 pub mod InOrder
 pub mod TimelyTests
+pub mod TraceLaws

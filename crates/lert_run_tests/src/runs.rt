@@ -15,6 +15,7 @@ mod faults;
 mod generated;
 mod reports;
 mod usage;
+mod weights;
 
 // Wants the status and the text, and that all came back that is opened for such a status.
 fn ends_opened(rt: &impl Abort, ended: &Ended, cones: u32, status: Status, text: &str) {

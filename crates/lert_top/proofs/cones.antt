@@ -2,6 +2,7 @@ pub mod AskedLaws
 pub mod ClosedLaws
 pub mod ConeLaws
 pub mod ConeTexts
+pub mod TakenLaws
 pub mod EndLaws
 pub mod FinishLaws
 pub mod FreshLaws
@@ -9,5 +10,4 @@ pub mod HeavyLaws
 pub mod PrintedLaws
 pub mod StatusLaws
 pub mod TraceSums
-pub mod UnitLaws
 pub mod WovenLaws

@@ -4,3 +4,4 @@ pub mod DrillTexts
 pub mod HeavyTimes
 pub mod NewBays
 pub mod SameKeys
+pub mod UnitLaws

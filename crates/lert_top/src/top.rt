@@ -33,12 +33,12 @@ use std::thread::Threads;
 
 /// Does what the line asks for. Of the random bytes that it takes of the system nothing depends but how long it takes.
 ///
-/// `run` reports each key that occurs as often as the line's threshold says, in all traces together, soon after it does. It
+/// `run` reports each key that weighs as much as the line's threshold says, in all traces together, soon after it does. It
 /// opens the line's traces in their order and then the bays of all cones in its directory, looks whether these are empty,
 /// writes their headers, has the line's workers read the traces to their ends into the cones, each packet of which goes to the
 /// cone's journal, closes the cones, prints, and puts all back, in this order, and stops at the first fault; what was opened is
 /// put back in each case. Nothing is written to the sink before all traces were read to their ends. What it holds in memory is
-/// the cones with their locks, for each worker that has a trace 4P keys for each cone and 4P more, where P is the line's packet,
+/// the cones with their locks, for each worker that has a trace 4P items for each cone and 4P more, where P is the line's packet,
 /// the traces with their readers, and a page of text.
 ///
 /// `recover` opens what runs left, as `recover_to` does; `gen` writes a trace of generated keys, as `gen_to` does; `drill` does

@@ -1,6 +1,8 @@
 pub mod Agreed
 pub mod Beginning
+pub mod Examples
+pub mod Format
+pub mod Heading
 pub mod Pending
 pub mod Standing
-pub mod Heading
 pub mod Steps

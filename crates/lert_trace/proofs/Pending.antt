@@ -96,9 +96,9 @@ module _ (block slid into : List ℕ) (start end : ℕ) (is : IsBlock block star
       (sym (take-put_mid_below (end - start) (4096 - (end - start)) slid into (end - start) (omega arith) fits ∙ moved))
       (StillAhead-same before after (drop start (take end block)) same)
 
--- a block of which the eight bytes in front were taken
-pub IsBlock-taken : (block : List ℕ) (start end : ℕ) → IsBlock block start end → 8 ≤ length (drop start (take end block)) → IsBlock block (start + 8) end
-IsBlock-taken block start end is enough = record {
+-- a block of which so many bytes in front were taken
+pub IsBlock-taken : (block : List ℕ) (start end count : ℕ) → IsBlock block start end → count ≤ length (drop start (take end block)) → IsBlock block (start + count) end
+IsBlock-taken block start end count is enough = record {
   sized = is.sized;
   ordered = omega (arith, enough, length-pending block start end is);
   within = is.within;

@@ -1,7 +1,8 @@
 -- What a step of a reader keeps.
 use Rattle.std.proofs.Common.{◌≡◌, ◌≢◌, ℕ, ◌+◌, ◌*◌, ◌≤◌, Option, Some, None, Result, Ok, Err, refl, sym, ap, ◌∙◌, subst, arith}
 use Rattle.std.specs.Prelude.{IfErr, IfSome}
-use Rattle.lert_trace.specs.{declared.fault.TraceFault.TraceFault, declared.fault.TraceFault.TheVariants.{ReadFailed, CutKey, TooLong}, Reader.{Reading, IsSameReader}}
+use Rattle.lert_spec.specs.declared.item.Item.{Item}
+use Rattle.lert_trace.specs.{declared.fault.TraceFault.TraceFault, declared.fault.TraceFault.TheVariants.{ReadFailed, CutKey, TooLong, ZeroWeight}, Reader.{Reading, IsSameReader}}
 
 -- one step after another
 pub same_again : {S : Type 0} (old mid new : Reading S) → IsSameReader old mid → IsSameReader mid new → IsSameReader old new
@@ -27,6 +28,9 @@ cut_no_failure at same = cc
 pub long_no_failure : {T : Type 0} → ◌≡◌ {A = Result T TraceFault} (Err TooLong) (Err ReadFailed) → ⊥
 long_no_failure same = cc
 
+pub weightless_no_failure : {T : Type 0} (at : ℕ) → ◌≡◌ {A = Result T TraceFault} (Err (ZeroWeight at)) (Err ReadFailed) → ⊥
+weightless_no_failure at same = cc
+
 pub no_err : {T E : Type 0} (result : Result T E) (P : E → Type 0) (x : T) → result ≡ Ok x → IfErr result P
 no_err result P x is = subst (λ r. IfErr r P) (sym is) tt
 
@@ -50,6 +54,16 @@ below_limit given limit within apart = omega (arith, within, apart)
 pub none_less : (n : ℕ) → n ≤ n
 none_less n = omega arith
 
--- a place of a key is behind the header
-pub behind_header : (given : ℕ) → 8 ≤ 8 + 8 * given
-behind_header given = omega arith
+-- an item begins behind the header, and its weight stands behind a key
+pub behind_header : (size given : ℕ) → 8 ≤ 8 + size * given
+behind_header size given = omega arith
+
+pub behind_key : (size given : ℕ) → 16 ≤ 8 + size * given + 8
+behind_key size given = omega arith
+
+-- an item whose weight isn't 0
+pub one_at_least : (weight : ℕ) → weight ≢ 0 → 1 ≤ weight
+one_at_least weight some = omega (arith, some)
+
+pub weighs_some : (item read : Item) → read ≡ item → read.weight ≢ 0 → 1 ≤ item.weight
+weighs_some item read is some = subst (λ (i : Item). 1 ≤ i.weight) is (one_at_least read.weight some)

@@ -1,5 +1,7 @@
 -- A source together with the bytes that were read from it and not taken yet.
-use Rattle.std.specs.Prelude.{◌≡◌, ℕ, ◌≤◌, ◌++◌, List, [], length, Option, Some, None}
+use Rattle.std.specs.Prelude.{◌≡◌, ℕ, ◌≤◌, ◌==◌, ◌++◌, List, [], get_or, length, Option, Some, None, if◌then◌else◌}
+use Rattle.byteorder.specs.Endian.{little_from}
+use Rattle.lert_spec.specs.declared.item.Item.{Item}
 
 pub record Buffered (S : Type 0) : Type 0 where
   pub source : S
@@ -19,3 +21,7 @@ pub record StillAhead (before after : Option (List ℕ)) (old new : List ℕ) : 
 -- a source that tells its bytes has none left
 abbrev pub IsAtEnd : Option (List ℕ) → Option (List ℕ) → Type 0
 IsAtEnd before after = (bytes : List ℕ) → before ≡ Some bytes → after ≡ Some []
+
+-- the item of a version whose bytes stand in front
+abbrev pub item_in : ℕ → List ℕ → Item
+item_in version bytes = record { key = little_from 0 8 bytes; weight = if version == 1 then 1 else get_or bytes 8 0 }

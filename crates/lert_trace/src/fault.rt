@@ -9,10 +9,12 @@ pub enum TraceFault {
     ReadFailed,
     /// The bytes differ from a trace's header first at `at`, or end there inside it.
     BadHeader { at: u64 },
-    /// The last key begins at `at` and has fewer than eight bytes.
+    /// The last item begins at `at` and has fewer bytes than one of the trace's version.
     CutKey { at: u64 },
-    /// There are more keys than the reader's limit.
+    /// There are more items than the reader's limit.
     TooLong,
+    /// The weight at `at` is 0.
+    ZeroWeight { at: u64 },
 }
 
 impl From<Failed> for TraceFault {

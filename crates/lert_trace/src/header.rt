@@ -1,9 +1,8 @@
 //! The header of a trace.
 
-ghost use Rattle.std.specs.Prelude.{◌≡◌, ◌≤◌, ◌++◌, ℕ, List, drop, Some, None, IfErr, OnOk, OnErr};
+ghost use Rattle.std.specs.Prelude.{◌≡◌, ◌≤◌, ◌++◌, ℕ, List, drop, Some, None, IfErr, IfOk, OnOk, OnErr};
 ghost use Rattle.lert_io.specs.Reading.{IfTold};
-ghost use Rattle.lert_spec.specs.Agreed.{agreed};
-ghost use Rattle.lert_trace.specs.Trace.{trace_header};
+ghost use Rattle.lert_trace.specs.Trace.{header_len, trace_header, version_in};
 ghost use Rattle.lert_trace.specs.Header.{HeaderFault};
 ghost use Rattle.lert_trace.specs.Window.{StillAhead};
 
@@ -11,13 +10,19 @@ use crate::fault::TraceFault;
 use crate::window::Window;
 use lert_io::Source;
 
-// The letters LERT, and version 1.
-const HEADER: [u8; 8] = [0x4c, 0x45, 0x52, 0x54, 0x01, 0x00, 0x00, 0x00];
+/// How many bytes a header has.
+pub const HEADER: usize = 8;
 
-/// Takes the header off the bytes of a window.
-pub fn read_header<S: Source>(window: &mut Window<S>) -> Result<(), TraceFault>
+// The place of the version in it.
+const VERSION_AT: usize = 4;
+
+/// Takes the header off the bytes of a window, and answers its version, 1 or 2.
+pub fn read_header<S: Source>(window: &mut Window<S>) -> Result<u8, TraceFault>
     ensures header { IfTold (S.remaining window.old.source) (λ bytes.
-        OnOk result (agreed trace_header (window.old.pending ++ bytes) ≡ 8)) }
+        OnOk result (header_len (window.old.pending ++ bytes) ≡ 8)) }
+    ensures version { IfTold (S.remaining window.old.source) (λ bytes.
+        IfOk result (λ version. version ≡ version_in (window.old.pending ++ bytes))) }
+    ensures within { IfOk result (λ version. (1 ≤ version) × (version ≤ 2)) }
     ensures taken { IfTold (S.remaining window.old.source) (λ bytes. OnOk result
         ((rest : List ℕ) × (S.remaining window.new.source ≡ Some rest)
         × (window.new.pending ++ rest ≡ drop 8 (window.old.pending ++ bytes)))) }
@@ -29,11 +34,31 @@ pub fn read_header<S: Source>(window: &mut Window<S>) -> Result<(), TraceFault>
     ensures never_falls { S.faults window.old.source ≤ S.faults window.new.source }
     ensures mark { S.mark window.new.source ≡ S.mark window.old.source }
 {
-    let _ = window.fill()?;
-    let agreed = window.agreed(&HEADER);
-    if agreed < HEADER.len() {
+    let _ = window.fill(HEADER)?;
+    let version = named_version(window);
+    let agreed = window.agreed(&header_of(version));
+    if agreed < HEADER {
         return Err(TraceFault::BadHeader { at: agreed as u64 });
     }
-    let _ = window.take_number();
-    Ok(())
+    window.take(HEADER);
+    Ok(version)
+}
+
+// The version that the pending bytes name, where they name one.
+fn named_version<S: Source>(window: &Window<S>) -> u8
+    ensures value { result ≡ version_in window.now.pending }
+    ensures within { (1 ≤ result) × (result ≤ 2) }
+{
+    if window.byte_at(VERSION_AT) == Some(2) {
+        2
+    } else {
+        1
+    }
+}
+
+// The letters LERT, and a version.
+fn header_of(version: u8) -> [u8; 8]
+    ensures { result ≡ trace_header version }
+{
+    [0x4c, 0x45, 0x52, 0x54, version, 0x00, 0x00, 0x00]
 }

@@ -1,9 +1,9 @@
-//! The trace reader: keys out of the bytes of a trace, one at a time.
+//! The trace reader: items out of the bytes of a trace, with weights or without, one at a time.
 //!
 //! The one contract is that of `TraceReader::next`: over a source that tells its bytes it gives the
-//! keys that stand wholly in them, in order and up to a limit, ends exactly where they are a trace,
+//! items that stand wholly in them, in order and up to a limit, ends exactly where they are a trace,
 //! and else names the place at which they leave the format. It takes no memory, and calls its source
-//! at most once for 500 keys where that fills what it is given. The workers and the top call read
+//! at most once for 450 items where that fills what it is given. The workers and the top call read
 //! their traces through it.
 #![tactic(auto)]
 
@@ -13,4 +13,4 @@ mod reader;
 mod window;
 
 pub use fault::TraceFault;
-pub use reader::{MOST_KEYS, TraceReader};
+pub use reader::{MOST_ITEMS, TraceReader};

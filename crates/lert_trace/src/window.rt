@@ -1,21 +1,29 @@
 //! A window on a source: the bytes that were read from it and not taken yet.
 
-ghost use Rattle.std.specs.Prelude.{◌≡◌, ◌+◌, ◌-◌, ◌<◌, ◌≤◌, [], length, take, drop, IsTrue, false, IfOk};
-ghost use Rattle.byteorder.specs.Endian.{little_from};
+ghost use Rattle.std.specs.Prelude.{◌≡◌, ◌+◌, ◌-◌, ◌<◌, ◌≤◌, [], length, slice_get, take, drop, IsTrue, false, IfOk};
 ghost use Rattle.lert_io.specs.Fault.{HasCause};
 ghost use Rattle.lert_spec.specs.Agreed.{agreed};
-ghost use Rattle.lert_trace.specs.Window.{StillAhead, IsAtEnd};
+ghost use Rattle.lert_trace.specs.Trace.{item_size};
+ghost use Rattle.lert_trace.specs.Window.{StillAhead, IsAtEnd, item_in};
 
 use byteorder::{ByteOrder, LittleEndian};
 use lert_io::{Failed, Source};
-use lert_spec::agreed;
+use lert_spec::{Item, agreed};
 use std::marker::Model;
 
-/// How many bytes a window holds at most: those of 512 keys.
+/// How many bytes a window holds at most: those of 455 items, or of 512 without weights.
 pub const BLOCK: usize = 4096;
 
 /// How many bytes a key has.
-pub const KEY: usize = 8;
+const KEY: usize = 8;
+
+/// How many bytes an item of a version has: a key's, and with version 2 one of its weight.
+pub fn item_size(version: u8) -> usize
+    ensures value { result ≡ item_size version }
+    ensures within { (8 ≤ result) × (result ≤ 9) }
+{
+    if version == 1 { KEY } else { KEY + 1 }
+}
 
 /// A source and the bytes of it that are pending, seen as both.
 #[derive(Drop)]
@@ -65,21 +73,38 @@ impl<S: Source> Window<S> {
         agreed(text, &self.block[self.start..self.end])
     }
 
-    /// Takes the eight bytes in front, as the number whose lowest byte comes first.
-    pub fn take_number(&mut self) -> u64
-        requires { 8 ≤ length self.old.pending }
-        ensures number { result ≡ little_from 0 8 self.old.pending }
-        ensures pending { self.new.pending ≡ drop 8 self.old.pending }
+    /// The pending byte at a place, from 0, where there is one.
+    pub fn byte_at(&self, place: usize) -> Option<u8>
+        ensures { result ≡ slice_get self.now.pending place }
+    {
+        self.block[self.start..self.end].get(place).copied()
+    }
+
+    /// The item of a version whose bytes stand in front.
+    pub fn item(&self, version: u8) -> Item
+        requires { item_size version ≤ length self.now.pending }
+        ensures { result ≡ item_in version self.now.pending }
+    {
+        let bytes = &self.block[self.start..self.end];
+        let weight = if version == 1 { 1 } else { bytes[KEY] };
+        Item {
+            key: LittleEndian::read_u64(bytes),
+            weight,
+        }
+    }
+
+    /// Takes so many bytes off the front.
+    pub fn take(&mut self, count: usize)
+        requires { count ≤ length self.old.pending }
+        ensures pending { self.new.pending ≡ drop count self.old.pending }
         ensures source { self.new.source ≡ self.old.source }
     {
-        let number = LittleEndian::read_u64(&self.block[self.start..self.end]);
-        self.start += KEY;
-        number
+        self.start += count;
     }
 
     // One call of the source.
     fn read_more(&mut self) -> Result<usize, Failed>
-        requires { length self.old.pending < 8 }
+        requires { length self.old.pending < 4096 }
         ensures ahead { StillAhead (S.remaining self.old.source) (S.remaining self.new.source)
             self.old.pending self.new.pending }
         ensures more { IfOk result (λ count. length self.new.pending ≡ length self.old.pending + count) }
@@ -97,19 +122,20 @@ impl<S: Source> Window<S> {
         Ok(count)
     }
 
-    /// Reads on until eight bytes are pending, and answers whether they are: else the source has no
-    /// byte left. What is still to come of it is the same, also after `Failed`.
-    pub fn fill(&mut self) -> Result<bool, Failed>
+    /// Reads on until so many bytes are pending, at most 4,096, and answers whether they are: else the
+    /// source has no byte left. What is still to come of it is the same, also after `Failed`.
+    pub fn fill(&mut self, count: usize) -> Result<bool, Failed>
+        requires { count ≤ 4096 }
         ensures ahead { StillAhead (S.remaining self.old.source) (S.remaining self.new.source)
             self.old.pending self.new.pending }
-        ensures enough { IfOk result (λ full. IsTrue full → 8 ≤ length self.new.pending) }
-        ensures short { IfOk result (λ full. full ≡ false → length self.new.pending < 8) }
+        ensures enough { IfOk result (λ full. IsTrue full → count ≤ length self.new.pending) }
+        ensures short { IfOk result (λ full. full ≡ false → length self.new.pending < count) }
         ensures at_end { IfOk result (λ full. full ≡ false →
             IsAtEnd (S.remaining self.old.source) (S.remaining self.new.source)) }
         ensures cause { HasCause (S.faults self.old.source) (S.faults self.new.source) result }
         ensures mark { S.mark self.new.source ≡ S.mark self.old.source }
     {
-        while self.len() < KEY {
+        while self.len() < count {
             if self.read_more()? == 0 {
                 return Ok(false);
             }

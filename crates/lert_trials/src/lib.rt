@@ -16,4 +16,4 @@ pub use pair::run_pair;
 pub use runs::{
     Ended, Row, Two, recover_files, run_at, run_before_failing, run_on, run_row, run_two,
 };
-pub use traces::{HEADER, trace, trace_with};
+pub use traces::{HEADER, WEIGHED_HEADER, trace, trace_with, weighed_trace};

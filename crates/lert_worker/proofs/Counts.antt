@@ -1,4 +1,4 @@
--- How many keys and tries a ring counts, and how many takes a pass lost.
+-- How many items and tries a ring counts, and how many takes a pass lost.
 use Rattle.std.proofs.Common.{◌≡◌, ◌≢◌, ◌⊎◌, ℕ, zero, suc, ◌+◌, ◌-◌, ◌*◌, ◌/◌, ◌<◌, ◌≤◌, Bool, true, false, cond, eqb, ◌||◌}
 use Rattle.std.proofs.Common.{refl, ap, sym, ◌∙◌, inl, inr, arith}
 use Rattle.std.proofs.Common.{div-mul-le_self, mul-le-mul_left, mul-le-mul_right, suc-mul}
@@ -9,7 +9,7 @@ use Rattle.lert_conelock.specs.Sight.{Sight, Counts}
 use Rattle.lert_conelock.proofs.Prefixes.{prefix_itself, prefix_trans}
 use Rattle.lert_buffers.specs.declared.buffers.Fill.TheVariants.{Low, MustGo, Ready}
 
--- a number of packets is at most the number of their keys
+-- a number of packets is at most the number of their items
 pub times_least : (k packet : ℕ) → 1 ≤ packet → k ≤ k * packet
 times_least k packet some = let more = mul-le-mul_left k some in omega (arith, more)
 
@@ -17,7 +17,7 @@ times_least k packet some = let more = mul-le-mul_left k some in omega (arith, m
 pub step_back : (m packet tried : ℕ) → 1 ≤ packet → suc m * packet ≤ tried + 1 → m * packet ≤ tried
 step_back m packet tried some within = omega (arith, suc-mul m packet)
 
--- a packet was late for as many tries as whole packets of keys stand before its last key
+-- a packet was late for as many tries as whole packets of items stand before its last item
 late_from : (packet n q : ℕ) → 1 ≤ n → q * packet ≤ n + packet - 1 → 1 ≤ packet → (q - 1) * packet < n
 late_from packet n zero some within least = omega arith
 late_from packet n (suc m) some within least =
@@ -57,7 +57,7 @@ must_all true b is = refl
 must_all false true is = absurd (cc)
 must_all false false is = absurd (cc)
 
--- so many keys are some whole packets, at most four
+-- so many items are some whole packets, at most four
 pub record AreWhole (packet n : ℕ) : Type 0 where
   pub times : ℕ
   pub least : 1 ≤ times

@@ -5,18 +5,18 @@ use Rattle.std.specs.List.Sorted.{IsStrictlyIncreasing}
 use Rattle.lert_conelock.specs.Sight.{Sight}
 use Rattle.lert_fleet.specs.{Cones.{FleetPassSight, FleetSight, IsPassOf}, Each.EachThree}
 use Rattle.lert_fleet.proofs.Places.{slice_get-set_other, slice_get-set_same, some_at}
-use Rattle.lert_spec.specs.declared.numbers.Numbers.{Numbers}
+use Rattle.lert_spec.specs.{declared.item.Item.Item, declared.numbers.Numbers.Numbers}
 use Rattle.lert_trace.specs.Reader.{Reading}
 use Rattle.lert_base.specs.declared.cone_fault.ConeFault.{ConeFault}
 use Rattle.lert_worker.specs.{Ends.{IsAtEnd, Stopped, StoppedAt, WasRead}, Ran.{HasRun, Working}, Runs.{BroughtIn, HasEnded, RunsSoFar}, Sending.AreSent, Trace.{EndsBy, IsNamed}}
 use Rattle.lert_worker.specs.{declared.end.WorkerEnd.WorkerEnd, declared.end.WorkerEnd.TheVariants.{Ran, Trace, Cone}}
 use Rattle.lert_worker.proofs.{ReadLaws.was_new, RunLaws.{brought_more, brought_none, ran_in, stopped_in}}
 
--- of no trace any key was read
-none_read : (n place : ℕ) (keys : List ℕ) → slice_get (replicate n []) place ≡ Some keys → keys ≡ []
-none_read n place keys is =
-    let within = slice_get_within (replicate n []) place keys is in
-    sym (get_or_from_slice_get (replicate n []) place keys [] is) ∙ get_or-replicate n place [] [] (omega (arith, within, length-replicate {A = List ℕ} n []))
+-- of no trace any item was read
+none_read : (n place : ℕ) (items : List Item) → slice_get (replicate n []) place ≡ Some items → items ≡ []
+none_read n place items is =
+    let within = slice_get_within (replicate n []) place items is in
+    sym (get_or_from_slice_get (replicate n []) place items [] is) ∙ get_or-replicate n place [] [] (omega (arith, within, length-replicate {A = List Item} n []))
 
 module _ {S H : Type 0} (remaining : S → Option (List ℕ)) (faults mark : S → ℕ) (s : Numbers) (number : ℕ) (traces : List ℕ) where
   pub runs_none : (readers : List (Reading S)) (pass : FleetPassSight H ConeFault) → RunsSoFar remaining faults mark s number traces 0 readers pass readers pass
@@ -25,42 +25,42 @@ module _ {S H : Type 0} (remaining : S → Option (List ℕ)) (faults mark : S �
     read = record {
       as_many = (refl, length-replicate (length readers) []);
       each = λ place x y z x_is y_is z_is.
-          subst (λ (keys : List ℕ). WasRead remaining faults mark x y keys) (sym (none_read (length readers) place z z_is))
+          subst (λ (items : List Item). WasRead remaining faults mark x y items) (sym (none_read (length readers) place z z_is))
           (subst (λ (r : Reading S). WasRead remaining faults mark x r []) (same_Some x y (sym x_is ∙ y_is)) (was_new remaining faults mark x));
     };
-    unread = λ other keys from is. none_read (length readers) other keys is;
+    unread = λ other items from is. none_read (length readers) other items is;
     below = λ other now under is. absurd (omega (arith, under));
     above = λ other from. refl;
     as_many = refl;
     cones = λ cone before after was is.
         subst (λ (x : Sight H ConeFault). BroughtIn s number cone traces (replicate (length readers) []) 0 before x) (same_Some before after (sym was ∙ is))
-        (brought_none s number cone traces (replicate (length readers) []) (λ place keys found. none_read (length readers) place keys found) before);
+        (brought_none s number cone traces (replicate (length readers) []) (λ place items found. none_read (length readers) place items found) before);
   }
 
   module _ (up : IsStrictlyIncreasing traces) (place trace : ℕ) (old mid : List (Reading S)) (start pass : FleetPassSight H ConeFault)
       (runs : RunsSoFar remaining faults mark s number traces place old start mid pass) (many : length old ≡ length traces)
       (at : slice_get traces place ≡ Some trace) (from to : Reading S) (found : slice_get mid place ≡ Some from)
-      (keys : List ℕ) (read : WasRead remaining faults mark from to keys) (below : ℕ) (number_is : length pass.cones ≡ below) (next : FleetPassSight H ConeFault) where
+      (items : List Item) (read : WasRead remaining faults mark from to items) (below : ℕ) (number_is : length pass.cones ≡ below) (next : FleetPassSight H ConeFault) where
     within_mid : place < length mid
     within_mid = slice_get_within mid place from found
 
     within_reads : place < length runs.reads
     within_reads = let one = runs.read.as_many.0 in let two = runs.read.as_many.1 in omega (arith, within_mid, one, two)
 
-    -- the keys that were read of each trace
-    reads_more : EachThree (WasRead remaining faults mark) old (set mid place to) (set runs.reads place keys)
+    -- the items that were read of each trace
+    reads_more : EachThree (WasRead remaining faults mark) old (set mid place to) (set runs.reads place items)
     reads_more = record {
-      as_many = (length-set mid place to ∙ runs.read.as_many.0, length-set runs.reads place keys ∙ runs.read.as_many.1);
+      as_many = (length-set mid place to ∙ runs.read.as_many.0, length-set runs.reads place items ∙ runs.read.as_many.1);
       each = λ other x y z x_is y_is z_is. elim (cases_eq other place) [
         | inl same ↦
             let from_is : from ≡ x = same_Some from x (sym found ∙ (runs.above place (omega arith) ∙ (ap (slice_get old) (sym same) ∙ x_is))) in
             let to_is : to ≡ y = same_Some to y (sym (slice_get-set_same mid place to within_mid) ∙ (ap (slice_get (set mid place to)) (sym same) ∙ y_is)) in
-            let keys_are : keys ≡ z = same_Some keys z (sym (slice_get-set_same runs.reads place keys within_reads) ∙ (ap (slice_get (set runs.reads place keys)) (sym same) ∙ z_is)) in
+            let items_are : items ≡ z = same_Some items z (sym (slice_get-set_same runs.reads place items within_reads) ∙ (ap (slice_get (set runs.reads place items)) (sym same) ∙ z_is)) in
             subst (λ (r : Reading S). WasRead remaining faults mark r y z) from_is
-            (subst (λ (r : Reading S). WasRead remaining faults mark from r z) to_is (subst (λ (k : List ℕ). WasRead remaining faults mark from to k) keys_are read))
+            (subst (λ (r : Reading S). WasRead remaining faults mark from r z) to_is (subst (λ (xs : List Item). WasRead remaining faults mark from to xs) items_are read))
         | inr apart ↦
             runs.read.each other x y z x_is (sym (slice_get-set_other mid place other to apart) ∙ y_is)
-            (sym (slice_get-set_other runs.reads place other keys apart) ∙ z_is)
+            (sym (slice_get-set_other runs.reads place other items apart) ∙ z_is)
       ];
     }
 
@@ -78,12 +78,12 @@ module _ {S H : Type 0} (remaining : S → Option (List ℕ)) (faults mark : S �
         → (now : Sight H ConeFault) × (slice_get pass.cones cone ≡ Some now)
     there cone before was = some_at pass.cones cone (let inside = slice_get_within start.cones cone before was in omega (arith, inside, runs.as_many))
 
-    pub runs_more : IsAtEnd remaining to → AreSent s number trace below keys Ran pass next → RunsSoFar remaining faults mark s number traces (place + 1) old start (set mid place to) next
+    pub runs_more : IsAtEnd remaining to → AreSent s number trace below items Ran pass next → RunsSoFar remaining faults mark s number traces (place + 1) old start (set mid place to) next
     runs_more ended sent = record {
-      reads = set runs.reads place keys;
+      reads = set runs.reads place items;
       read = reads_more;
-      unread = λ other ks later is.
-          runs.unread other ks (omega (arith, later)) (sym (slice_get-set_other runs.reads place other keys (λ same. absurd (omega (arith, later, same)))) ∙ is);
+      unread = λ other xs later is.
+          runs.unread other xs (omega (arith, later)) (sym (slice_get-set_other runs.reads place other items (λ same. absurd (omega (arith, later, same)))) ∙ is);
       below = λ other now under is. elim (cases_eq other place) [
         | inl same ↦ subst (IsAtEnd remaining) (to_here now (ap (slice_get (set mid place to)) (sym same) ∙ is)) ended
         | inr apart ↦ runs.below other now (omega (arith, under, apart)) (sym (slice_get-set_other mid place other to apart) ∙ is)
@@ -92,7 +92,7 @@ module _ {S H : Type 0} (remaining : S → Option (List ℕ)) (faults mark : S �
       as_many = sent.as_many ∙ runs.as_many;
       cones = λ cone before after was is.
           let now = there cone before was in
-          brought_more s number cone traces runs.reads up place trace at within_reads keys before now.0 after (runs.cones cone before now.0 was now.1)
+          brought_more s number cone traces runs.reads up place trace at within_reads items before now.0 after (runs.cones cone before now.0 was now.1)
           (sent.each cone now.0 after (let inside = slice_get_within pass.cones cone now.0 now.1 in omega (arith, inside, number_is)) now.1 is);
     }
 
@@ -108,10 +108,10 @@ module _ {S H : Type 0} (remaining : S → Option (List ℕ)) (faults mark : S �
     stops (Trace t fault) ends other = (ends.0, at, stopped_at, λ now is. ap (λ (r : Reading S). r.fault) (sym (to_here now is)) ∙ ends.1)
     stops (Cone cone fault) ends other = (at, stopped_at, λ now is. ap (λ (r : Reading S). r.fault) (sym (to_here now is)) ∙ ends)
 
-    pub runs_stopped : (end : WorkerEnd) → EndsBy remaining end trace to → end ≢ Ran → IsNamed end (2 ^ s.cone_bits) → AreSent s number trace below keys end pass next
+    pub runs_stopped : (end : WorkerEnd) → EndsBy remaining end trace to → end ≢ Ran → IsNamed end (2 ^ s.cone_bits) → AreSent s number trace below items end pass next
         → HasEnded remaining faults mark s number traces old start (set mid place to) next end
     runs_stopped end ends other named sent = record {
-      reads = set runs.reads place keys;
+      reads = set runs.reads place items;
       read = reads_more;
       place = place;
       stopped = trace;
@@ -119,7 +119,7 @@ module _ {S H : Type 0} (remaining : S → Option (List ℕ)) (faults mark : S �
       named = named;
       cones = λ cone before after was is.
           let now = there cone before was in
-          stopped_in s number cone traces runs.reads up place trace at within_reads keys before now.0 after (runs.cones cone before now.0 was now.1) end
+          stopped_in s number cone traces runs.reads up place trace at within_reads items before now.0 after (runs.cones cone before now.0 was now.1) end
           (sent.each cone now.0 after (let inside = slice_get_within pass.cones cone now.0 now.1 in omega (arith, inside, number_is)) now.1 is) other few;
     }
 

@@ -11,8 +11,7 @@ use Rattle.lert_base.specs.Beginning.{BeginsWith}
 use Rattle.lert_base.specs.Packet.{Packet, events_of, of_trace}
 use Rattle.lert_base.specs.Weave.{AreCut}
 use Rattle.lert_fleet.proofs.Places.{slice_get-set_other, slice_get-set_same}
-use Rattle.lert_spec.specs.declared.numbers.Numbers.{Numbers}
-use Rattle.lert_spec.specs.{Items.units, Mix.part_of}
+use Rattle.lert_spec.specs.{declared.item.Item.Item, declared.numbers.Numbers.Numbers, Counts.weighed, Mix.part_in}
 use Rattle.lert_worker.specs.Brings.{Brings, BringsPart, IsOwn}
 use Rattle.lert_worker.specs.Sending.{IsOf}
 
@@ -117,8 +116,8 @@ orders xs ys most up few same = λ i j d first within.
           ]
     ]
 
-module _ (s : Numbers) (number cone : ℕ) (traces : List ℕ) (reads : List (List ℕ)) (up : IsStrictlyIncreasing traces)
-    (place trace : ℕ) (at : slice_get traces place ≡ Some trace) (within : place < length reads) (keys : List ℕ)
+module _ (s : Numbers) (number cone : ℕ) (traces : List ℕ) (reads : List (List Item)) (up : IsStrictlyIncreasing traces)
+    (place trace : ℕ) (at : slice_get traces place ≡ Some trace) (within : place < length reads) (items : List Item)
     (added : List Packet) (old : Brings s number cone traces reads added) (below : All (λ packet. packet.trace < trace) added)
     (more : List Packet) (each : All (IsOf s number trace) more) (cut : AreCut s.packet more) where
   traces_are : All (λ packet. packet.trace ≡ trace) more
@@ -144,6 +143,7 @@ module _ (s : Numbers) (number cone : ℕ) (traces : List ℕ) (reads : List (Li
       (λ p is. record {
         some = is.some;
         few = is.few;
+        weights = is.weights;
         by_is = is.by_is;
         of_one = subst (Contains traces) (sym is.trace_is) (place, slice_get_within traces place trace at, get_or_from_slice_get traces place trace trace at);
       }) more each)
@@ -163,48 +163,48 @@ module _ (s : Numbers) (number cone : ℕ) (traces : List ℕ) (reads : List (Li
   ]
 
   -- the items of all of them, or a beginning of those of the last trace
-  pub brings_more : events_of more ≡ units (part_of s cone keys) → Brings s number cone traces (set reads place keys) (added ++ more)
+  pub brings_more : events_of more ≡ part_in weighed s cone items → Brings s number cone traces (set reads place items) (added ++ more)
   brings_more joined = record {
     each = own_each;
     in_order = own_order;
     joined = λ other found read is_trace is_read. elim (cases_eq other place) [
       | inl same ↦
           let trace_is : trace ≡ found = same_Some trace found (sym at ∙ (ap (slice_get traces) (sym same) ∙ is_trace)) in
-          let keys_are : keys ≡ read = same_Some keys read (sym (slice_get-set_same reads place keys within) ∙ (ap (slice_get (set reads place keys)) (sym same) ∙ is_read)) in
-          ap (λ t. events_of (of_trace (added ++ more) t)) (sym trace_is) ∙ (ap events_of of_here ∙ (joined ∙ ap (λ ks. units (part_of s cone ks)) keys_are))
+          let items_are : items ≡ read = same_Some items read (sym (slice_get-set_same reads place items within) ∙ (ap (slice_get (set reads place items)) (sym same) ∙ is_read)) in
+          ap (λ t. events_of (of_trace (added ++ more) t)) (sym trace_is) ∙ (ap events_of of_here ∙ (joined ∙ ap (part_in weighed s cone) items_are))
       | inr apart ↦
           let others = apart_at traces up other place found trace is_trace at apart in
-          ap events_of (of_other found others) ∙ old.joined other found read is_trace (sym (slice_get-set_other reads place other keys apart) ∙ is_read)
+          ap events_of (of_other found others) ∙ old.joined other found read is_trace (sym (slice_get-set_other reads place other items apart) ∙ is_read)
     ];
     cut = own_cut;
   }
 
-  pub brings_part : BeginsWith (units (part_of s cone keys)) (events_of more) → BringsPart s number cone traces (set reads place keys) (added ++ more)
+  pub brings_part : BeginsWith (part_in weighed s cone items) (events_of more) → BringsPart s number cone traces (set reads place items) (added ++ more)
   brings_part begins = record {
     each = own_each;
     in_order = own_order;
     joined = λ other found read is_trace is_read. elim (cases_eq other place) [
       | inl same ↦
           let trace_is : trace ≡ found = same_Some trace found (sym at ∙ (ap (slice_get traces) (sym same) ∙ is_trace)) in
-          let keys_are : keys ≡ read = same_Some keys read (sym (slice_get-set_same reads place keys within) ∙ (ap (slice_get (set reads place keys)) (sym same) ∙ is_read)) in
+          let items_are : items ≡ read = same_Some items read (sym (slice_get-set_same reads place items within) ∙ (ap (slice_get (set reads place items)) (sym same) ∙ is_read)) in
           let events : events_of (of_trace (added ++ more) found) ≡ events_of more = ap (λ t. events_of (of_trace (added ++ more) t)) (sym trace_is) ∙ ap events_of of_here in
-          (begins.0, ap (λ xs. xs ++ begins.0) events ∙ (begins.1 ∙ ap (λ ks. units (part_of s cone ks)) keys_are))
+          (begins.0, ap (λ xs. xs ++ begins.0) events ∙ (begins.1 ∙ ap (part_in weighed s cone) items_are))
       | inr apart ↦
           let others = apart_at traces up other place found trace is_trace at apart in (
             [],
             append-nil (events_of (of_trace (added ++ more) found))
-                ∙ (ap events_of (of_other found others) ∙ old.joined other found read is_trace (sym (slice_get-set_other reads place other keys apart) ∙ is_read)),
+                ∙ (ap events_of (of_other found others) ∙ old.joined other found read is_trace (sym (slice_get-set_other reads place other items apart) ∙ is_read)),
           )
     ];
     cut = own_cut;
   }
 
 -- packets that bring all bring a part
-pub brings_all : (s : Numbers) (number cone : ℕ) (traces : List ℕ) (reads : List (List ℕ)) (packets : List Packet)
+pub brings_all : (s : Numbers) (number cone : ℕ) (traces : List ℕ) (reads : List (List Item)) (packets : List Packet)
     → Brings s number cone traces reads packets → BringsPart s number cone traces reads packets
 brings_all s number cone traces reads packets all = record {
   each = all.each;
   in_order = all.in_order;
-  joined = λ place trace keys at read. ([], append-nil (events_of (of_trace packets trace)) ∙ all.joined place trace keys at read);
+  joined = λ place trace items at read. ([], append-nil (events_of (of_trace packets trace)) ∙ all.joined place trace items at read);
   cut = all.cut;
 }

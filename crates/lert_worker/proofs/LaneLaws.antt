@@ -1,9 +1,8 @@
--- One cone while a trace is read: a key more, a packet more, a refusal, the rest.
+-- One cone while a trace is read: an item more, a packet more, a refusal, the rest.
 use Rattle.std.proofs.Common.{◌≡◌, ◌≢◌, ℕ, zero, suc, ◌+◌, ◌*◌, ◌<◌, ◌≤◌, Bool, cond, eqb, List, [], ◌∷◌, ◌++◌, length}
 use Rattle.std.proofs.Common.{Some, slice_get, refl, ap, sym, ◌∙◌, subst, arith, append-nil, append_assoc, length-append}
 use Rattle.std.specs.Prelude.{All, sum_by}
 use Rattle.std.proofs.lemmas.Bool.{eq-eqb, ne_eqb}
-use Rattle.std.proofs.lemmas.List.{map-append}
 use Rattle.std.proofs.lemmas.List.Concat.{flat_map-append}
 use Rattle.std.proofs.lemmas.List.Elements.{All-push, All-nil, filter-append}
 use Rattle.std.proofs.lemmas.List.Sums.{sum_by_push}
@@ -12,7 +11,7 @@ use Rattle.lert_base.specs.Packet.{Packet, events_of}
 use Rattle.lert_base.specs.Weave.{AreCut, IsWhole}
 use Rattle.lert_conelock.specs.Sight.{Sight}
 use Rattle.lert_spec.specs.declared.numbers.Numbers.{Numbers}
-use Rattle.lert_spec.specs.{declared.item.Item.Item, Items.{unit, units}, Mix.{cone_of, part_of}}
+use Rattle.lert_spec.specs.{declared.item.Item.Item, Counts.weighed, Mix.{cone_of, part_in}}
 use Rattle.lert_worker.specs.Brings.{full_packets, late_tries}
 use Rattle.lert_worker.specs.Outbox.{IsSendable}
 use Rattle.lert_worker.specs.Sending.{IsOf, Lane, WasBusy, WasTaken}
@@ -31,21 +30,19 @@ slice_get-first [] ys i within = absurd (omega arith)
 slice_get-first (x ∷ xs) ys zero within = refl
 slice_get-first (x ∷ xs) ys (suc i) within = slice_get-first xs ys i (omega arith)
 
--- a key more of the cone, and of another one
-pub part-push_same : (s : Numbers) (cone key : ℕ) (keys : List ℕ) → cone_of s key ≡ cone → part_of s cone (keys ++ key ∷ []) ≡ part_of s cone keys ++ key ∷ []
-part-push_same s cone key keys same =
-    filter-append (λ k. eqb (cone_of s k) cone) keys (key ∷ [])
-    ∙ ap (λ (b : Bool). part_of s cone keys ++ cond b (key ∷ []) []) (eq-eqb (cone_of s key) cone same)
+-- an item more of the cone, and of another one
+part-push_same : (s : Numbers) (cone : ℕ) (item : Item) (items : List Item) → cone_of s item.key ≡ cone
+    → part_in weighed s cone (items ++ item ∷ []) ≡ part_in weighed s cone items ++ item ∷ []
+part-push_same s cone item items same =
+    filter-append (λ (i : Item). eqb (cone_of s i.key) cone) items (item ∷ [])
+    ∙ ap (λ (b : Bool). part_in weighed s cone items ++ cond b (item ∷ []) []) (eq-eqb (cone_of s item.key) cone same)
 
-pub part-push_other : (s : Numbers) (cone key : ℕ) (keys : List ℕ) → cone_of s key ≢ cone → part_of s cone (keys ++ key ∷ []) ≡ part_of s cone keys
-part-push_other s cone key keys other =
-    filter-append (λ k. eqb (cone_of s k) cone) keys (key ∷ [])
-    ∙ (ap (λ (b : Bool). part_of s cone keys ++ cond b (key ∷ []) []) (ne_eqb (cone_of s key) cone other)
-    ∙ append-nil (part_of s cone keys))
-
--- the same with the weights
-units-push_same : (s : Numbers) (cone key : ℕ) (keys : List ℕ) → cone_of s key ≡ cone → units (part_of s cone (keys ++ key ∷ [])) ≡ units (part_of s cone keys) ++ unit key ∷ []
-units-push_same s cone key keys same = ap units (part-push_same s cone key keys same) ∙ map-append unit (part_of s cone keys) (key ∷ [])
+part-push_other : (s : Numbers) (cone : ℕ) (item : Item) (items : List Item) → cone_of s item.key ≢ cone
+    → part_in weighed s cone (items ++ item ∷ []) ≡ part_in weighed s cone items
+part-push_other s cone item items other =
+    filter-append (λ (i : Item). eqb (cone_of s i.key) cone) items (item ∷ [])
+    ∙ (ap (λ (b : Bool). part_in weighed s cone items ++ cond b (item ∷ []) []) (ne_eqb (cone_of s item.key) cone other)
+    ∙ append-nil (part_in weighed s cone items))
 
 -- a packet behind whole ones
 pub cut_push : (size : ℕ) (sent : List Packet) (packet : Packet) → All (IsWhole size) sent → AreCut size (sent ++ packet ∷ [])
@@ -84,38 +81,38 @@ module _ {H F : Type 0} (s : Numbers) (number cone trace : ℕ) where
     counts = counts_none before;
   }
 
-  pub lane_same : (key : ℕ) (keys : List ℕ) (ring : List Item) (tried : ℕ) (before now : Sight H F) → cone_of s key ≡ cone
-      → Lane s number cone trace keys tried before now ring → Lane s number cone trace (keys ++ key ∷ []) tried before now (ring ++ unit key ∷ [])
-  lane_same key keys ring tried before now same lane = record {
+  pub lane_same : (item : Item) (items ring : List Item) (tried : ℕ) (before now : Sight H F) → cone_of s item.key ≡ cone
+      → Lane s number cone trace items tried before now ring → Lane s number cone trace (items ++ item ∷ []) tried before now (ring ++ item ∷ [])
+  lane_same item items ring tried before now same lane = record {
     sent = lane.sent;
     calls_are = lane.calls_are;
     refused_are = lane.refused_are;
     each = lane.each;
     whole = lane.whole;
-    joined = sym (append_assoc (events_of lane.sent) ring (unit key ∷ [])) ∙ (ap (λ xs. xs ++ unit key ∷ []) lane.joined ∙ sym (units-push_same s cone key keys same));
+    joined = sym (append_assoc (events_of lane.sent) ring (item ∷ [])) ∙ (ap (λ xs. xs ++ item ∷ []) lane.joined ∙ sym (part-push_same s cone item items same));
     waits = lane.waits;
     met = lane.met;
     counts = lane.counts;
   }
 
-  pub lane_other : (key : ℕ) (keys : List ℕ) (ring : List Item) (tried : ℕ) (before now : Sight H F) → cone_of s key ≢ cone
-      → Lane s number cone trace keys tried before now ring → Lane s number cone trace (keys ++ key ∷ []) tried before now ring
-  lane_other key keys ring tried before now other lane = record {
+  pub lane_other : (item : Item) (items ring : List Item) (tried : ℕ) (before now : Sight H F) → cone_of s item.key ≢ cone
+      → Lane s number cone trace items tried before now ring → Lane s number cone trace (items ++ item ∷ []) tried before now ring
+  lane_other item items ring tried before now other lane = record {
     sent = lane.sent;
     calls_are = lane.calls_are;
     refused_are = lane.refused_are;
     each = lane.each;
     whole = lane.whole;
-    joined = lane.joined ∙ ap units (sym (part-push_other s cone key keys other));
+    joined = lane.joined ∙ sym (part-push_other s cone item items other);
     waits = lane.waits;
     met = lane.met;
     counts = lane.counts;
   }
 
   -- the ring asked for nothing
-  pub lane_tried : (keys : List ℕ) (ring : List Item) (tried more : ℕ) (before now : Sight H F) → ((k : ℕ) → k * s.packet ≤ more → k * s.packet ≤ tried)
-      → Lane s number cone trace keys tried before now ring → Lane s number cone trace keys more before now ring
-  lane_tried keys ring tried more before now still lane = record {
+  pub lane_tried : (items ring : List Item) (tried more : ℕ) (before now : Sight H F) → ((k : ℕ) → k * s.packet ≤ more → k * s.packet ≤ tried)
+      → Lane s number cone trace items tried before now ring → Lane s number cone trace items more before now ring
+  lane_tried items ring tried more before now still lane = record {
     sent = lane.sent;
     calls_are = lane.calls_are;
     refused_are = lane.refused_are;
@@ -127,10 +124,10 @@ module _ {H F : Type 0} (s : Numbers) (number cone trace : ℕ) where
     counts = lane.counts;
   }
 
-  module _ (some : 1 ≤ s.packet) (keys : List ℕ) (ring : List Item) (tried : ℕ) (before now : Sight H F)
-      (lane : Lane s number cone trace keys tried before now ring) (last : length ring ≤ tried + 1) where
+  module _ (some : 1 ≤ s.packet) (items ring : List Item) (tried : ℕ) (before now : Sight H F)
+      (lane : Lane s number cone trace items tried before now ring) (last : length ring ≤ tried + 1) where
     -- the cone was held
-    pub lane_stays : (after : Sight H F) → WasBusy now after → Lane s number cone trace keys (length ring) before after ring
+    pub lane_stays : (after : Sight H F) → WasBusy now after → Lane s number cone trace items (length ring) before after ring
     lane_stays after busy = record {
       sent = lane.sent;
       calls_are = ap (λ (x : Sight H F). x.calls) busy.lost.shows ∙ lane.calls_are;
@@ -149,9 +146,9 @@ module _ {H F : Type 0} (s : Numbers) (number cone trace : ℕ) where
 
     module _ (may : IsSendable s cone ring) where
       pub own_packet : IsOf s number trace (ringed number trace ring)
-      own_packet = record { some = may.some; few = may.few; by_is = refl; trace_is = refl }
+      own_packet = record { some = may.some; few = may.few; weights = λ place d within. (may.of_cone place d within).1; by_is = refl; trace_is = refl }
 
-      pub joined_more : events_of (lane.sent ++ ringed number trace ring ∷ []) ≡ units (part_of s cone keys)
+      pub joined_more : events_of (lane.sent ++ ringed number trace ring ∷ []) ≡ part_in weighed s cone items
       joined_more = events_push lane.sent (ringed number trace ring) ∙ lane.joined
 
       pub met_more : (after : ℕ) → now.met ≤ after → before.met + sum_by (late_tries s) (lane.sent ++ ringed number trace ring ∷ []) ≤ after
@@ -160,9 +157,9 @@ module _ {H F : Type 0} (s : Numbers) (number cone trace : ℕ) where
           let old = lane.met (late_tries s (ringed number trace ring)) (omega (arith, late, last)) in
           omega (arith, old, grows, late_push s lane.sent (ringed number trace ring))
 
-      -- the cone took the ring's keys as one packet
+      -- the cone took the ring's items as one packet
       pub lane_taken : (more : ℕ) (after : Sight H F) → WasTaken (ringed number trace ring) more now after → IsWhole s.packet (ringed number trace ring)
-          → more ≤ cond (eqb (length ring) (4 * s.packet)) 1 0 → Lane s number cone trace keys 0 before after []
+          → more ≤ cond (eqb (length ring) (4 * s.packet)) 1 0 → Lane s number cone trace items 0 before after []
       lane_taken more after taken whole few = record {
         sent = lane.sent ++ ringed number trace ring ∷ [];
         calls_are = taken.calls_are ∙ (ap (λ xs. xs ++ ringed number trace ring ∷ []) lane.calls_are ∙ append_assoc before.calls lane.sent (ringed number trace ring ∷ []));

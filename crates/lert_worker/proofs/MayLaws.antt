@@ -1,35 +1,30 @@
 -- Rings that may still go to the cones, after a step.
-use Rattle.std.proofs.Common.{◌≡◌, ℕ, ◌*◌, ◌^◌, ◌<◌, ◌≤◌, List, [], length, Some, slice_get, refl, ap, sym, ◌∙◌, subst, arith, length-set}
-use Rattle.std.specs.Prelude.{All}
+use Rattle.std.proofs.Common.{◌≡◌, ℕ, ◌*◌, ◌^◌, ◌<◌, ◌≤◌, List, [], length, Some, slice_get, refl, ap, sym, ◌∙◌, subst, length-set}
 use Rattle.std.proofs.lemmas.List.Elements.{All-map}
 use Rattle.lert_base.specs.{declared.cone_fault.ConeFault.ConeFault, declared.entry.Entry.Entry, declared.held.Held.Ghosts as HeldOf, Keys.Keys, Packet.Packet}
 use Rattle.lert_buffers.specs.Rings.{Rings, ring_of, with_keys, with_ring}
 use Rattle.lert_conelock.specs.Sight.{LockSight}
 use Rattle.lert_fleet.specs.Cones.{ChangesOnly, FleetPassSight, FleetSight, IsPassOf}
-use Rattle.lert_spec.specs.{declared.item.Item.Item, declared.numbers.Numbers.Numbers, Items.AreOfVersion, Mix.cone_of}
+use Rattle.lert_spec.specs.{declared.item.Item.Item, declared.numbers.Numbers.Numbers, Mix.cone_of}
 use Rattle.lert_worker.specs.{Brings.MayBring, Ran.{MayRun, Working}, Sending.packet_with, declared.outbox.Outbox.Outbox}
-use Rattle.lert_worker.specs.Outbox.{IsIdle, IsResting, IsSame, IsSameOutbox, IsSendable, IsUnitOf, MaySend}
+use Rattle.lert_worker.specs.Outbox.{IsIdle, IsResting, IsSame, IsSameOutbox, IsSendable, MaySend}
 use Rattle.lert_worker.proofs.TakeLaws.{ring_here}
-
--- the items of a ring weigh 1
-weigh_one : (s : Numbers) (cone : ℕ) (ring : List Item) → All (IsUnitOf s cone) ring → AreOfVersion 1 ring
-weigh_one s cone ring of_cone = λ place d within. let one = (of_cone place d within).1 in (omega (arith, one), omega (arith, one))
 
 -- as many rings, for packets of the same size
 pub record AreAlike (old new : Rings) : Type 0 where
   pub packet_is : new.packet ≡ old.packet
   pub as_many : length new.rings ≡ length old.rings
 
-pub alike_with : (old new : Rings) (cone : ℕ) (keys : List Item) → new ≡ with_ring old cone keys → AreAlike old new
-alike_with old new cone keys is = record {
+pub alike_with : (old new : Rings) (cone : ℕ) (items : List Item) → new ≡ with_ring old cone items → AreAlike old new
+alike_with old new cone items is = record {
   packet_is = ap (λ (r : Rings). r.packet) is;
-  as_many = ap (λ (r : Rings). length r.rings) is ∙ length-set old.rings cone keys;
+  as_many = ap (λ (r : Rings). length r.rings) is ∙ length-set old.rings cone items;
 }
 
 pub alike_same : (old new : Rings) → new ≡ old → AreAlike old new
 alike_same old new is = record { packet_is = ap (λ (r : Rings). r.packet) is; as_many = ap (λ (r : Rings). length r.rings) is }
 
--- the entry has no keys, and is what it was besides
+-- the entry has no items, and is what it was besides
 pub record IsEmptied (old new : Entry) : Type 0 where
   pub by_is : new.by ≡ old.by
   pub trace_is : new.trace ≡ old.trace
@@ -39,9 +34,9 @@ pub record IsEmptied (old new : Entry) : Type 0 where
 pub emptied_same : (entry : Entry) → entry.keys.items ≡ [] → IsEmptied entry entry
 emptied_same entry empty = record { by_is = refl; trace_is = refl; room_is = refl; empty = empty }
 
--- it got keys, and was cleared
-pub emptied_by : (old mid : Entry) (keys : List Item) (list : Keys) → mid ≡ with_keys old keys → list ≡ record mid.keys { items = [] } → IsEmptied old (record mid { keys = list })
-emptied_by old mid keys list mid_is list_is = record {
+-- it got items, and was cleared
+pub emptied_by : (old mid : Entry) (items : List Item) (list : Keys) → mid ≡ with_keys old items → list ≡ record mid.keys { items = [] } → IsEmptied old (record mid { keys = list })
+emptied_by old mid items list mid_is list_is = record {
   by_is = ap (λ (e : Entry). e.by) mid_is;
   trace_is = ap (λ (e : Entry). e.trace) mid_is;
   room_is = ap (λ (k : Keys). k.room) list_is ∙ ap (λ (e : Entry). e.keys.room) mid_is;
@@ -49,8 +44,8 @@ emptied_by old mid keys list mid_is list_is = record {
 }
 
 -- or handed them on
-pub emptied_back : (old mid new : Entry) (keys : List Item) → mid ≡ with_keys old keys → new ≡ with_keys mid [] → IsEmptied old new
-emptied_back old mid new keys mid_is new_is = record {
+pub emptied_back : (old mid new : Entry) (items : List Item) → mid ≡ with_keys old items → new ≡ with_keys mid [] → IsEmptied old new
+emptied_back old mid new items mid_is new_is = record {
   by_is = ap (λ (e : Entry). e.by) new_is ∙ ap (λ (e : Entry). e.by) mid_is;
   trace_is = ap (λ (e : Entry). e.trace) new_is ∙ ap (λ (e : Entry). e.trace) mid_is;
   room_is = ap (λ (e : Entry). e.keys.room) new_is ∙ ap (λ (e : Entry). e.keys.room) mid_is;
@@ -134,14 +129,14 @@ module _ {H T R F : Type 0} (held : HeldOf H T R F) (fleet : FleetSight H) (pass
   -- the packet of a ring fits its cone
   pub fits_cone : (cone : ℕ) (packet : Packet) → MaySend held fleet pass outbox → IsSendable outbox.settings cone (ring_of outbox.rings cone)
       → packet ≡ packet_with outbox (ring_of outbox.rings cone) → (lock : LockSight H) → slice_get fleet cone ≡ Some lock → held.fits (held.terms lock.first) packet
-  fits_cone cone packet may keys is lock found =
+  fits_cone cone packet may sendable is lock found =
       subst (λ (p : Packet). held.fits (held.terms lock.first) p) (sym is) (may.fits cone lock found (packet_with outbox (ring_of outbox.rings cone)) (record {
-        some = keys.some;
-        few = keys.few;
+        some = sendable.some;
+        few = sendable.few;
         by_most = may.by_most;
         trace_most = may.idle.trace_most;
-        of_cone = All-map (λ key. cone_of outbox.settings key ≡ cone) (λ (i : Item). i.key) (ring_of outbox.rings cone) (λ place d within. (keys.of_cone place d within).0);
-        weights = weigh_one outbox.settings cone (ring_of outbox.rings cone) keys.of_cone;
+        of_cone = All-map (λ key. cone_of outbox.settings key ≡ cone) (λ (i : Item). i.key) (ring_of outbox.rings cone) (λ place d within. (sendable.of_cone place d within).0);
+        weights = λ place d within. (sendable.of_cone place d within).1;
       }))
 
 pub resting_named : (outbox : Outbox) (trace : ℕ) → trace ≤ 1023 → IsResting outbox → IsResting (record outbox { entry = record outbox.entry { trace = trace } })
@@ -167,10 +162,10 @@ module _ (rings taken : Rings) (cone : ℕ) (is : taken ≡ with_ring rings cone
 
 pub room_back : (outbox : Outbox) (taken : Rings) (entry : Entry) (cone : ℕ) → outbox.rings.packet ≡ outbox.settings.packet → taken ≡ with_ring outbox.rings cone []
     → entry ≡ with_keys outbox.entry (ring_of outbox.rings cone) → IsSendable outbox.settings cone (ring_of outbox.rings cone) → length entry.keys.items ≤ 4 * taken.packet
-room_back outbox taken entry cone packet_is taken_is entry_is keys =
+room_back outbox taken entry cone packet_is taken_is entry_is sendable =
     subst (λ (r : Rings). length entry.keys.items ≤ 4 * r.packet) (sym taken_is)
     (subst (λ (e : Entry). length e.keys.items ≤ 4 * outbox.rings.packet) (sym entry_is)
-    (subst (λ n. length (ring_of outbox.rings cone) ≤ 4 * n) (sym packet_is) keys.few))
+    (subst (λ n. length (ring_of outbox.rings cone) ≤ 4 * n) (sym packet_is) sendable.few))
 
 -- a worker that may run
 pub may_send_of : {S H T R : Type 0} (held : HeldOf H T R ConeFault) (fleet : FleetSight H) (worker : Working S H) (outbox : Outbox) → MayRun held fleet worker → IsIdle outbox

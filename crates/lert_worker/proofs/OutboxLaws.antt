@@ -44,14 +44,14 @@ busy_at fleet cone within old new at kept = λ before after was found.
       counts = (kept lock.0 before after lock.1 was found).counts;
     }
 
--- keys that came out of a ring, and back into it
-pub given_back : (rings taken after : Rings) (cone : ℕ) (keys : List Item)
-    → taken ≡ with_ring rings cone [] → keys ≡ ring_of rings cone → after ≡ with_ring taken cone keys → after ≡ rings
-given_back rings taken after cone keys taken_is keys_are is =
+-- items that came out of a ring, and back into it
+pub given_back : (rings taken after : Rings) (cone : ℕ) (items : List Item)
+    → taken ≡ with_ring rings cone [] → items ≡ ring_of rings cone → after ≡ with_ring taken cone items → after ≡ rings
+given_back rings taken after cone items taken_is items_are is =
     is
-    ∙ (ap (λ r. with_ring r cone keys) taken_is
+    ∙ (ap (λ r. with_ring r cone items) taken_is
     ∙ ap (λ (r : List (List Item)). record rings { rings = r })
-    (set-set rings.rings cone [] keys ∙ (ap (set rings.rings cone) keys_are ∙ set-get_or rings.rings cone [])))
+    (set-set rings.rings cone [] items ∙ (ap (set rings.rings cone) items_are ∙ set-get_or rings.rings cone [])))
 
 -- what comes of a ring that asks for this
 pub brought_by : {H F : Type 0} (fill is : Fill) → fill ≡ is → (packet : Packet) (cone : ℕ) (rings left : Rings) (old new : FleetPassSight H F) (result : Result (Unit {0}) F)

@@ -10,8 +10,7 @@ use Rattle.std.proofs.lemmas.Option.{get_or_from_slice_get, slice_get-get_or}
 use Rattle.lert_base.specs.Packet.{Packet, of_trace}
 use Rattle.lert_base.specs.Weave.{AreCut, IsWhole}
 use Rattle.lert_conelock.specs.Sight.{Sight}
-use Rattle.lert_spec.specs.declared.numbers.Numbers.{Numbers}
-use Rattle.lert_spec.specs.{Items.units, Mix.part_of}
+use Rattle.lert_spec.specs.{declared.item.Item.Item, declared.numbers.Numbers.Numbers, Counts.weighed, Mix.part_in}
 use Rattle.lert_base.specs.declared.cone_fault.ConeFault.{ConeFault}
 use Rattle.lert_worker.specs.Brings.{BringsPart, full_packets, late_tries}
 use Rattle.lert_worker.specs.Ran.{RanIn}
@@ -40,8 +39,8 @@ cut_front size xs ys cut = λ place packet within is.
     cut place packet (omega (arith, within, length-append xs ys)) (slice_get-first xs ys place (omega (arith, within)) ∙ is)
 
 -- no packets
-pub brought_none : {H F : Type 0} (s : Numbers) (number cone : ℕ) (traces : List ℕ) (reads : List (List ℕ))
-    → ((place : ℕ) (keys : List ℕ) → slice_get reads place ≡ Some keys → keys ≡ []) → (old : Sight H F) → BroughtIn s number cone traces reads 0 old old
+pub brought_none : {H F : Type 0} (s : Numbers) (number cone : ℕ) (traces : List ℕ) (reads : List (List Item))
+    → ((place : ℕ) (items : List Item) → slice_get reads place ≡ Some items → items ≡ []) → (old : Sight H F) → BroughtIn s number cone traces reads 0 old old
 brought_none s number cone traces reads unread old = record {
   added = [];
   calls_are = sym (append-nil old.calls);
@@ -49,7 +48,7 @@ brought_none s number cone traces reads unread old = record {
   all = record {
     each = λ k d below. absurd (omega (arith, below));
     in_order = λ i j d first below. absurd (omega (arith, below));
-    joined = λ place trace keys at read. ap (λ ks. units (part_of s cone ks)) (sym (unread place keys read));
+    joined = λ place trace items at read. ap (part_in weighed s cone) (sym (unread place items read));
     cut = λ trace place packet below. absurd (omega (arith, below));
   };
   below = λ place trace from at. All-nil (λ (packet : Packet). packet.trace < trace);
@@ -58,13 +57,13 @@ brought_none s number cone traces reads unread old = record {
   counts = counts_none old;
 }
 
-module _ {H : Type 0} (s : Numbers) (number cone : ℕ) (traces : List ℕ) (reads : List (List ℕ)) (up : IsStrictlyIncreasing traces)
-    (place trace : ℕ) (at : slice_get traces place ≡ Some trace) (within : place < length reads) (keys : List ℕ)
+module _ {H : Type 0} (s : Numbers) (number cone : ℕ) (traces : List ℕ) (reads : List (List Item)) (up : IsStrictlyIncreasing traces)
+    (place trace : ℕ) (at : slice_get traces place ≡ Some trace) (within : place < length reads) (items : List Item)
     (old before after : Sight H ConeFault) (brought : BroughtIn s number cone traces reads place old before) where
   earlier : All (λ packet. packet.trace < trace) brought.added
   earlier = brought.below place trace (omega arith) at
 
-  module _ (end : WorkerEnd) (sent : SentIn s number cone trace keys end before after) where
+  module _ (end : WorkerEnd) (sent : SentIn s number cone trace items end before after) where
     full_more : full_packets s (brought.added ++ sent.sent) ≡ full_packets s brought.added + full_packets s sent.sent
     full_more = sum_by-append (λ (p : Packet). cond (eqb (length p.items) (4 * s.packet)) 1 0) brought.added sent.sent
 
@@ -78,15 +77,15 @@ module _ {H : Type 0} (s : Numbers) (number cone : ℕ) (traces : List ℕ) (rea
     met_more = omega (arith, sent.met, brought.met, sum_by-append (late_tries s) brought.added sent.sent)
 
     -- the worker stopped at this trace
-    pub stopped_in : end ≢ Ran → place + 1 ≤ length traces → RanIn s number cone traces (set reads place keys) trace end old after
+    pub stopped_in : end ≢ Ran → place + 1 ≤ length traces → RanIn s number cone traces (set reads place items) trace end old after
     stopped_in other few = record {
       added = brought.added ++ sent.sent;
       turned = sent.turned;
       calls_are = calls_more;
       refused_are = sent.refused_are ∙ ap (λ xs. xs ++ sent.turned) brought.refused_are;
       turned_is = sent.turned_is;
-      part = subst (BringsPart s number cone traces (set reads place keys)) (sym (append_assoc brought.added sent.sent (map (λ pair. pair.0) sent.turned)))
-          (brings_part s number cone traces reads up place trace at within keys brought.added brought.all earlier (sent.sent ++ map (λ pair. pair.0) sent.turned) sent.each sent.cut sent.part);
+      part = subst (BringsPart s number cone traces (set reads place items)) (sym (append_assoc brought.added sent.sent (map (λ pair. pair.0) sent.turned)))
+          (brings_part s number cone traces reads up place trace at within items brought.added brought.all earlier (sent.sent ++ map (λ pair. pair.0) sent.turned) sent.each sent.cut sent.part);
       of_stopped = λ packet fault is.
           let own = All-behind (IsOf s number trace) sent.sent (packet ∷ [])
           (subst (λ (ts : List (Packet × ConeFault)). All (IsOf s number trace) (sent.sent ++ map (λ pair. pair.0) ts)) is sent.each) in
@@ -98,11 +97,11 @@ module _ {H : Type 0} (s : Numbers) (number cone : ℕ) (traces : List ℕ) (rea
       where
         -- the packets of the trace, without the refused one
         here : of_trace (brought.added ++ sent.sent) trace ≡ sent.sent
-        here = of_here s number cone traces reads up place trace at within keys brought.added brought.all earlier sent.sent
+        here = of_here s number cone traces reads up place trace at within items brought.added brought.all earlier sent.sent
             (front_all (IsOf s number trace) sent.sent (map (λ pair. pair.0) sent.turned) sent.each) (cut_front s.packet sent.sent (map (λ pair. pair.0) sent.turned) sent.cut)
 
   -- it was read to its end
-  pub brought_more : SentIn s number cone trace keys Ran before after → BroughtIn s number cone traces (set reads place keys) (place + 1) old after
+  pub brought_more : SentIn s number cone trace items Ran before after → BroughtIn s number cone traces (set reads place items) (place + 1) old after
   brought_more sent =
       let none = append-nil sent.sent in
       let turned : sent.sent ++ map (λ (pair : Packet × ConeFault). pair.0) sent.turned ≡ sent.sent =
@@ -112,7 +111,7 @@ module _ {H : Type 0} (s : Numbers) (number cone : ℕ) (traces : List ℕ) (rea
         added = brought.added ++ sent.sent;
         calls_are = calls_more Ran sent;
         refused_are = sent.refused_are ∙ (ap (λ xs. before.refused ++ xs) sent.turned_is ∙ (append-nil before.refused ∙ brought.refused_are));
-        all = brings_more s number cone traces reads up place trace at within keys brought.added brought.all earlier sent.sent each
+        all = brings_more s number cone traces reads up place trace at within items brought.added brought.all earlier sent.sent each
             (subst (AreCut s.packet) turned sent.cut) (sent.all refl);
         below = λ other found from is.
             let less = ascend_at traces up place other trace found at is (omega (arith, from)) in
@@ -125,7 +124,7 @@ module _ {H : Type 0} (s : Numbers) (number cone : ℕ) (traces : List ℕ) (rea
       }
 
 -- all traces were read to their ends
-pub ran_in : {H : Type 0} (s : Numbers) (number cone : ℕ) (traces : List ℕ) (reads : List (List ℕ)) (done stopped : ℕ) (old new : Sight H ConeFault) → done ≤ length traces
+pub ran_in : {H : Type 0} (s : Numbers) (number cone : ℕ) (traces : List ℕ) (reads : List (List Item)) (done stopped : ℕ) (old new : Sight H ConeFault) → done ≤ length traces
     → BroughtIn s number cone traces reads done old new → RanIn s number cone traces reads stopped Ran old new
 ran_in s number cone traces reads done stopped old new few brought = record {
   added = brought.added;

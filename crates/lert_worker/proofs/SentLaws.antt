@@ -1,18 +1,18 @@
--- What the keys of a trace brought to one cone: all of them at its end, and a beginning of them where the worker stopped.
+-- What the items of a trace brought to one cone: all of them at its end, and a beginning of them where the worker stopped.
 use Rattle.std.proofs.{Common.{◌≡◌, ◌≢◌, ℕ, ◌+◌, ◌<◌, ◌≤◌, List, [], ◌∷◌, ◌++◌, length, refl, ap, sym, ◌∙◌, arith, append-nil, append_assoc}, lemmas.List.Elements.All-push}
 use Rattle.std.specs.Prelude.{All, sum_by}
 use Rattle.lert_base.specs.{Beginning.BeginsWith, Packet.{Packet, events_of}, Weave.AreCut, declared.cone_fault.ConeFault.ConeFault}
 use Rattle.lert_conelock.specs.Sight.{Sight}
-use Rattle.lert_spec.specs.{declared.item.Item.Item, declared.numbers.Numbers.Numbers, Items.units, Mix.part_of}
+use Rattle.lert_spec.specs.{declared.item.Item.Item, declared.numbers.Numbers.Numbers, Counts.weighed, Mix.part_in}
 use Rattle.lert_worker.specs.{Brings.late_tries, Outbox.IsSendable, Ran.IsTurned, Sending.{IsOf, Lane, SentIn, WasTaken, WasTurned}, declared.end.WorkerEnd.WorkerEnd}
 use Rattle.lert_worker.specs.declared.end.WorkerEnd.TheVariants.{Ran, Cone}
 use Rattle.lert_worker.proofs.{Counts.counts_on, LaneLaws.{cut_push, cut_whole, full_push, joined_more, met_more, own_packet, ringed, with_none}}
 
 module _ {H : Type 0} (s : Numbers) (number cone trace : ℕ) where
   -- the cone refused a packet before: the trace is left where it is
-  pub rested_stopped : (keys : List ℕ) (at : ℕ) (fault : ConeFault) (before after : Sight H ConeFault) → cone < at
-      → SentIn s number cone trace keys Ran before after → SentIn s number cone trace keys (Cone at fault) before after
-  rested_stopped keys at fault before after below rested = record {
+  pub rested_stopped : (items : List Item) (at : ℕ) (fault : ConeFault) (before after : Sight H ConeFault) → cone < at
+      → SentIn s number cone trace items Ran before after → SentIn s number cone trace items (Cone at fault) before after
+  rested_stopped items at fault before after below rested = record {
     sent = rested.sent;
     turned = rested.turned;
     calls_are = rested.calls_are;
@@ -28,13 +28,13 @@ module _ {H : Type 0} (s : Numbers) (number cone trace : ℕ) where
     counts = rested.counts;
   }
 
-  module _ (some : 1 ≤ s.packet) (keys : List ℕ) (ring : List Item) (tried : ℕ) (before now : Sight H ConeFault)
-      (lane : Lane s number cone trace keys tried before now ring) where
+  module _ (some : 1 ≤ s.packet) (items : List Item) (ring : List Item) (tried : ℕ) (before now : Sight H ConeFault)
+      (lane : Lane s number cone trace items tried before now ring) where
     met_kept : before.met + sum_by (late_tries s) lane.sent ≤ now.met
     met_kept = let old = lane.met 0 (omega arith) in omega (arith, old)
 
-    -- the trace is left where it is, with keys in the ring
-    pub lane_stopped : (end : WorkerEnd) → IsTurned end cone [] → (end ≢ Ran) → SentIn s number cone trace keys end before now
+    -- the trace is left where it is, with items in the ring
+    pub lane_stopped : (end : WorkerEnd) → IsTurned end cone [] → (end ≢ Ran) → SentIn s number cone trace items end before now
     lane_stopped end none other = record {
       sent = lane.sent;
       turned = [];
@@ -43,7 +43,7 @@ module _ {H : Type 0} (s : Numbers) (number cone trace : ℕ) where
       turned_is = none;
       each = with_none (All (IsOf s number trace)) lane.sent lane.each;
       cut = with_none (AreCut s.packet) lane.sent (cut_whole s.packet lane.sent lane.whole);
-      part = with_none (λ packets. BeginsWith (units (part_of s cone keys)) (events_of packets)) lane.sent (ring, lane.joined);
+      part = with_none (λ packets. BeginsWith (part_in weighed s cone items) (events_of packets)) lane.sent (ring, lane.joined);
       all = λ ran. absurd (other ran);
       no_rest = λ _. lane.whole;
       waits = omega (arith, lane.waits);
@@ -51,10 +51,10 @@ module _ {H : Type 0} (s : Numbers) (number cone trace : ℕ) where
       counts = lane.counts;
     }
 
-    -- its end came with no key in the ring
-    pub lane_empty : ring ≡ [] → SentIn s number cone trace keys Ran before now
+    -- its end came with no item in the ring
+    pub lane_empty : ring ≡ [] → SentIn s number cone trace items Ran before now
     lane_empty none =
-        let joined : events_of lane.sent ≡ units (part_of s cone keys) =
+        let joined : events_of lane.sent ≡ part_in weighed s cone items =
         sym (append-nil (events_of lane.sent)) ∙ (ap (λ xs. events_of lane.sent ++ xs) (sym none) ∙ lane.joined) in
         record {
           sent = lane.sent;
@@ -64,7 +64,7 @@ module _ {H : Type 0} (s : Numbers) (number cone trace : ℕ) where
           turned_is = refl;
           each = with_none (All (IsOf s number trace)) lane.sent lane.each;
           cut = with_none (AreCut s.packet) lane.sent (cut_whole s.packet lane.sent lane.whole);
-          part = with_none (λ packets. BeginsWith (units (part_of s cone keys)) (events_of packets)) lane.sent ([], append-nil (events_of lane.sent) ∙ joined);
+          part = with_none (λ packets. BeginsWith (part_in weighed s cone items) (events_of packets)) lane.sent ([], append-nil (events_of lane.sent) ∙ joined);
           all = λ _. joined;
           no_rest = λ open_is. absurd open_is;
           waits = omega (arith, lane.waits);
@@ -77,13 +77,13 @@ module _ {H : Type 0} (s : Numbers) (number cone trace : ℕ) where
       packets = lane.sent ++ ringed number trace ring ∷ []
 
       each_more : All (IsOf s number trace) packets
-      each_more = All-push (IsOf s number trace) lane.sent (ringed number trace ring) lane.each (own_packet s number cone trace some keys ring tried before now lane last may)
+      each_more = All-push (IsOf s number trace) lane.sent (ringed number trace ring) lane.each (own_packet s number cone trace some items ring tried before now lane last may)
 
-      events_are : events_of packets ≡ units (part_of s cone keys)
-      events_are = joined_more s number cone trace some keys ring tried before now lane last may
+      events_are : events_of packets ≡ part_in weighed s cone items
+      events_are = joined_more s number cone trace some items ring tried before now lane last may
 
-      -- its end came, and the cone took the keys of the ring
-      pub lane_rest : (after : Sight H ConeFault) → WasTaken (ringed number trace ring) 1 now after → SentIn s number cone trace keys Ran before after
+      -- its end came, and the cone took the items of the ring
+      pub lane_rest : (after : Sight H ConeFault) → WasTaken (ringed number trace ring) 1 now after → SentIn s number cone trace items Ran before after
       lane_rest after taken = record {
         sent = packets;
         turned = [];
@@ -92,17 +92,17 @@ module _ {H : Type 0} (s : Numbers) (number cone trace : ℕ) where
         turned_is = refl;
         each = with_none (All (IsOf s number trace)) packets each_more;
         cut = with_none (AreCut s.packet) packets (cut_push s.packet lane.sent (ringed number trace ring) lane.whole);
-        part = with_none (λ ps. BeginsWith (units (part_of s cone keys)) (events_of ps)) packets ([], append-nil (events_of packets) ∙ events_are);
+        part = with_none (λ ps. BeginsWith (part_in weighed s cone items) (events_of ps)) packets ([], append-nil (events_of packets) ∙ events_are);
         all = λ _. events_are;
         no_rest = λ open_is. absurd open_is;
         waits = omega (arith, taken.waits_are, lane.waits, full_push s lane.sent (ringed number trace ring));
-        met = met_more s number cone trace some keys ring tried before now lane last may after.met taken.met;
+        met = met_more s number cone trace some items ring tried before now lane last may after.met taken.met;
         counts = counts_on before now after lane.counts taken.counts;
       }
 
       -- the cone refused the packet of the ring
       pub lane_turned : (fault : ConeFault) (more : ℕ) (after : Sight H ConeFault) → WasTurned (ringed number trace ring) fault more now after → more ≤ 1
-          → SentIn s number cone trace keys (Cone cone fault) before after
+          → SentIn s number cone trace items (Cone cone fault) before after
       lane_turned fault more after turned few = record {
         sent = lane.sent;
         turned = (ringed number trace ring, fault) ∷ [];

@@ -43,17 +43,17 @@ pub drained_below : (rings : Rings) (most fewer : ℕ) → fewer ≤ most → Ar
 drained_below rings most fewer few drained = λ cone below. drained cone (omega (arith, few, below))
 
 -- all cones, and so those below a lesser number
-pub sent_below : {H : Type 0} (s : Numbers) (number trace below most : ℕ) (keys : List ℕ) (end : WorkerEnd) (start now : FleetPassSight H ConeFault) → most ≤ below
-    → AreSent s number trace below keys end start now → AreSent s number trace most keys end start now
-sent_below s number trace below most keys end start now few sent = record {
+pub sent_below : {H : Type 0} (s : Numbers) (number trace below most : ℕ) (items : List Item) (end : WorkerEnd) (start now : FleetPassSight H ConeFault) → most ≤ below
+    → AreSent s number trace below items end start now → AreSent s number trace most items end start now
+sent_below s number trace below most items end start now few sent = record {
   as_many = sent.as_many;
   each = λ cone before after under was is. sent.each cone before after (omega (arith, few, under)) was is;
 }
 
 -- no cone has anything of the trace yet
-pub sent_none : {H : Type 0} (s : Numbers) (number trace : ℕ) (keys : List ℕ) (start now : FleetPassSight H ConeFault) → length now.cones ≡ length start.cones
-    → AreSent s number trace 0 keys Ran start now
-sent_none s number trace keys start now many = record { as_many = many; each = λ cone before after under was is. absurd (omega (arith, under)) }
+pub sent_none : {H : Type 0} (s : Numbers) (number trace : ℕ) (items : List Item) (start now : FleetPassSight H ConeFault) → length now.cones ≡ length start.cones
+    → AreSent s number trace 0 items Ran start now
+sent_none s number trace items start now many = record { as_many = many; each = λ cone before after under was is. absurd (omega (arith, under)) }
 
 module _ {H : Type 0} (s : Numbers) (some : 1 ≤ s.packet) (number trace : ℕ) where
   -- a trace begins with empty rings
@@ -68,13 +68,13 @@ module _ {H : Type 0} (s : Numbers) (some : 1 ≤ s.packet) (number trace : ℕ)
         (subst (λ (r : List Item). Lane s number cone trace [] (length r) before before r) (sym none) (lane_start s number cone trace some before));
   }
 
-  -- and stops with keys in them
-  pub lanes_stopped : (keys : List ℕ) (start pass : FleetPassSight H ConeFault) (rings : Rings) (end : WorkerEnd) (below : ℕ) → ((cone : ℕ) → IsTurned end cone []) → end ≢ Ran
-      → Lanes s number trace 0 keys start pass rings → AreSent s number trace below keys end start pass
-  lanes_stopped keys start pass rings end below none other lanes = record {
+  -- and stops with items in them
+  pub lanes_stopped : (items : List Item) (start pass : FleetPassSight H ConeFault) (rings : Rings) (end : WorkerEnd) (below : ℕ) → ((cone : ℕ) → IsTurned end cone []) → end ≢ Ran
+      → Lanes s number trace 0 items start pass rings → AreSent s number trace below items end start pass
+  lanes_stopped items start pass rings end below none other lanes = record {
     as_many = lanes.as_many;
     each = λ cone before after under was is.
-        lane_stopped s number cone trace some keys (ring_of rings cone) (length (ring_of rings cone)) before after (lanes.each cone before after (omega arith) was is) end (none cone) other;
+        lane_stopped s number cone trace some items (ring_of rings cone) (length (ring_of rings cone)) before after (lanes.each cone before after (omega arith) was is) end (none cone) other;
   }
 
 -- empty rings have room

@@ -1,18 +1,19 @@
 -- How a worker ends, and what that says of its readers.
 use Rattle.std.specs.Prelude.{◌≡◌, ℕ, ◌+◌, ◌<◌, ◌≤◌, List, [], length, take, drop, Option, Some, None, slice_get}
 use Rattle.lert_io.specs.Reading.{IfTold}
+use Rattle.lert_spec.specs.declared.item.Item.{Item}
 use Rattle.lert_trace.specs.{Trace.whole, Reader.{Reading, IsTraceOf, Means}, declared.fault.TraceFault.TraceFault}
 use Rattle.lert_worker.specs.{declared.end.WorkerEnd.WorkerEnd, declared.end.WorkerEnd.TheVariants.{Ran, Trace, Cone}}
 
 module _ {S : Type 0} (remaining : S → Option (List ℕ)) (faults mark : S → ℕ) where
-  -- The same reader later, and the keys that it gave since: what its trace had still to give begins with them. A fault says
+  -- The same reader later, and the items that it gave since: what its trace had still to give begins with them. A fault says
   -- why it can't be read on, where it is none from before
-  pub record WasRead (old new : Reading S) (keys : List ℕ) : Type 0 where
+  pub record WasRead (old new : Reading S) (items : List Item) : Type 0 where
     pub made_is : new.made ≡ old.made
     pub limit_is : new.limit ≡ old.limit
-    pub given_is : new.given ≡ old.given + length keys
+    pub given_is : new.given ≡ old.given + length items
     pub within : old.given ≤ old.limit → new.given ≤ new.limit
-    pub told : IfTold (remaining old.made) (λ bytes. keys ≡ take (length keys) (drop old.given (whole bytes)))
+    pub told : IfTold (remaining old.made) (λ bytes. items ≡ take (length items) (drop old.given (whole bytes)))
     pub marked : mark new.source ≡ mark old.source
     pub never_falls : faults old.source ≤ faults new.source
     pub caused : old.fault ≡ None → (fault : TraceFault) → new.fault ≡ Some fault → Means remaining faults new.made new.source new.limit new.given fault

@@ -3,7 +3,7 @@ use Rattle.std.specs.{Prelude.{◌≡◌, ◌≢◌, ℕ, ◌+◌, ◌^◌, ◌<
 use Rattle.lert_base.specs.{declared.held.Held.Ghosts as HeldOf, Packet.Packet, declared.cone_fault.ConeFault.ConeFault}
 use Rattle.lert_conelock.specs.Sight.{Sight, LockSight, Counts}
 use Rattle.lert_fleet.specs.{Cones.{FleetSight, FleetPassSight, IsPassOf}, Each.EachThree}
-use Rattle.lert_spec.specs.declared.numbers.Numbers.{Numbers}
+use Rattle.lert_spec.specs.{declared.item.Item.Item, declared.numbers.Numbers.Numbers}
 use Rattle.lert_trace.specs.Reader.{Reading}
 use Rattle.lert_worker.specs.{Brings.{Brings, BringsPart, HasNoRest, MayBring, full_packets, late_tries}, Ends.{Stopped, WasRead}, declared.end.WorkerEnd.WorkerEnd}
 use Rattle.lert_worker.specs.declared.end.WorkerEnd.TheVariants.{Ran, Trace, Cone}
@@ -66,7 +66,7 @@ StillOpen (Trace trace fault) cone = Unit {0}
 StillOpen (Cone at fault) cone = at ≤ cone
 
 -- what a run of a worker leaves in one cone
-pub record RanIn {H : Type 0} (s : Numbers) (number cone : ℕ) (traces : List ℕ) (reads : List (List ℕ)) (stopped : ℕ) (end : WorkerEnd)
+pub record RanIn {H : Type 0} (s : Numbers) (number cone : ℕ) (traces : List ℕ) (reads : List (List Item)) (stopped : ℕ) (end : WorkerEnd)
     (old new : Sight H ConeFault) : Type 0 where
   pub added : List Packet
   pub turned : List (Packet × ConeFault)
@@ -88,8 +88,8 @@ pub record HasRun {S H : Type 0} (remaining : S → Option (List ℕ)) (faults m
   pub belongs : IsPassOf new.pass fleet
   pub lo_is : new.pass.lo ≡ old.pass.lo
   pub hi_is : new.pass.hi ≡ old.pass.hi
-  -- the keys that were read of each trace
-  pub reads : List (List ℕ)
+  -- the items that were read of each trace
+  pub reads : List (List Item)
   pub read : EachThree (WasRead remaining faults mark) old.readers new.readers reads
   -- the place and the number of the trace at which it stopped
   pub place : ℕ

@@ -1,9 +1,9 @@
-//! Workers: readers of traces that bring each key to its cone, through a fleet that other workers use too.
+//! Workers: readers of traces that bring each item to its cone, through a fleet that other workers use too.
 //!
 //! The one contract is that of `run_worker`: of each of a worker's traces, one after the other, the packets that it brought to a
-//! cone join to that cone's keys of what was read, or to a beginning of them where the worker stopped; each but the last is whole; and it
-//! waited for a cone only with a full ring or with the rest of a trace. It takes no memory, and holds no lock while it reads.
-//! Runs over several traces stand on it.
+//! cone join to that cone's items of what was read, or to a beginning of them where the worker stopped; each but the last is
+//! whole; and it waited for a cone only with a full ring or with the rest of a trace. It takes no memory, and holds no lock while
+//! it reads. Runs over several traces stand on it.
 #![tactic(auto)]
 
 mod end;

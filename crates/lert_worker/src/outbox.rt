@@ -1,4 +1,4 @@
-//! Keys on their way to the cones.
+//! Items on their way to the cones.
 
 ghost use Rattle.std.specs.Prelude.{◌≡◌, ◌⊎◌, ◌^◌, ◌<◌, [], IfErr, MatchResult, OnOk};
 ghost use Rattle.lert_buffers.specs.Rings.{ring_of, with_ring};
@@ -9,7 +9,7 @@ use lert_buffers::{Buffers, Fill};
 use lert_fleet::{Fleet, FleetPass, Turn};
 use std::sync::Wait;
 
-/// The settings of the cones, a ring for each, and the entry that a ring's keys go out in, under the worker's number.
+/// The settings of the cones, a ring for each, and the entry that a ring's items go out in, under the worker's number.
 #[derive(Drop)]
 pub struct Outbox {
     pub settings: Settings,
@@ -21,7 +21,7 @@ impl Outbox {
     ghost use Rattle.lert_worker.specs.Outbox.{IsIdle, IsResting, IsSame, IsSameOutbox, IsSendable, MaySend};
     ghost use Rattle.lert_worker.specs.Sending.{AtOwn, Goes, IsBrought, Stays, WasTurned, packet_with, waits_at};
 
-    /// Moves the keys of a cone's ring to the cone as its number of keys asks for: four packets in each case, one to three only if
+    /// Moves the items of a cone's ring to the cone as their number asks for: four packets in each case, one to three only if
     /// no other caller holds the cone's lock just now, and other numbers not yet. A refusal is the cone's.
     pub fn bring<H: Held<Refusal = ConeFault>, R: Wait>(
         &mut self,
@@ -33,7 +33,7 @@ impl Outbox {
     ) -> Result<(), ConeFault>
         requires may { MaySend H.Held fleet.now pass.old self.old }
         requires cone { cone < 2 ^ self.old.settings.cone_bits }
-        requires keys { IsSendable self.old.settings cone (ring_of self.old.rings cone) }
+        requires items { IsSendable self.old.settings cone (ring_of self.old.rings cone) }
         ensures may { MaySend H.Held fleet.now pass.new self.new }
         ensures same { IsSame self.old self.new pass.old pass.new }
         ensures others { ChangesOnly cone pass.old pass.new }
@@ -49,7 +49,8 @@ impl Outbox {
         }
     }
 
-    // Moves the keys of a cone's ring to the cone as one packet, if no other caller holds its lock just now. A refusal is the cone's.
+    // Moves the items of a cone's ring to the cone as one packet, if no other caller holds its lock just now. A refusal is the
+    // cone's.
     fn try_packet<H: Held<Refusal = ConeFault>>(
         &mut self,
         fleet: &Fleet<H>,
@@ -58,7 +59,7 @@ impl Outbox {
     ) -> Result<(), ConeFault>
         requires may { MaySend H.Held fleet.now pass.old self.old }
         requires cone { cone < 2 ^ self.old.settings.cone_bits }
-        requires keys { IsSendable self.old.settings cone (ring_of self.old.rings cone) }
+        requires items { IsSendable self.old.settings cone (ring_of self.old.rings cone) }
         ensures may { MaySend H.Held fleet.now pass.new self.new }
         ensures same { IsSame self.old self.new pass.old pass.new }
         ensures others { ChangesOnly cone pass.old pass.new }
@@ -86,7 +87,8 @@ impl Outbox {
         }
     }
 
-    /// Moves the keys of a cone's ring to the cone as one packet, and waits for its lock where it must. A refusal is the cone's.
+    /// Moves the items of a cone's ring to the cone as one packet, and waits for its lock where it must. A refusal is the
+    /// cone's.
     pub fn wait_packet<H: Held<Refusal = ConeFault>, R: Wait>(
         &mut self,
         rt: &R,
@@ -96,7 +98,7 @@ impl Outbox {
     ) -> Result<(), ConeFault>
         requires may { MaySend H.Held fleet.now pass.old self.old }
         requires cone { cone < 2 ^ self.old.settings.cone_bits }
-        requires keys { IsSendable self.old.settings cone (ring_of self.old.rings cone) }
+        requires items { IsSendable self.old.settings cone (ring_of self.old.rings cone) }
         ensures may { MaySend H.Held fleet.now pass.new self.new }
         ensures same { IsSame self.old self.new pass.old pass.new }
         ensures others { ChangesOnly cone pass.old pass.new }
@@ -115,8 +117,8 @@ impl Outbox {
         }
     }
 
-    /// Lets the keys in all rings go.
-    pub fn drop_keys(&mut self)
+    /// Lets the items in all rings go.
+    pub fn drop_items(&mut self)
         requires { IsIdle self.old }
         ensures resting { IsResting self.new }
         ensures same { IsSameOutbox self.old self.new }

@@ -16,11 +16,11 @@ use lert_trace::TraceReader;
 use std::collections::VecDeque;
 use std::sync::Wait;
 
-/// Reads each trace of a worker to its end, and brings its keys to the cones of a fleet.
+/// Reads each trace of a worker to its end, and brings its items to the cones of a fleet.
 ///
-/// A cone's keys wait in its ring. As soon as the ring holds one, two or three packets, it goes as one packet if no other
+/// A cone's items wait in its ring. As soon as the ring holds one, two or three packets, it goes as one packet if no other
 /// caller holds the cone's lock just then; with four packets, and with what is left at the end of a trace, it waits for the
-/// lock. A trace that can't be read on and a packet that is refused end the run at once, and the keys in the rings are
+/// lock. A trace that can't be read on and a packet that is refused end the run at once, and the items in the rings are
 /// dropped. Takes no memory.
 pub fn run_worker<S: Source, H: Held<Refusal = ConeFault>, R: Wait>(
     rt: &R,

@@ -1,8 +1,9 @@
-//! The keys of one trace, brought to their cones.
+//! The items of one trace, brought to their cones.
 
-ghost use Rattle.std.specs.Prelude.{◌≡◌, ℕ, ◌+◌, ◌^◌, ◌<◌, [], ◌∷◌, ◌++◌, List, IfErr, OnOk};
+ghost use Rattle.std.specs.Prelude.{◌≡◌, ◌+◌, ◌^◌, ◌<◌, ◌≤◌, [], ◌∷◌, ◌++◌, List, IfErr, OnOk};
 ghost use Rattle.lert_buffers.specs.Rings.{with_ring};
 ghost use Rattle.lert_fleet.specs.Cones.{FleetPassSight};
+ghost use Rattle.lert_spec.specs.declared.item.Item.{Item};
 ghost use Rattle.lert_worker.specs.Outbox.{AreDrained, HaveRoom, IsResting, IsSame, MaySend};
 ghost use Rattle.lert_worker.specs.Sending.{AreSent, Lanes};
 ghost use Rattle.lert_worker.specs.Trace.{HasReadTrace, HasSentTrace, IsByCone};
@@ -13,41 +14,43 @@ use lert_base::{ConeFault, Held};
 use lert_fleet::{Fleet, FleetPass};
 use lert_io::Source;
 use lert_mixer::cone_of;
+use lert_spec::Item;
 use lert_trace::TraceReader;
 use std::sync::Wait;
 
-// Puts a key into the ring of its cone with the weight 1, and brings the ring there where it is time. A refusal is the cone's.
-fn take_key<H: Held<Refusal = ConeFault>, R: Wait>(
+// Puts an item into the ring of its cone, and brings the ring there where it is time. A refusal is the cone's.
+fn take_item<H: Held<Refusal = ConeFault>, R: Wait>(
     rt: &R,
     fleet: &Fleet<H>,
     pass: &mut FleetPass<H>,
     outbox: &mut Outbox,
-    key: u64,
+    item: Item,
 ) -> Result<(), WorkerEnd>
+    requires weight { 1 ≤ item.weight }
     requires may { MaySend H.Held fleet.now pass.old outbox.old }
     requires room { HaveRoom outbox.old.settings outbox.old.rings }
     ensures may { MaySend H.Held fleet.now pass.new outbox.new }
     ensures room { HaveRoom outbox.new.settings outbox.new.rings }
     ensures same { IsSame outbox.old outbox.new pass.old pass.new }
-    ensures taken { (start : FleetPassSight H ConeFault) (keys : List ℕ) →
-        Lanes outbox.old.settings outbox.old.entry.by outbox.old.entry.trace 0 keys start pass.old outbox.old.rings →
-        OnOk result (Lanes outbox.old.settings outbox.old.entry.by outbox.old.entry.trace 0 (keys ++ key ∷ []) start pass.new outbox.new.rings) }
-    ensures refused { (start : FleetPassSight H ConeFault) (keys : List ℕ) →
-        Lanes outbox.old.settings outbox.old.entry.by outbox.old.entry.trace 0 keys start pass.old outbox.old.rings →
+    ensures taken { (start : FleetPassSight H ConeFault) (items : List Item) →
+        Lanes outbox.old.settings outbox.old.entry.by outbox.old.entry.trace 0 items start pass.old outbox.old.rings →
+        OnOk result (Lanes outbox.old.settings outbox.old.entry.by outbox.old.entry.trace 0 (items ++ item ∷ []) start pass.new outbox.new.rings) }
+    ensures refused { (start : FleetPassSight H ConeFault) (items : List Item) →
+        Lanes outbox.old.settings outbox.old.entry.by outbox.old.entry.trace 0 items start pass.old outbox.old.rings →
         IfErr result (λ end. AreSent outbox.old.settings outbox.old.entry.by outbox.old.entry.trace (2 ^ outbox.old.settings.cone_bits)
-        (keys ++ key ∷ []) end start pass.new) }
+        (items ++ item ∷ []) end start pass.new) }
     ensures by_cone { IfErr result (IsByCone (2 ^ outbox.old.settings.cone_bits)) }
 {
-    let cone = cone_of(&outbox.settings, key);
-    let fill = outbox.rings.push(cone, key, 1);
+    let cone = cone_of(&outbox.settings, item.key);
+    let fill = outbox.rings.push(cone, item.key, item.weight);
     match outbox.bring(rt, fleet, pass, cone, fill) {
         Ok(()) => Ok(()),
         Err(fault) => Err(WorkerEnd::Cone { cone, fault }),
     }
 }
 
-// Reads a trace to its end, and takes each key.
-fn read_keys<S: Source, H: Held<Refusal = ConeFault>, R: Wait>(
+// Reads a trace to its end, and takes each item.
+fn read_items<S: Source, H: Held<Refusal = ConeFault>, R: Wait>(
     rt: &R,
     fleet: &Fleet<H>,
     pass: &mut FleetPass<H>,
@@ -62,8 +65,8 @@ fn read_keys<S: Source, H: Held<Refusal = ConeFault>, R: Wait>(
     ensures read { HasReadTrace S.remaining S.faults S.mark outbox.old pass.old reader.old pass.new reader.new outbox.new.rings result }
 {
     loop {
-        let key = match reader.next() {
-            Ok(Some(key)) => key,
+        let item = match reader.next() {
+            Ok(Some(item)) => item,
             Ok(None) => return Ok(()),
             Err(fault) => {
                 return Err(WorkerEnd::Trace {
@@ -72,7 +75,7 @@ fn read_keys<S: Source, H: Held<Refusal = ConeFault>, R: Wait>(
                 });
             }
         };
-        if let Err(end) = take_key(rt, fleet, pass, outbox, key) {
+        if let Err(end) = take_item(rt, fleet, pass, outbox, item) {
             return Err(end);
         }
     }
@@ -93,18 +96,18 @@ fn send_rest<H: Held<Refusal = ConeFault>, R: Wait>(
     ensures room { HaveRoom outbox.new.settings outbox.new.rings }
     ensures same { IsSame outbox.old outbox.new pass.old pass.new }
     ensures rings { outbox.new.rings ≡ with_ring outbox.old.rings cone [] }
-    ensures lanes { (start : FleetPassSight H ConeFault) (keys : List ℕ) →
-        Lanes outbox.old.settings outbox.old.entry.by outbox.old.entry.trace cone keys start pass.old outbox.old.rings →
-        OnOk result (Lanes outbox.old.settings outbox.old.entry.by outbox.old.entry.trace (cone + 1) keys start pass.new outbox.new.rings) }
-    ensures sent { (start : FleetPassSight H ConeFault) (keys : List ℕ) →
-        Lanes outbox.old.settings outbox.old.entry.by outbox.old.entry.trace cone keys start pass.old outbox.old.rings →
-        AreSent outbox.old.settings outbox.old.entry.by outbox.old.entry.trace cone keys WorkerEnd.Ran start pass.old →
-        OnOk result (AreSent outbox.old.settings outbox.old.entry.by outbox.old.entry.trace (cone + 1) keys WorkerEnd.Ran start pass.new) }
-    ensures refused { (start : FleetPassSight H ConeFault) (keys : List ℕ) →
-        Lanes outbox.old.settings outbox.old.entry.by outbox.old.entry.trace cone keys start pass.old outbox.old.rings →
-        AreSent outbox.old.settings outbox.old.entry.by outbox.old.entry.trace cone keys WorkerEnd.Ran start pass.old →
+    ensures lanes { (start : FleetPassSight H ConeFault) (items : List Item) →
+        Lanes outbox.old.settings outbox.old.entry.by outbox.old.entry.trace cone items start pass.old outbox.old.rings →
+        OnOk result (Lanes outbox.old.settings outbox.old.entry.by outbox.old.entry.trace (cone + 1) items start pass.new outbox.new.rings) }
+    ensures sent { (start : FleetPassSight H ConeFault) (items : List Item) →
+        Lanes outbox.old.settings outbox.old.entry.by outbox.old.entry.trace cone items start pass.old outbox.old.rings →
+        AreSent outbox.old.settings outbox.old.entry.by outbox.old.entry.trace cone items WorkerEnd.Ran start pass.old →
+        OnOk result (AreSent outbox.old.settings outbox.old.entry.by outbox.old.entry.trace (cone + 1) items WorkerEnd.Ran start pass.new) }
+    ensures refused { (start : FleetPassSight H ConeFault) (items : List Item) →
+        Lanes outbox.old.settings outbox.old.entry.by outbox.old.entry.trace cone items start pass.old outbox.old.rings →
+        AreSent outbox.old.settings outbox.old.entry.by outbox.old.entry.trace cone items WorkerEnd.Ran start pass.old →
         IfErr result (λ end. AreSent outbox.old.settings outbox.old.entry.by outbox.old.entry.trace (2 ^ outbox.old.settings.cone_bits)
-        keys end start pass.new) }
+        items end start pass.new) }
     ensures by_cone { IfErr result (IsByCone (2 ^ outbox.old.settings.cone_bits)) }
 {
     let left = outbox.rings.len(cone);
@@ -129,14 +132,14 @@ fn send_rests<H: Held<Refusal = ConeFault>, R: Wait>(
     ensures may { MaySend H.Held fleet.now pass.new outbox.new }
     ensures same { IsSame outbox.old outbox.new pass.old pass.new }
     ensures drained { OnOk result (AreDrained (2 ^ outbox.new.settings.cone_bits) outbox.new.rings) }
-    ensures sent { (start : FleetPassSight H ConeFault) (keys : List ℕ) →
-        Lanes outbox.old.settings outbox.old.entry.by outbox.old.entry.trace 0 keys start pass.old outbox.old.rings →
+    ensures sent { (start : FleetPassSight H ConeFault) (items : List Item) →
+        Lanes outbox.old.settings outbox.old.entry.by outbox.old.entry.trace 0 items start pass.old outbox.old.rings →
         OnOk result (AreSent outbox.old.settings outbox.old.entry.by outbox.old.entry.trace (2 ^ outbox.old.settings.cone_bits)
-        keys WorkerEnd.Ran start pass.new) }
-    ensures refused { (start : FleetPassSight H ConeFault) (keys : List ℕ) →
-        Lanes outbox.old.settings outbox.old.entry.by outbox.old.entry.trace 0 keys start pass.old outbox.old.rings →
+        items WorkerEnd.Ran start pass.new) }
+    ensures refused { (start : FleetPassSight H ConeFault) (items : List Item) →
+        Lanes outbox.old.settings outbox.old.entry.by outbox.old.entry.trace 0 items start pass.old outbox.old.rings →
         IfErr result (λ end. AreSent outbox.old.settings outbox.old.entry.by outbox.old.entry.trace (2 ^ outbox.old.settings.cone_bits)
-        keys end start pass.new) }
+        items end start pass.new) }
     ensures by_cone { IfErr result (IsByCone (2 ^ outbox.old.settings.cone_bits)) }
 {
     for cone in 0..outbox.settings.cones() {
@@ -147,7 +150,7 @@ fn send_rests<H: Held<Refusal = ConeFault>, R: Wait>(
     Ok(())
 }
 
-/// Reads a trace to its end, and brings its keys to the cones of a fleet. After another end than `Ran` the keys in the rings
+/// Reads a trace to its end, and brings its items to the cones of a fleet. After another end than `Ran` the items in the rings
 /// are dropped.
 pub fn send_trace<S: Source, H: Held<Refusal = ConeFault>, R: Wait>(
     rt: &R,
@@ -163,12 +166,12 @@ pub fn send_trace<S: Source, H: Held<Refusal = ConeFault>, R: Wait>(
     ensures same { IsSame outbox.old outbox.new pass.old pass.new }
     ensures sent { HasSentTrace S.remaining S.faults S.mark outbox.old pass.old reader.old pass.new reader.new result }
 {
-    if let Err(end) = read_keys(rt, fleet, pass, outbox, reader) {
-        outbox.drop_keys();
+    if let Err(end) = read_items(rt, fleet, pass, outbox, reader) {
+        outbox.drop_items();
         return end;
     }
     if let Err(end) = send_rests(rt, fleet, pass, outbox) {
-        outbox.drop_keys();
+        outbox.drop_items();
         return end;
     }
     WorkerEnd::Ran

@@ -8,7 +8,7 @@ use crate::callers::fleet_of_two;
 use lert_base::{ConeFault, Held, Settings};
 use lert_fleet::{Fleet, FleetPass};
 use lert_io::Source;
-use lert_trace::{MOST_KEYS, TraceReader};
+use lert_trace::{MOST_ITEMS, TraceReader};
 use lert_worker::{Worker, WorkerEnd, run_all, run_worker};
 use std::alloc::Global;
 use std::process::Abort;
@@ -85,7 +85,7 @@ where
         Ok(worker) => worker,
         Err(_pass) => panic!(rt; "memory"),
     };
-    match worker.give(number, TraceReader::new(source, MOST_KEYS)) {
+    match worker.give(number, TraceReader::new(source, MOST_ITEMS)) {
         Ok(()) => worker,
         Err(_refused) => panic!(rt; "memory"),
     }

@@ -16,7 +16,7 @@ use std::process::Abort;
 use std::sync::{Arc, Wait};
 use std::thread::Threads;
 
-// Two cones, and packets of one key.
+// Two cones, and packets of one item.
 const NUMBERS: Numbers = Numbers {
     threshold: 3,
     bins: 3,
@@ -40,7 +40,8 @@ const BOTH: [u8; 24] = [
     0x4c, 0x45, 0x52, 0x54, 1, 0, 0, 0, 0, 0, 0, 0, 0, 0, 0, 0, 1, 0, 0, 0, 0, 0, 0, 0,
 ];
 
-fn two_cones(rt: &impl Abort) -> Settings
+/// Settings of two cones, with packets of one item.
+pub fn two_cones(rt: &impl Abort) -> Settings
     ensures { result.cone_bits ≡ 1 }
 {
     Settings::new(NUMBERS).expect(rt, "settings")

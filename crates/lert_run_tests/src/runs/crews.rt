@@ -3,7 +3,7 @@
 use crate::checks::ends;
 use lert_base::Words;
 use lert_top::Status;
-use lert_trials::{SMALL, Two, crew_form, long_form, run_pair, run_two, trace};
+use lert_trials::{SMALL, Two, crew_form, long_form, run_pair, run_two, trace, weighed_trace};
 use std::alloc::Global;
 use std::process::Abort;
 use std::random::RandomSource;
@@ -47,6 +47,16 @@ fn a_key_of_two_traces_is_counted_in_both(rt: HostRuntime) {
         let words = crew_form(TWICE, workers, second);
         check_two(&rt, rt.alloc(), &words, &both, Status::Done, text);
     }
+}
+
+#[test]
+fn a_key_weighs_in_traces_of_both_versions_together(rt: HostRuntime) {
+    let plain = trace(rt.alloc(), &[7]).expect(&rt, "memory");
+    let weighed = weighed_trace(rt.alloc(), &[(7, 2), (8, 1)]).expect(&rt, "memory");
+    let both = two(&plain, &weighed);
+    let words = crew_form(SMALL, "1", "b");
+    let text = "cone 0 events 3 reports 1 closed\n7 2\ntotal events 3 reports 1\n";
+    check_two(&rt, rt.alloc(), &words, &both, Status::Done, text);
 }
 
 #[test]

@@ -33,11 +33,13 @@ fn a_bad_trace_is_answered_with_its_place_and_leaves_nothing_written(rt: HostRun
     let short = short_form("3");
     let mut cut = trace(rt.alloc(), &[7, 7, 7]).expect(&rt, "memory");
     cut.truncate(21);
-    let rows: [(&[u8], u64); 4] = [
+    let rows: [(&[u8], u64); 6] = [
         (&cut, 16),
         (&[], 0),
         (&[0x4c, 0x45, 0x52, 0], 3),
-        (&[0x4c, 0x45, 0x52, 0x54, 9, 0, 0, 0], 4),
+        (&[0x4c, 0x45, 0x52, 0x54, 0, 0, 0, 0], 4),
+        (&[0x4c, 0x45, 0x52, 0x54, 3, 0, 0, 0], 4),
+        (&[0x4c, 0x45, 0x52, 0x54, 5, 0, 0, 0], 4),
     ];
     for (trace, at) in rows {
         let row = whole_row(&short, 1, trace);

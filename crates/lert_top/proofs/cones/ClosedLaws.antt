@@ -4,7 +4,7 @@ use Rattle.lert_base.specs.declared.cone_fault.ConeFault.{ConeFault}
 use Rattle.lert_base.specs.declared.cone_fault.ConeFault.TheVariants as fault
 use Rattle.lert_bay.specs.Files.{Files}
 use Rattle.lert_cone.specs.{Listing.Listing, Sound.{IsKept, IsSoundAs}, Stands.{Standing, is_broken}}
-use Rattle.lert_spec.specs.declared.numbers.Numbers.{Numbers}
+use Rattle.lert_spec.specs.{declared.item.Item.Item, declared.numbers.Numbers.Numbers}
 use Rattle.lert_ingest.specs.{Bays.bays_of, Status.cone_status, Stops.{AreWeaving, IsWeaving}}
 use Rattle.lert_ingest.specs.declared.status.Status.TheVariants.{BayFault, CapacityFull, Done, Malformed, OutOfMemory, PlaceFault, WeightFull}
 use Rattle.lert_ingest.proofs.BayLaws.{bay_is, slice_get-some}
@@ -42,7 +42,7 @@ stopped_not_done cone (fault.OldJournal place) same = memory_not_done same
 
 -- ---- finished cones
 
-module _ {B : Type 0} (files : B → Option Files) (leaves : B → Files → Type 0) (faults mark : B → ℕ) (s : Numbers) (workers : ℕ) (traces : List (List ℕ)) where
+module _ {B : Type 0} (files : B → Option Files) (leaves : B → Files → Type 0) (faults mark : B → ℕ) (s : Numbers) (workers : ℕ) (traces : List (List Item)) where
   finished_one : (number : ℕ) (old new : Standing B) → IsWeaving files leaves faults s workers traces number old → IsFinished files leaves faults mark old new →
       IsClosedInEach files leaves s number new.bay
   finished_one number old new weaving finished seen told =

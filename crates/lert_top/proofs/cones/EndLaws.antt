@@ -5,11 +5,13 @@ use Rattle.lert_bay.specs.Files.{Files, IfTold}
 use Rattle.lert_cone.specs.{Sound.{IsSound, IsSoundAs}, Stands.{Standing, is_broken}}
 use Rattle.lert_base.specs.declared.cone_fault.ConeFault.{ConeFault}
 use Rattle.lert_base.specs.declared.cone_fault.ConeFault.TheVariants as fault
-use Rattle.lert_spec.specs.{declared.numbers.Numbers.Numbers, Limits.IsValid, Lines.{Printed, lines}}
-use Rattle.lert_ingest.specs.{Bays.{AreLater, AreWoven, HoldsAll, HoldsWeave, IfHeld, IsLater, bays_of}, Status.cone_status, Stops.AreWeaving, Traces.AllFit, declared.status.Status.Status}
+use Rattle.lert_spec.specs.{declared.item.Item.Item, declared.numbers.Numbers.Numbers, Edges.capacity, Limits.IsValid, Lines.{Printed, lines}}
+use Rattle.lert_ingest.specs.Bays.{AreLater, AreWoven, HoldsAll, HoldsWeave, IfHeld, IsLater, bays_of}
+use Rattle.lert_ingest.specs.{Status.cone_status, Stops.{AreTaken, AreWeaving}, Traces.part_length, declared.status.Status.Status}
 use Rattle.lert_ingest.proofs.BayLaws.{bay_at, bay_is, slice_get-some}
 use Rattle.lert_top.specs.cones.Finish.{AreClosed, AreEndedTo, AreFinished, AreFinishedTo, EndShows, end_failed, end_malformed, HasBroken, HasStopped, IsEnded, IsFinished}
 use Rattle.lert_top.specs.{cones.Print.{ArePrintable, printed_as}, cones.Printed.IsPrinted}
+use Rattle.lert_top.proofs.cones.TakenLaws.{taken_since}
 use Rattle.lert_top.proofs.{cones.FinishLaws.{ended_as, ended_same, ended_woven, events_fit, finished_printed, finished_reports, still_valid}, cones.PrintedLaws.printed_all}
 use Rattle.lert_top.proofs.cones.WovenLaws.{woven_length}
 
@@ -61,7 +63,7 @@ module _ {B : Type 0} (files : B → Option Files) (leaves : B → Files → Typ
         (subst (λ y. IsLater files faults mark a.0.bay y) (sym (bay_is new cone b.0 now b.1 is)) later);
   }
 
-  module _ (s : Numbers) (workers : ℕ) (traces : List (List ℕ)) (weaving : AreWeaving files leaves faults s workers traces old) where
+  module _ (s : Numbers) (workers : ℕ) (traces : List (List Item)) (weaving : AreWeaving files leaves faults s workers traces old) where
     running_over : (cone : ℕ) (before : Standing B) → slice_get old cone ≡ Some before → before.over ≡ None
     running_over cone before was = (weaving cone before was).stands.none_over (ap is_broken (weaving cone before was).state_is)
 
@@ -142,8 +144,8 @@ module _ {B : Type 0} (files : B → Option Files) (leaves : B → Files → Typ
           let finished = are.below cone before.0 now (slice_get_within old cone before.0 before.1) before.1 is in
           (ap is_broken finished.state_is, finished.ended.same.settings ∙ (weaving cone before.0 before.1).settings_are)
 
-      pub all_fit : AllFit s traces
-      all_fit cone named =
+      pub all_within : (cone : ℕ) → cone < 2 ^ s.cone_bits → part_length s cone traces ≤ capacity s
+      all_within cone named =
           let before = slice_get-some old cone (omega (arith, named, number)) in
           let at = weaving cone before.0 before.1 in
           omega (
@@ -173,9 +175,10 @@ module _ {B : Type 0} (files : B → Option Files) (leaves : B → Files → Typ
           still_valid files leaves faults mark s workers traces 0 first.0 first.0 (weaving 0 first.0 first.1) (ended_same files leaves faults mark first.0)
 
       -- the text of all cones is that of the reports of their journals
-      pub finished_closed : (P : List ℕ → Type 0) → P (lines (map printed_as new)) → AreClosed files s workers traces (bays_of new) P
-      finished_closed P text = record {
-        fits = all_fit;
+      pub finished_closed : AreTaken files s traces (bays_of old) → (P : List ℕ → Type 0) → P (lines (map printed_as new)) → AreClosed files s workers traces (bays_of new) P
+      finished_closed fits P text = record {
+        fits = taken_since files faults mark s traces (bays_of old) (bays_of new)
+            (ends_later are.number_is (finished_ended are)) fits;
         woven = all_woven;
         cones = map printed_as new;
         printed = printed_all files s all_valid workers (bays_of new) traces (map printed_as new) (length-map new printed_as ∙ (are.number_is ∙ number))

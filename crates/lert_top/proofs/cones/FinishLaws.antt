@@ -1,11 +1,11 @@
--- Cones that took all keys, and are finished one by one.
+-- Cones that took all items, and are finished one by one.
 use Rattle.std.proofs.{Common.{◌≡◌, ℕ, ◌+◌, ◌≤◌, Bool, true, false, List, length, set, Option, Some, None, slice_get, refl, ap, sym, ◌∙◌, subst, inl, inr, arith}, lemmas.Bool.cases_eq}
 use Rattle.std.proofs.{lemmas.List.length-set, lemmas.Option.{slice_get_within, same_Some}}
 use Rattle.lert_base.specs.Packet.{Packet, events_of}
 use Rattle.lert_bay.specs.Files.{Files, IfTold}
 use Rattle.lert_cone.specs.{Listing.{Listing, reports_of}, Sound.{IsSound, IsSoundAs, IsSoundOver}, Stands.{IsSameCone, Standing, StandsFor, WasSound, is_broken, is_finished}}
 use Rattle.lert_cone.specs.declared.state.ConeState.TheVariants.{Finished}
-use Rattle.lert_spec.specs.{declared.numbers.Numbers.Numbers, Edges.capacity, Limits.IsValid, Counts.weighed, Look.closing_of, Timely.IsTimelyIn}
+use Rattle.lert_spec.specs.{declared.item.Item.Item, declared.numbers.Numbers.Numbers, Edges.capacity, Limits.IsValid, Counts.weighed, Look.closing_of, Timely.IsTimelyIn}
 use Rattle.lert_spec.proofs.TimeBound.{timely_closing}
 use Rattle.lert_ingest.specs.{Bays.HoldsAll, Stops.IsWeaving, Traces.part_length}
 use Rattle.lert_ingest.proofs.BayLaws.{later_same, slice_get-set_other, slice_get-set_same}
@@ -60,8 +60,8 @@ module _ {B : Type 0} (files : B → Option Files) (leaves : B → Files → Typ
       above = λ cone from. slice_get-set_other new at cone now (λ same. absurd (omega (arith, from, same))) ∙ so_far.above cone (omega (arith, from));
     }
 
-  -- a cone of a number that took its part of the keys of all traces
-  module _ (s : Numbers) (workers : ℕ) (traces : List (List ℕ)) (number : ℕ) (old new : Standing B) (weaving : IsWeaving files leaves faults s workers traces number old)
+  -- a cone of a number that took its part of the items of all traces
+  module _ (s : Numbers) (workers : ℕ) (traces : List (List Item)) (number : ℕ) (old new : Standing B) (weaving : IsWeaving files leaves faults s workers traces number old)
       (ended : IsEnded files leaves faults mark old new) where
     stood : StandsFor files leaves faults new weaving.history
     stood = ended.stands weaving.history weaving.stands
@@ -129,9 +129,9 @@ module _ {B : Type 0} (files : B → Option Files) (leaves : B → Files → Typ
           }
         where
           reports : new.reports ≡ reports_of new.listing → new.listing.events ≡ events_of weaving.history → new.reports ≡ closing_of weighed s (events_of weaving.history)
-          reports are keys =
+          reports are items =
               are
-              ∙ ((λ i. reports_of (record { settings = settings_is i; version = new.listing.version; cone = new.listing.cone; events = keys i; closed = closed_is i })))
+              ∙ ((λ i. reports_of (record { settings = settings_is i; version = new.listing.version; cone = new.listing.cone; events = items i; closed = closed_is i })))
 
       pub finished_printed : (bays : List B) → slice_get bays number ≡ Some new.bay → IsPrinted files s workers bays traces number (printed_as new)
       finished_printed bays there = record {

@@ -1,9 +1,9 @@
--- The keys that occur often enough.
-use Rattle.std.proofs.{Common.{◌≡◌, ◌≢◌, ℕ, ◌+◌, ◌*◌, ◌/◌, ◌^◌, ◌<◌, ◌≤◌, zero, suc, Bool, cond, leb, List, [], ◌∷◌, length, get_or, lit<, ap, sym, ◌∙◌, inl, inr, arith, refl}, Math.Nat.mod-lt}
-use Rattle.std.proofs.{lemmas.Bool.{cases_lt, cases_eq, lt-leb, le-leb}, lemmas.Bool.Decides.nat_tests, lemmas.Nat.{xor_lt, shr_le, shr_below}}
+-- The keys that weigh enough.
+use Rattle.std.proofs.Common.{◌≡◌, ◌≢◌, ℕ, ◌+◌, ◌*◌, ◌/◌, ◌^◌, ◌<◌, ◌≤◌, zero, suc, Bool, cond, leb, List, [], ◌∷◌, length, get_or, sum_by, lit<, ap, sym, ◌∙◌, inl, inr, arith, refl}
+use Rattle.std.proofs.{Math.Nat.mod-lt, lemmas.Bool.{cases_lt, cases_eq, lt-leb, le-leb, ne_eqb}, lemmas.Bool.Decides.nat_tests, lemmas.List.Sums.sum_by-cons, lemmas.Nat.{xor_lt, shr_le, shr_below}}
 use Rattle.std.specs.Prelude.{Contains}
 use Rattle.lert_spec.specs.Edges.{key_bits, tail_bits}
-use Rattle.lert_spec.specs.{declared.numbers.Numbers.Numbers, Counts.{count, distinct, heavy, insert_key, plain}, Mix.{cone_of, folded, mix, scaled}}
+use Rattle.lert_spec.specs.{declared.numbers.Numbers.Numbers, Counts.{Measure, distinct_in, heavy_in, insert_key, weight_for, weight_in}, Mix.{cone_of, folded, mix, scaled}}
 use Rattle.lert_spec.proofs.{CountLaws.count-whole, ReportLaws.{times, times-cons_other, times-cons_same, times-filter}}
 
 -- a list has what stands in it at least once
@@ -68,41 +68,46 @@ kept key new (first ∷ others) other =
       ]
     ]
 
-pub times-distinct : (key : ℕ) (events : List ℕ) → 1 ≤ times key events → 1 ≤ times key (distinct events)
-times-distinct key [] some = absurd (omega (arith, some))
-times-distinct key (event ∷ events) some =
-    elim (cases_eq event key) [
-      | inl same ↦ omega (arith, inserted event (distinct events), ap (λ k. times k (insert_key event (distinct events))) same)
-      | inr differs ↦ omega (arith, kept key event (distinct events) differs, times-distinct key events (omega (arith, some, times-cons_other key event events differs)))
-    ]
+module _ {A : Type 0} (by : Measure A) where
+  -- what has another key weighs nothing for a key
+  weighs-other : (key : ℕ) (event : A) (events : List A) → by.key event ≢ key → sum_by (weight_for by key) (event ∷ events) ≡ sum_by (weight_for by key) events
+  weighs-other key event events differs =
+      omega (arith, sum_by-cons (weight_for by key) event events, ap (λ t. cond {A = ℕ} t (by.weight event) 0) (ne_eqb (by.key event) key differs))
 
-module _ (threshold : ℕ) (events : List ℕ) (key : ℕ) where
-  pub of_heavy : times key (heavy threshold events) ≡ cond (leb threshold (count key events 0 (length events))) (times key (distinct events)) 0
-  of_heavy = times-filter key (λ k. leb threshold (count k events 0 (length events))) (distinct events)
-
-  pub heavy_enough : Contains (heavy threshold events) key → threshold ≤ times key events
-  heavy_enough has =
-      let some = Contains-times key (heavy threshold events) has.0 has.1 has.2 in
-      elim (cases_lt (times key events) threshold) [
-        | inl few ↦ absurd (omega (
+  -- a key that weighs something is among those that occur
+  pub times-distinct : (key : ℕ) (events : List A) → 1 ≤ sum_by (weight_for by key) events → 1 ≤ times key (distinct_in by events)
+  times-distinct key [] some = absurd (omega (arith, some))
+  times-distinct key (event ∷ events) some =
+      elim (cases_eq (by.key event) key) [
+        | inl same ↦ omega (arith, inserted (by.key event) (distinct_in by events), ap (λ k. times k (insert_key (by.key event) (distinct_in by events))) same)
+        | inr differs ↦ omega (
           arith,
-          some,
-          of_heavy ∙ ap (λ (b : Bool). cond b (times key (distinct events)) 0) (lt-leb threshold (count key events 0 (length events)) (omega (
-            arith,
-            few,
-            count-whole plain key events,
-          ))),
-        ))
-        | inr many ↦ many
+          kept key (by.key event) (distinct_in by events) differs,
+          times-distinct key events (omega (arith, some, weighs-other key event events differs)),
+        )
       ]
 
-  pub enough_heavy : 1 ≤ threshold → threshold ≤ times key events → Contains (heavy threshold events) key
-  enough_heavy least many =
-      times-Contains key (heavy threshold events) (omega (
-        arith,
-        of_heavy ∙ ap (λ (b : Bool). cond b (times key (distinct events)) 0) (le-leb threshold (count key events 0 (length events)) (omega (arith, many, count-whole plain key events))),
-        times-distinct key events (omega (arith, least, many)),
-      ))
+  module _ (threshold : ℕ) (events : List A) (key : ℕ) where
+    of_heavy : times key (heavy_in by threshold events) ≡ cond (leb threshold (weight_in by key events 0 (length events))) (times key (distinct_in by events)) 0
+    of_heavy = times-filter key (λ k. leb threshold (weight_in by k events 0 (length events))) (distinct_in by events)
+
+    pub light_never : weight_in by key events 0 (length events) < threshold → times key (heavy_in by threshold events) ≡ 0
+    light_never few = of_heavy ∙ ap (λ (b : Bool). cond b (times key (distinct_in by events)) 0) (lt-leb threshold (weight_in by key events 0 (length events)) few)
+
+    pub heavy_all : threshold ≤ weight_in by key events 0 (length events) → times key (heavy_in by threshold events) ≡ times key (distinct_in by events)
+    heavy_all many = of_heavy ∙ ap (λ (b : Bool). cond b (times key (distinct_in by events)) 0) (le-leb threshold (weight_in by key events 0 (length events)) many)
+
+    pub heavy_enough : Contains (heavy_in by threshold events) key → threshold ≤ weight_in by key events 0 (length events)
+    heavy_enough has =
+        elim (cases_lt (weight_in by key events 0 (length events)) threshold) [
+          | inl few ↦ absurd (omega (arith, Contains-times key (heavy_in by threshold events) has.0 has.1 has.2, light_never few))
+          | inr many ↦ many
+        ]
+
+    pub enough_heavy : 1 ≤ threshold → threshold ≤ weight_in by key events 0 (length events) → Contains (heavy_in by threshold events) key
+    enough_heavy least many =
+        times-Contains key (heavy_in by threshold events)
+        (omega (arith, heavy_all many, times-distinct key events (omega (arith, least, many, count-whole by key events))))
 
 -- each number has a cone
 folded_below : (n : ℕ) → n < 2 ^ 64 → folded n < 2 ^ 64

@@ -1,14 +1,16 @@
--- The keys of four traces are all generated keys, in another order.
+-- The items of four traces have all generated keys, in another order.
 use Rattle.std.proofs.Common.{◌≡◌, ◌≢◌, ℕ, ◌+◌, ◌-◌, ◌%◌, Bool, cond, eqb, List, [], ◌∷◌, ◌++◌, length, filter, map, sum_by, Option, refl, ap, ◌∙◌, inl, inr, arith, length-append}
 use Rattle.std.proofs.{lemmas.Bool.{cases_eq, eq-eqb, ne_eqb}, lemmas.List.Elements.filter-append, lemmas.List.Sums.sum_by-cons}
 use Rattle.std.specs.List.{range_with_len}
-use Rattle.lert_spec.specs.{declared.numbers.Numbers.Numbers, Mix.{cone_of, part_of}}
+use Rattle.lert_spec.specs.{declared.item.Item.Item, declared.numbers.Numbers.Numbers, Counts.weighed, Items.units, Mix.{cone_of, part_in, part_of}}
+use Rattle.lert_spec.proofs.ItemLaws.{length-units}
 use Rattle.lert_trace.specs.Trace.{whole}
 use Rattle.lert_gen.specs.Generated.{dealt, generated, key_at, trace_of}
 use Rattle.lert_gen.proofs.RoundTrip.{all_generated_below, whole-trace}
-use Rattle.lert_ingest.specs.Traces.{AreKeysOf, part_length}
-use Rattle.lert_ingest.proofs.Exactly.{keys_same}
-use Rattle.lert_top.specs.drills.Dealt.{AreDealt, all_dealt}
+use Rattle.lert_ingest.specs.Traces.{AreItemsOf, part_length}
+use Rattle.lert_ingest.proofs.Exactly.{items_same}
+use Rattle.lert_top.specs.drills.Dealt.{AreDealt, all_dealt, all_dealt_items}
+use Rattle.lert_top.proofs.{cones.TraceSums.sum_by-same, drills.UnitLaws.{part-units, sum_by-map}}
 
 -- the events of a trace
 abbrev pub to_trace : ℕ → List ℕ → List ℕ
@@ -92,20 +94,29 @@ module _ (seed events : ℕ) where
       )
 
   -- what adds up over lists is of a cone's part of all keys what it is of its parts of the four traces
-  pub sum_of_parts : (s : Numbers) (cone : ℕ) (f : List ℕ → ℕ) → f [] ≡ 0 → ((xs ys : List ℕ) → f (xs ++ ys) ≡ f xs + f ys) →
+  sum_of_parts : (s : Numbers) (cone : ℕ) (f : List ℕ → ℕ) → f [] ≡ 0 → ((xs ys : List ℕ) → f (xs ++ ys) ≡ f xs + f ys) →
       sum_by (λ keys. f (part_of s cone keys)) (all_dealt seed events) ≡ f (part_of s cone (generated seed events))
   sum_of_parts s cone f none joins =
       sum_parts (λ keys. f (part_of s cone keys)) none (λ xs ys. ap f (filter-append (λ key. eqb (cone_of s key) cone) xs ys) ∙ joins (part_of s cone xs) (part_of s cone ys))
 
-  pub part_length_is : (s : Numbers) (cone : ℕ) → part_length s cone (all_dealt seed events) ≡ length (part_of s cone (generated seed events))
-  part_length_is s cone = sum_of_parts s cone length refl length-append
+  -- what adds up over their items as another sum does over keys is this sum of the part of all keys
+  pub sum_of_items : (s : Numbers) (cone : ℕ) (f : List Item → ℕ) (g : List ℕ → ℕ) → ((keys : List ℕ) → f (units keys) ≡ g keys) → g [] ≡ 0 →
+      ((xs ys : List ℕ) → g (xs ++ ys) ≡ g xs + g ys) → sum_by (λ items. f (part_in weighed s cone items)) (all_dealt_items seed events) ≡ g (part_of s cone (generated seed events))
+  sum_of_items s cone f g same none joins =
+      sum_by-map units (λ items. f (part_in weighed s cone items)) (all_dealt seed events)
+      ∙ (sum_by-same (λ keys. f (part_in weighed s cone (units keys))) (λ keys. g (part_of s cone keys)) (all_dealt seed events) (λ keys.
+      ap f (part-units s cone keys) ∙ same (part_of s cone keys))
+      ∙ sum_of_parts s cone g none joins)
 
-  read_back : (trace : ℕ) → whole (trace_of (dealt seed events trace)) ≡ dealt seed events trace
+  pub part_length_is : (s : Numbers) (cone : ℕ) → part_length s cone (all_dealt_items seed events) ≡ length (part_of s cone (generated seed events))
+  part_length_is s cone = sum_of_items s cone length length length-units refl length-append
+
+  read_back : (trace : ℕ) → whole (trace_of (dealt seed events trace)) ≡ units (dealt seed events trace)
   read_back trace = whole-trace (dealt seed events trace) (all_generated_below seed (to_trace trace (range_with_len 1 events)))
 
-  -- the keys of sources that tell the bytes of the four traces
-  pub dealt_keys : {S : Type 0} (remaining : S → Option (List ℕ)) (sources : List S) (traces : List (List ℕ)) → AreDealt remaining seed events sources →
-      AreKeysOf remaining sources traces → traces ≡ all_dealt seed events
-  dealt_keys remaining sources traces are keys =
-      keys_same remaining sources (map trace_of (all_dealt seed events)) traces are keys
+  -- the items of sources that tell the bytes of the four traces
+  pub dealt_items : {S : Type 0} (remaining : S → Option (List ℕ)) (sources : List S) (traces : List (List Item)) → AreDealt remaining seed events sources →
+      AreItemsOf remaining sources traces → traces ≡ all_dealt_items seed events
+  dealt_items remaining sources traces are items =
+      items_same remaining sources (map trace_of (all_dealt seed events)) traces are items
       ∙ (λ i. read_back 0 i ∷ read_back 1 i ∷ read_back 2 i ∷ read_back 3 i ∷ [])

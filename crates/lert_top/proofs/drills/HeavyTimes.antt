@@ -1,10 +1,10 @@
--- Reports that are in time list the keys that occur often enough, each once.
-use Rattle.std.proofs.{Common.{◌≡◌, ℕ, ◌+◌, ◌<◌, ◌≤◌, suc, Bool, cond, eqb, List, [], ◌∷◌, length, refl, ap, sym, ◌∙◌, inl, inr, arith}, lemmas.Bool.{cases_lt, cases_eq, lt-leb, le-leb}}
-use Rattle.std.proofs.lemmas.List.Sums.{sum_by-cons}
-use Rattle.lert_spec.specs.{declared.report.Report.Report, Counts.{Measure, count, distinct, heavy, insert_key, plain, weight_in}, Timely.{IsTimelyIn, times_listed}}
+-- Reports that are in time list the keys that weigh enough, each once.
+use Rattle.std.proofs.{Common.{◌≡◌, ℕ, ◌+◌, ◌<◌, ◌≤◌, suc, cond, eqb, List, [], ◌∷◌, ◌++◌, length, refl, ap, sym, ◌∙◌, inl, inr, arith}, lemmas.Bool.{cases_lt, cases_eq}}
+use Rattle.std.proofs.lemmas.List.Sums.{sum_by-append, sum_by-cons}
+use Rattle.lert_spec.specs.{declared.report.Report.Report, Counts.{Measure, distinct, heavy, insert_key, plain, weight_in}, Timely.{IsTimelyIn, times_listed}}
 use Rattle.lert_spec.proofs.{CountLaws.count-whole, ReportLaws.{times, times-cons_other, times-cons_same}}
 use Rattle.lert_top.specs.drills.Print.{keys_of}
-use Rattle.lert_top.proofs.cones.HeavyLaws.{insert_before, insert_behind, insert_same, of_heavy, times-distinct}
+use Rattle.lert_top.proofs.cones.HeavyLaws.{heavy_all, insert_before, insert_behind, insert_same, light_never, times-distinct}
 
 -- ascending keys, each once, from `low` on
 abbrev pub RiseFrom : ℕ → List ℕ → Type 0
@@ -43,21 +43,21 @@ times-rising low key (other ∷ others) rise =
       | inr differs ↦ omega (arith, times-cons_other key other others differs, times-rising (suc other) key others rise.1)
     ]
 
+pub times-append : (key : ℕ) (xs ys : List ℕ) → times key (xs ++ ys) ≡ times key xs + times key ys
+times-append key xs ys = sum_by-append (λ x. cond (eqb x key) 1 0) xs ys
+
 module _ (threshold : ℕ) (least : 1 ≤ threshold) (events : List ℕ) (key : ℕ) where
   pub heavy_once : threshold ≤ times key events → times key (heavy threshold events) ≡ 1
   heavy_once many =
       omega (
         arith,
-        of_heavy threshold events key
-            ∙ ap (λ (b : Bool). cond b (times key (distinct events)) 0) (le-leb threshold (count key events 0 (length events)) (omega (arith, many, count-whole plain key events))),
-        times-distinct key events (omega (arith, least, many)),
+        heavy_all plain threshold events key (omega (arith, many, count-whole plain key events)),
+        times-distinct plain key events (omega (arith, least, many)),
         times-rising 0 key (distinct events) (RiseFrom-distinct events),
       )
 
-  pub light_never : times key events < threshold → times key (heavy threshold events) ≡ 0
-  light_never few =
-      of_heavy threshold events key
-      ∙ ap (λ (b : Bool). cond b (times key (distinct events)) 0) (lt-leb threshold (count key events 0 (length events)) (omega (arith, few, count-whole plain key events)))
+  pub heavy_never : times key events < threshold → times key (heavy threshold events) ≡ 0
+  heavy_never few = light_never plain threshold events key (omega (arith, few, count-whole plain key events))
 
 pub times_listed-keys : (key : ℕ) (reports : List Report) → times_listed key reports ≡ times key (keys_of reports)
 times_listed-keys key [] = refl
@@ -76,7 +76,7 @@ timely_times by threshold bins events others reports least timely key same =
         arith,
         times_listed-keys key reports,
         timely.light key (omega (arith, few, same)),
-        light_never threshold least others key few,
+        heavy_never threshold least others key few,
       )
       | inr many ↦ omega (
         arith,

@@ -2,9 +2,9 @@
 use Rattle.std.proofs.{Common.{◌≡◌, ℕ, List, Option, Some, slice_get, refl, sym, subst, inl, arith}, lemmas.Option.slice_get_within}
 use Rattle.lert_bay.specs.Files.{Files}
 use Rattle.lert_io.specs.Fault.{IsFaultless}
-use Rattle.lert_spec.specs.declared.numbers.Numbers.{Numbers}
+use Rattle.lert_spec.specs.{declared.item.Item.Item, declared.numbers.Numbers.Numbers}
 use Rattle.lert_ingest.specs.{declared.status.Status.Status, declared.status.Status.TheVariants.OutOfMemory, Bays.{AreFaultless, AreFresh, AreLater, AreOpenWoven, AreTold, AreToldFresh, AreUnused}}
-use Rattle.lert_ingest.specs.Stops.{AreOpenPartly, AreTelling, StopShows, trace_fault, bad_trace, too_long, bay_fault, malformed, capacity_full, out_of_memory}
+use Rattle.lert_ingest.specs.Stops.{AreOpenPartly, AreTelling, StopShows, trace_fault, bad_trace, too_long, bay_fault, malformed, capacity_full, out_of_memory, weight_full}
 use Rattle.lert_ingest.proofs.BayLaws.{failed_since, slice_get-some, told_later, untold_since}
 use Rattle.lert_top.specs.{cones.Finish.{EndShows, end_done, end_failed, end_malformed, end_cut}, cones.Unmade.{IsUnmade, unmade_stale, unmade_failed, unmade_memory}, runs.Ran.IsDone}
 use Rattle.lert_top.specs.runs.Run.{MadeShows, RunShows, made, unmade, stopped, ended}
@@ -29,7 +29,7 @@ module _ {B : Type 0} (files : B → Option Files) (faults mark : B → ℕ) (fi
       (none cone before after.0 was after.1)
 
   -- what isn't closed of the bays since a moment isn't since an earlier one
-  pub open_since : (s : Numbers) (workers : ℕ) (open_trace : ℕ → ℕ → Type 0) (traces : List (List ℕ)) → AreOpenWoven files faults s workers open_trace then now traces →
+  pub open_since : (s : Numbers) (workers : ℕ) (open_trace : ℕ → ℕ → Type 0) (traces : List (List Item)) → AreOpenWoven files faults s workers open_trace then now traces →
       AreOpenWoven files faults s workers open_trace first now traces
   open_since s workers open_trace traces are cone before after was is none =
       let mid = slice_get-some then cone (omega (arith, slice_get_within now cone after is, two.number)) in
@@ -44,12 +44,12 @@ module _ {S K B : Type 0} (remaining : S → Option (List ℕ)) (faults : S → 
       AreOpenPartly remaining faults files bay_faults settings workers opened backs first now open_trace
   partly_since open_trace part = record {
     traces = part.traces;
-    keys = part.keys;
+    items = part.items;
     woven = part.woven;
     still = open_since files bay_faults mark first then now one two settings workers open_trace part.traces part.still;
   }
 
-  pub ends_since : (traces : List (List ℕ)) {status : Status} → EndShows taken sink_faults files bay_faults settings workers traces before after then now status →
+  pub ends_since : (traces : List (List Item)) {status : Status} → EndShows taken sink_faults files bay_faults settings workers traces before after then now status →
       EndShows taken sink_faults files bay_faults settings workers traces before after first now status
   ends_since traces (end_done closed) = end_done closed
   ends_since traces (end_failed cone risen same to) = end_failed cone (failed_since files bay_faults mark first then now cone one two risen) same to
@@ -77,13 +77,15 @@ module _ {S K B : Type 0} (remaining : S → Option (List ℕ)) (faults : S → 
     stops_since (malformed cone file at untold part) same =
         made fresh (stopped (malformed cone file at (untold_since files bay_faults mark first then cone one untold) (partly_since _ part)) same)
     stops_since (capacity_full cone n len full has trace part) same =
-        made fresh (stopped (capacity_full cone n len full (record { traces = has.traces; keys = has.keys; enough = has.enough }) trace (partly_since _ part)) same)
+        made fresh (stopped (capacity_full cone n len full (record { traces = has.traces; items = has.items; enough = has.enough }) trace (partly_since _ part)) same)
+    stops_since (weight_full cone weight more heavy has trace part) same =
+        made fresh (stopped (weight_full cone weight more heavy (record { traces = has.traces; items = has.items; enough = has.enough }) trace (partly_since _ part)) same)
     stops_since (out_of_memory same_traces same_bays) same = unmade (unmade_memory (subst (AreUnused files settings first) (sym same_bays) unused)) same same_traces
 
     pub shows_since : {status : Status} → MadeShows remaining faults taken sink_faults files bay_faults settings workers opened backs before after then now status →
         RunShows remaining faults taken sink_faults files bay_faults settings workers opened backs before after first now status
     shows_since (stopped shows same) = stops_since shows same
-    shows_since (ended traces keys read fits shows) = made fresh (ended traces keys read fits (ends_since traces shows))
+    shows_since (ended traces items read fits shows) = made fresh (ended traces items read fits (ends_since traces shows))
 
 -- where no fault was counted, no cones are made for want of memory alone
 pub only_memory : {B : Type 0} (files : B → Option Files) (faults : B → ℕ) (s : Numbers) (bays later : List B) (status : Status) → IsUnmade files faults s bays later status →
@@ -93,7 +95,7 @@ only_memory files faults s bays later status (unmade_failed cone risen early) fr
 only_memory files faults s bays later status (unmade_memory unused) fresh none = refl
 
 -- and cones end with the text
-pub ends_done : {K B : Type 0} (taken : K → Option (List ℕ)) (sink_faults : K → ℕ) (files : B → Option Files) (faults : B → ℕ) (s : Numbers) (workers : ℕ) (traces : List (List ℕ))
+pub ends_done : {K B : Type 0} (taken : K → Option (List ℕ)) (sink_faults : K → ℕ) (files : B → Option Files) (faults : B → ℕ) (s : Numbers) (workers : ℕ) (traces : List (List Item))
     (before after : K) (bays later : List B) (status : Status) → EndShows taken sink_faults files faults s workers traces before after bays later status → AreTold files bays →
     AreFaultless faults bays later → IsDone sink_faults before after status
 ends_done taken sink_faults files faults s workers traces before after bays later status (end_done closed) told none kept = inl refl

@@ -3,7 +3,7 @@ use Rattle.std.proofs.{Common.{◌≡◌, ◌≢◌, ◌⊎◌, ℕ, ◌^◌, �
 use Rattle.std.proofs.lemmas.Option.{slice_get_within}
 use Rattle.lert_bay.specs.Files.{Files}
 use Rattle.lert_cone.specs.Sound.{AreEmpty}
-use Rattle.lert_spec.specs.declared.numbers.Numbers.{Numbers}
+use Rattle.lert_spec.specs.{declared.item.Item.Item, declared.numbers.Numbers.Numbers}
 use Rattle.lert_ingest.specs.{declared.status.Status.Status, declared.status.Status.TheVariants.{NotFresh, OutOfMemory, PlaceFault, Usage}}
 use Rattle.lert_ingest.specs.{Bays.{AreFaultlessTo, AreFreshBelow, AreLater, AreToldFresh}, Stops.IsExact}
 use Rattle.lert_ingest.proofs.{BayLaws.slice_get-some, Exactly.{exact_memory, exact_turned}}
@@ -28,7 +28,7 @@ module _ {S K B : Type 0} (remaining : S → Option (List ℕ)) (faults : S → 
       (λ texts are. (are, λ ok. absurd (ok_or_not read tt status ok is), λ other failed. errors_same read status other is failed)) exact
 
   -- all was read, and the cones ended with the run's status
-  pub exact_ended : (mark : B → ℕ) (then : List B) (traces : List (List ℕ)) → AreLater files bay_faults mark bays then → AreLater files bay_faults mark then later →
+  pub exact_ended : (mark : B → ℕ) (then : List B) (traces : List (List Item)) → AreLater files bay_faults mark bays then → AreLater files bay_faults mark then later →
       (read : Result (Unit {0}) Status) → read ≡ Ok tt → Exact bays then (read ≡ Ok tt) (λ other. read ≡ Err other) →
       (status : Status) → EndShows taken sink_faults files bay_faults s workers traces before after bays later status →
       Exact bays later (IsDone sink_faults before after status) (λ other. status ≡ other)
@@ -51,12 +51,12 @@ module _ {S K B : Type 0} (remaining : S → Option (List ℕ)) (faults : S → 
   no_place : Shows PlaceFault → ⊥
   no_place (unmade shows same same_traces) = elim shows [ ]
   no_place (made fresh (stopped shows same)) = elim shows [ ]
-  no_place (made fresh (ended traces keys read fits shows)) = elim shows [ ]
+  no_place (made fresh (ended traces items read fits shows)) = elim shows [ ]
 
   no_usage : (rule : ℕ) → Shows (Usage rule) → ⊥
   no_usage rule (unmade shows same same_traces) = elim shows [ ]
   no_usage rule (made fresh (stopped shows same)) = elim shows [ ]
-  no_usage rule (made fresh (ended traces keys read fits shows)) = elim shows [ ]
+  no_usage rule (made fresh (ended traces items read fits shows)) = elim shows [ ]
 
   pub not_place_fault : (status : Status) → Shows status → status ≡ PlaceFault → ⊥
   not_place_fault status shows is = no_place (subst Shows is shows)

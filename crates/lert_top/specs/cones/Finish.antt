@@ -4,8 +4,8 @@ use Rattle.lert_base.specs.{Packet.Packet, declared.cone_fault.ConeFault.ConeFau
 use Rattle.lert_bay.specs.Files.{Files}
 use Rattle.lert_cone.specs.{Sound.{IsSound, IsSoundAs}, Stands.{IsSameCone, Standing, StandsFor, WasSound, is_refusal}, declared.state.ConeState.TheVariants.{Finished, Running}}
 use Rattle.lert_io.specs.{Fault.HasRisen, Reading.IfTold}
-use Rattle.lert_spec.specs.{declared.numbers.Numbers.Numbers, Lines.{Printed, lines}}
-use Rattle.lert_ingest.specs.{Bays.{AreWoven, HasFailed, HoldsAll, HoldsWeave, IfHeld, IsLater, IsUntold}, Status.cone_status, Traces.AllFit, declared.status.Status.Status}
+use Rattle.lert_spec.specs.{declared.item.Item.Item, declared.numbers.Numbers.Numbers, Lines.{Printed, lines}}
+use Rattle.lert_ingest.specs.{Bays.{AreWoven, HasFailed, HoldsAll, HoldsWeave, IfHeld, IsLater, IsUntold}, Status.cone_status, Stops.AreTaken, declared.status.Status.Status}
 use Rattle.lert_ingest.specs.declared.status.Status.TheVariants.{Done, BayFault, Malformed, OutFault}
 use Rattle.lert_top.specs.cones.Printed.{ArePrinted}
 use Rattle.lert_text.specs.Page.{IsCut}
@@ -57,23 +57,23 @@ module _ {B : Type 0} (files : B → Option Files) (leaves : B → Files → Typ
     pub others : AreFinishedTo cone (cone + 1) old new
     pub status_is : status ≡ cone_status cone fault
 
--- the keys of traces are all in journals, which are closed, and this is so of what is printed of them
-pub record AreClosed {B : Type 0} (files : B → Option Files) (s : Numbers) (workers : ℕ) (traces : List (List ℕ)) (later : List B) (P : List ℕ → Type 0) : Type 0 where
-  pub fits : AllFit s traces
+-- the items of traces are all in journals, which are closed, and this is so of what is printed of them
+pub record AreClosed {B : Type 0} (files : B → Option Files) (s : Numbers) (workers : ℕ) (traces : List (List Item)) (later : List B) (P : List ℕ → Type 0) : Type 0 where
+  pub fits : AreTaken files s traces later
   pub woven : AreWoven files s workers later traces
   pub cones : List Printed
   pub printed : ArePrinted files s workers later traces cones
   pub text : P (lines cones)
 
--- The end broke off at a cone. The keys of traces are all in the journals. Those of the cones below it are closed, those of the
+-- The end broke off at a cone. The items of traces are all in the journals. Those of the cones below it are closed, those of the
 -- cones above it aren't, and its own may be.
-pub record AreEndedTo {B : Type 0} (files : B → Option Files) (s : Numbers) (workers : ℕ) (traces : List (List ℕ)) (later : List B) (cone : ℕ) : Type 0 where
+pub record AreEndedTo {B : Type 0} (files : B → Option Files) (s : Numbers) (workers : ℕ) (traces : List (List Item)) (later : List B) (cone : ℕ) : Type 0 where
   pub below : (other : ℕ) → other < cone → IfHeld files later other (HoldsWeave s workers traces other)
   pub here : IfHeld files later cone (HoldsAll s workers traces cone (IsSound s cone))
   pub above : (other : ℕ) → cone < other → IfHeld files later other (HoldsAll s workers traces other (IsSoundAs s other false))
 
 -- what the status says of cones that were to be finished and printed, by their bays as they were and as they are
-module _ {K B : Type 0} (taken : K → Option (List ℕ)) (sink_faults : K → ℕ) (files : B → Option Files) (faults : B → ℕ) (s : Numbers) (workers : ℕ) (traces : List (List ℕ))
+module _ {K B : Type 0} (taken : K → Option (List ℕ)) (sink_faults : K → ℕ) (files : B → Option Files) (faults : B → ℕ) (s : Numbers) (workers : ℕ) (traces : List (List Item))
     (before after : K) (bays later : List B) where
   pub data EndShows : Status → Type 0 where
     end_done : AreClosed files s workers traces later (λ all. IfTold (taken before) (λ text. taken after ≡ Some (text ++ all))) → EndShows Done

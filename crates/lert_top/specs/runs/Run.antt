@@ -2,8 +2,8 @@
 use Rattle.std.specs.Prelude.{◌≡◌, ◌≢◌, ◌⊎◌, ℕ, ◌^◌, ◌<◌, List, length, Option, Some, slice_get}
 use Rattle.lert_bay.specs.Files.{Files}
 use Rattle.lert_cone.specs.Sound.{AreEmpty}
-use Rattle.lert_spec.specs.declared.numbers.Numbers.{Numbers}
-use Rattle.lert_ingest.specs.{Bays.{AreFaultlessTo, AreFresh, AreToldFresh}, Stops.{IsExact, StopShows}, Traces.{AllFit, AreKeysOf, AreReadToEnd}, declared.status.Status.Status}
+use Rattle.lert_spec.specs.{declared.item.Item.Item, declared.numbers.Numbers.Numbers}
+use Rattle.lert_ingest.specs.{Bays.{AreFaultlessTo, AreFresh, AreToldFresh}, Stops.{AreTaken, IsExact, StopShows}, Traces.{AreItemsOf, AreReadToEnd}, declared.status.Status.Status}
 use Rattle.lert_ingest.specs.declared.status.Status.TheVariants.{NotFresh, OutOfMemory}
 use Rattle.lert_top.specs.{cones.Finish.EndShows, cones.Unmade.IsUnmade, runs.Ran.IsDone}
 
@@ -15,7 +15,7 @@ module _ {S K B : Type 0} (remaining : S → Option (List ℕ)) (faults : S → 
   -- ascending order
   pub data MadeShows : Status → Type 0 where
     stopped : {status : Status} → StopShows remaining faults files bay_faults settings workers opened backs bays later status → after ≡ before → MadeShows status
-    ended : {status : Status} → (traces : List (List ℕ)) → AreKeysOf remaining opened traces → AreReadToEnd remaining opened backs → AllFit settings traces →
+    ended : {status : Status} → (traces : List (List Item)) → AreItemsOf remaining opened traces → AreReadToEnd remaining opened backs → AreTaken files settings traces later →
         EndShows taken sink_faults files bay_faults settings workers traces before after bays later status → MadeShows status
 
   -- no cones were made, before a byte of a trace was read, or some were over files that were all empty, as far as the bays tell

@@ -2,7 +2,8 @@
 
 ghost use Rattle.std.specs.Prelude.{◌≡◌, ℕ, ◌^◌, ◌<◌, ◌≤◌, [], List, length};
 ghost use Rattle.std.specs.VecDeque.{deque_capacity};
-ghost use Rattle.lert_top.specs.drills.Dealt.{AreDealt, all_dealt};
+ghost use Rattle.lert_spec.specs.declared.item.Item.{Item};
+ghost use Rattle.lert_top.specs.drills.Dealt.{AreDealt, all_dealt_items};
 ghost use Rattle.lert_top.specs.drills.Drilled.{DrillShows, drill_status};
 ghost use Rattle.lert_ingest.specs.Bays.{AreTold, AreToldFresh, bays_of};
 ghost use Rattle.lert_ingest.specs.Cones.{AreNew};
@@ -76,7 +77,7 @@ fn drill_cones<S: Source + Send, B: Bay + Send, K: Sink, R: Threads + Wait + Syn
     ensures shows { (seed events : ℕ) → AreDealt S.remaining seed events sources.items →
         DrillShows K.taken K.faults settings.now seed events out.old out.new result.2 }
 {
-    // The page's memory is taken before the first key is read, so that keys that were read can't want it.
+    // The page's memory is taken before the first item is read, so that keys that were read can't want it.
     let Ok(mut page) = Page::new(alloc) else {
         return (cones, sources, Status::OutOfMemory);
     };
@@ -89,7 +90,7 @@ fn drill_cones<S: Source + Send, B: Bay + Send, K: Sink, R: Threads + Wait + Syn
     (cones, sources, status)
 }
 
-// Finishes cones that took all keys, and prints them.
+// Finishes cones that took all items, and prints them.
 fn finish_and_print<B: Bay, K: Sink>(
     page: &mut Page,
     settings: &Settings,
@@ -99,9 +100,9 @@ fn finish_and_print<B: Bay, K: Sink>(
     requires empty { page.old ≡ [] }
     requires number { length cones.old.items ≡ 2 ^ settings.now.cone_bits }
     requires told { AreTold B.files (bays_of cones.old.items) }
-    requires weaving { (workers : ℕ) × ((traces : List (List ℕ)) × AreWeaving B.files B.leaves B.faults settings.now workers traces cones.old.items) }
+    requires weaving { (workers : ℕ) × ((traces : List (List Item)) × AreWeaving B.files B.leaves B.faults settings.now workers traces cones.old.items) }
     ensures number { length cones.new.items ≡ length cones.old.items }
-    ensures shows { (workers seed events : ℕ) → AreWeaving B.files B.leaves B.faults settings.now workers (all_dealt seed events) cones.old.items →
+    ensures shows { (workers seed events : ℕ) → AreWeaving B.files B.leaves B.faults settings.now workers (all_dealt_items seed events) cones.old.items →
         DrillShows K.taken K.faults settings.now seed events out.old out.new result }
 {
     let _valid = settings.numbers();

@@ -7,9 +7,10 @@ ghost use Rattle.lert_args.specs.Word.{word_at};
 ghost use Rattle.lert_io.specs.Fault.{HasRisen, IsFaultless};
 ghost use Rattle.lert_ingest.specs.Bays.{AreLater, AreToldFresh, bays_of};
 ghost use Rattle.lert_ingest.specs.Cones.{AreNew};
-ghost use Rattle.lert_ingest.specs.Stops.{AreWeaving, IsExact};
+ghost use Rattle.lert_ingest.specs.Stops.{AreTaken, AreWeaving, IsExact};
 ghost use Rattle.lert_ingest.specs.Traces.{AreTracesLater};
 ghost use Rattle.lert_place.specs.Openings.{AreReturned, AreReturnedSame};
+ghost use Rattle.lert_spec.specs.declared.item.Item.{Item};
 ghost use Rattle.lert_top.specs.cones.Asked.{IsAsked, IsAskedForBays};
 ghost use Rattle.lert_top.specs.cones.Closed.{AreClosedInEach, AreReturnedClosed};
 ghost use Rattle.lert_top.specs.cones.Finish.{EndShows};
@@ -190,7 +191,7 @@ fn run_cones<S: Source + Send, B: Bay + Send, K: Sink, R: Threads + Wait + Sync>
         (bays_of cones.items) (bays_of result.0.items) (IsDone K.faults out.old out.new result.2) (λ status. result.2 ≡ status) }
     ensures closed { result.2 ≡ Status.Done → AreClosedInEach B.files B.leaves settings.now (bays_of result.0.items) }
 {
-    // The page's memory is taken before the first key is read, so that a run that was read can't want it.
+    // The page's memory is taken before the first item is read, so that a run that was read can't want it.
     let mut page = match Page::new(alloc) {
         Ok(page) => page,
         Err(OutOfMemory) => return (cones, traces, Status::OutOfMemory),
@@ -203,7 +204,7 @@ fn run_cones<S: Source + Send, B: Bay + Send, K: Sink, R: Threads + Wait + Sync>
     (cones, traces, status)
 }
 
-// Finishes cones that took all keys, and prints them.
+// Finishes cones that took all items, and prints them.
 fn finish_and_print<B: Bay, K: Sink>(
     page: &mut Page,
     settings: &Settings,
@@ -212,9 +213,9 @@ fn finish_and_print<B: Bay, K: Sink>(
 ) -> Status
     requires empty { page.old ≡ [] }
     requires number { length cones.old.items ≡ 2 ^ settings.now.cone_bits }
-    requires weaving { (workers : ℕ) × ((traces : List (List ℕ)) × AreWeaving B.files B.leaves B.faults settings.now workers traces cones.old.items) }
+    requires weaving { (workers : ℕ) × ((traces : List (List Item)) × AreWeaving B.files B.leaves B.faults settings.now workers traces cones.old.items) }
     ensures later { AreLater B.files B.faults B.mark (bays_of cones.old.items) (bays_of cones.new.items) }
-    ensures shows { (workers : ℕ) (traces : List (List ℕ)) → AreWeaving B.files B.leaves B.faults settings.now workers traces cones.old.items →
+    ensures shows { (workers : ℕ) (traces : List (List Item)) → AreWeaving B.files B.leaves B.faults settings.now workers traces cones.old.items → AreTaken B.files settings.now traces (bays_of cones.old.items) →
         EndShows K.taken K.faults B.files B.faults settings.now workers traces out.old out.new (bays_of cones.old.items) (bays_of cones.new.items) result }
     ensures closed { result ≡ Status.Done → AreClosedInEach B.files B.leaves settings.now (bays_of cones.new.items) }
 {

@@ -38,9 +38,9 @@ loop-place-preserved g c =
       so_far = runs_more g.S.Source.remaining g.S.Faulty.faults g.S.Faulty.mark old.settings old.entry.by traces c.requires.given.ascend place trace
           c.args.readers.now.items readers c.args.pass.now c.loop-place.pass here.so_far c.requires.given.as_many (read_at traces place trace inside c.index.ensures)
           c.index_mut.result.now c.send_trace.new.reader (read_at readers place c.index_mut.result.now within c.index_mut.ensures.value)
-          sent.keys sent.read below (here.may.belongs.as_many ∙ here.may.cones) c.send_trace.new.pass sent.ends
-          (subst (λ (s : Numbers). AreSent s old.entry.by trace below sent.keys Ran c.loop-place.pass c.send_trace.new.pass) here.settings
-          (subst (λ n. AreSent c.loop-place.outbox.settings n trace below sent.keys Ran c.loop-place.pass c.send_trace.new.pass) here.by_is sent.sent));
+          sent.items sent.read below (here.may.belongs.as_many ∙ here.may.cones) c.send_trace.new.pass sent.ends
+          (subst (λ (s : Numbers). AreSent s old.entry.by trace below sent.items Ran c.loop-place.pass c.send_trace.new.pass) here.settings
+          (subst (λ n. AreSent c.loop-place.outbox.settings n trace below sent.items Ran c.loop-place.pass c.send_trace.new.pass) here.by_is sent.sent));
     }
 
 pub returns-in_default-clause-ended : goal.returns-in_default-clause-ended
@@ -60,10 +60,10 @@ returns-in_default-clause-ended g c =
     runs_stopped g.S.Source.remaining g.S.Faulty.faults g.S.Faulty.mark old.settings old.entry.by traces c.requires.given.ascend place trace
     c.args.readers.now.items readers c.args.pass.now c.loop-place.pass here.so_far c.requires.given.as_many (read_at traces place trace inside c.index.ensures)
     c.index_mut.result.now c.send_trace.new.reader (read_at readers place c.index_mut.result.now within c.index_mut.ensures.value)
-    sent.keys sent.read below (here.may.belongs.as_many ∙ here.may.cones) c.send_trace.new.pass end sent.ends c.in_default.not-Ran
+    sent.items sent.read below (here.may.belongs.as_many ∙ here.may.cones) c.send_trace.new.pass end sent.ends c.in_default.not-Ran
     (subst (λ (s : Numbers). IsNamed end (2 ^ s.cone_bits)) here.settings sent.named)
-    (subst (λ (s : Numbers). AreSent s old.entry.by trace below sent.keys end c.loop-place.pass c.send_trace.new.pass) here.settings
-    (subst (λ n. AreSent c.loop-place.outbox.settings n trace below sent.keys end c.loop-place.pass c.send_trace.new.pass) here.by_is sent.sent))
+    (subst (λ (s : Numbers). AreSent s old.entry.by trace below sent.items end c.loop-place.pass c.send_trace.new.pass) here.settings
+    (subst (λ n. AreSent c.loop-place.outbox.settings n trace below sent.items end c.loop-place.pass c.send_trace.new.pass) here.by_is sent.sent))
 
 pub returns-clause-ended : goal.returns-clause-ended
 returns-clause-ended g c =

@@ -1,5 +1,5 @@
 use Rattle.std.proofs.Common.{◌-◌}
 use Rattle.lert_bench.proofs.route.Routing.route_all.Given as goal
 
-abbrev pub decreases-loop-key : goal.decreases-loop-key
-decreases-loop-key l = l.reader.limit - l.reader.given
+abbrev pub decreases-loop-item : goal.decreases-loop-item
+decreases-loop-item l = l.reader.limit - l.reader.given

@@ -95,6 +95,7 @@ loop-number-preserved g c =
           ap (λ (x : Standing g.row.B.Denot). x.listing) c.in-Ok.ensures.made
           ∙ (ap (λ (n : Numbers). record { settings = n; version = most_version; cone = c.loop-number.number; events = []; closed = false }) popped.1.0
           ∙ ap (λ (n : ℕ). record { settings = s; version = most_version; cone = n; events = []; closed = false }) (sym here.number));
+      version_is = ap (λ (x : Standing g.row.B.Denot). x.last.version) c.in-Ok.ensures.made;
       state_is = ap (λ (x : Standing g.row.B.Denot). x.state) c.in-Ok.ensures.made;
     } in
     record {

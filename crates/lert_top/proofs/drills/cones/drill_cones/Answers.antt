@@ -1,6 +1,6 @@
 use Rattle.std.proofs.{Common.{◌≡◌, ℕ, ◌≤◌, List, Option, length, refl, ap, sym, ◌∙◌, subst, arith}, lemmas.List.length-map}
 use Rattle.lert_cone.specs.Stands.{Standing}
-use Rattle.lert_top.proofs.{cones.StatusLaws.{err_at, ok_at}, drills.DealtLaws.dealt_keys, drills.DrillLaws.stopped_shows}
+use Rattle.lert_top.proofs.{cones.StatusLaws.{err_at, ok_at}, drills.DealtLaws.dealt_items, drills.DrillLaws.stopped_shows}
 use Rattle.lert_top.specs.{drills.Dealt.AreDealt, drills.Drilled.{DrillShows, drill_memory}}
 use Rattle.lert_ingest.specs.{Bays.bays_of, Stops.AreWeaving}
 use Rattle.lert_ingest.proofs.BayLaws.{told_later}
@@ -63,7 +63,7 @@ returns g c = record {
       let read = ok_at c.ingest-sources.result.2 _ c.in_default-read.is c.ingest-sources.ensures.read in
       c.finish_and_print-status.ensures.shows c.args.workers seed events
       (subst (λ traces. AreWeaving g.B.Bay.files g.B.Bay.leaves g.B.Faulty.faults c.args.settings.now c.args.workers traces c.ingest-sources.result.1.items)
-      (dealt_keys seed events g.S.Source.remaining c.args.sources.items read.traces are read.keys) read.weaving);
+      (dealt_items seed events g.S.Source.remaining c.args.sources.items read.traces are read.items) read.weaving);
 }
 
 pub returns-in-Err-clause-shows : goal.returns-in-Err-clause-shows

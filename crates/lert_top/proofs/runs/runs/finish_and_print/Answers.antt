@@ -35,7 +35,7 @@ returns-in-Err g c = record {
       let stopped = c.in-Err.ensures.stopped in
       ends_later g.B.Bay.files g.B.Bay.leaves g.B.Faulty.faults g.B.Faulty.mark c.args.cones.now.items c.finish_cones.new.cones.items stopped.others.number_is
       (stopped_ended g.B.Bay.files g.B.Bay.leaves g.B.Faulty.faults g.B.Faulty.mark c.args.cones.now.items c.finish_cones.new.cones.items c.in-Err.status stopped);
-  shows = λ workers traces weaving.
+  shows = λ workers traces weaving fits.
       stopped_shows g.B.Bay.files g.B.Bay.leaves g.B.Faulty.faults g.B.Faulty.mark c.args.cones.now.items c.finish_cones.new.cones.items c.args.settings.now workers traces weaving
       g.K.Sink.taken g.K.Faulty.faults c.args.out.now c.in-Err.status c.in-Err.ensures.stopped;
   closed = λ is.
@@ -49,10 +49,10 @@ returns-in-Ok g c = record {
       let are = c.in_default.ensures.finished in
       ends_later g.B.Bay.files g.B.Bay.leaves g.B.Faulty.faults g.B.Faulty.mark c.args.cones.now.items c.finish_cones.new.cones.items are.number_is
       (finished_ended g.B.Bay.files g.B.Bay.leaves g.B.Faulty.faults g.B.Faulty.mark c.args.cones.now.items c.finish_cones.new.cones.items are);
-  shows = λ workers traces weaving.
+  shows = λ workers traces weaving fits.
       end_done
       (finished_closed g.B.Bay.files g.B.Bay.leaves g.B.Faulty.faults g.B.Faulty.mark c.args.cones.now.items c.finish_cones.new.cones.items c.args.settings.now workers traces weaving
-      c.requires.number c.in_default.ensures.finished (λ all. IfTold (g.K.Sink.taken c.args.out.now) (λ text. g.K.Sink.taken c.print_cones.new.out ≡ Some (text ++ all)))
+      c.requires.number c.in_default.ensures.finished fits (λ all. IfTold (g.K.Sink.taken c.args.out.now) (λ text. g.K.Sink.taken c.print_cones.new.out ≡ Some (text ++ all)))
       (λ text had. c.in-Ok.ensures.ok text had ∙ ap (λ (xs : List (Standing g.row.B.Denot)). Some (text ++ lines (map printed_as xs))) c.deref.ensures.value));
   closed = λ is.
       finished_in_each g.B.Bay.files g.B.Bay.leaves g.B.Faulty.faults g.B.Faulty.mark c.args.settings.now c.requires.weaving.0 c.requires.weaving.1.0 c.args.cones.now.items
@@ -65,12 +65,12 @@ returns-in-Err-print_cones g c = record {
       let are = c.in_default.ensures.finished in
       ends_later g.B.Bay.files g.B.Bay.leaves g.B.Faulty.faults g.B.Faulty.mark c.args.cones.now.items c.finish_cones.new.cones.items are.number_is
       (finished_ended g.B.Bay.files g.B.Bay.leaves g.B.Faulty.faults g.B.Faulty.mark c.args.cones.now.items c.finish_cones.new.cones.items are);
-  shows = λ workers traces weaving.
+  shows = λ workers traces weaving fits.
       let start = g.K.Sink.taken c.args.out.now in
       let end = g.K.Sink.taken c.print_cones.new.out in
       end_cut (c.in-Err-print_cones.ensures.cause.failed refl)
       (finished_closed g.B.Bay.files g.B.Bay.leaves g.B.Faulty.faults g.B.Faulty.mark c.args.cones.now.items c.finish_cones.new.cones.items c.args.settings.now workers traces weaving
-      c.requires.number c.in_default.ensures.finished (IsCut start end)
+      c.requires.number c.in_default.ensures.finished fits (IsCut start end)
       (subst (λ (xs : List (Standing g.row.B.Denot)). IsCut start end (lines (map printed_as xs))) c.deref.ensures.value c.in-Err-print_cones.ensures.cut));
   closed = λ is.
       finished_in_each g.B.Bay.files g.B.Bay.leaves g.B.Faulty.faults g.B.Faulty.mark c.args.settings.now c.requires.weaving.0 c.requires.weaving.1.0 c.args.cones.now.items

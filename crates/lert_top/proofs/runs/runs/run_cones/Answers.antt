@@ -2,6 +2,7 @@ use Rattle.std.proofs.{Common.{refl, sym, ◌∙◌}, lemmas.List.length-map}
 use Rattle.lert_cone.specs.Stands.{Standing}
 use Rattle.lert_ingest.specs.{Bays.bays_of, Stops.out_of_memory}
 use Rattle.lert_ingest.proofs.{BayLaws.{are_more, are_same}, Exactly.exact_memory}
+use Rattle.lert_top.proofs.cones.TakenLaws.{taken_since}
 use Rattle.lert_top.proofs.{cones.StatusLaws.{err_at, ok_at, no_memory_not_done}, cones.AskedLaws.traces_same, runs.DoneLaws.reading_not_done, runs.Ending.ends_since}
 use Rattle.lert_top.proofs.runs.RunLaws.{exact_ended, exact_stopped}
 use Rattle.lert_top.specs.runs.Run.{ended, stopped}
@@ -72,10 +73,13 @@ returns g c = record {
   traces_later = c.ingest-traces.ensures.traces_later;
   shows =
       let read = ok_at c.ingest-traces.result.2 _ c.in_default.is c.ingest-traces.ensures.read in
-      ended read.traces read.keys read.read read.fits (ends_since g.S.Source.remaining g.S.Faulty.faults g.K.Sink.taken g.K.Faulty.faults g.B.Bay.files g.B.Faulty.faults
+      ended read.traces read.items read.read
+      (taken_since g.B.Bay.files g.B.Faulty.faults g.B.Faulty.mark c.args.settings.now read.traces (bays_of c.ingest-traces.result.1.items)
+      (bays_of c.finish_and_print-status.new.cones.items) c.finish_and_print-status.ensures.later read.fits)
+      (ends_since g.S.Source.remaining g.S.Faulty.faults g.K.Sink.taken g.K.Faulty.faults g.B.Bay.files g.B.Faulty.faults
       c.args.settings.now c.args.workers g.B.Faulty.mark c.args.traces.items c.ingest-traces.result.0.items c.args.out.now c.finish_and_print-status.new.out
       (bays_of c.args.cones.items) (bays_of c.ingest-traces.result.1.items) (bays_of c.finish_and_print-status.new.cones.items)
-      c.ingest-traces.ensures.later c.finish_and_print-status.ensures.later read.traces (c.finish_and_print-status.ensures.shows c.args.workers read.traces read.weaving));
+      c.ingest-traces.ensures.later c.finish_and_print-status.ensures.later read.traces (c.finish_and_print-status.ensures.shows c.args.workers read.traces read.weaving read.fits));
   exact =
       let read = ok_at c.ingest-traces.result.2 _ c.in_default.is c.ingest-traces.ensures.read in
       let first = bays_of c.args.cones.items in
@@ -86,6 +90,6 @@ returns g c = record {
       c.ingest-traces.ensures.later c.finish_and_print-status.ensures.later c.ingest-traces.result.2 c.in_default.is c.ingest-traces.ensures.exact c.finish_and_print-status.result
       (ends_since g.S.Source.remaining g.S.Faulty.faults g.K.Sink.taken g.K.Faulty.faults g.B.Bay.files g.B.Faulty.faults
       c.args.settings.now c.args.workers g.B.Faulty.mark c.args.traces.items c.ingest-traces.result.0.items c.args.out.now c.finish_and_print-status.new.out
-      first then now c.ingest-traces.ensures.later c.finish_and_print-status.ensures.later read.traces (c.finish_and_print-status.ensures.shows c.args.workers read.traces read.weaving));
+      first then now c.ingest-traces.ensures.later c.finish_and_print-status.ensures.later read.traces (c.finish_and_print-status.ensures.shows c.args.workers read.traces read.weaving read.fits));
   closed = c.finish_and_print-status.ensures.closed;
 }

@@ -13,7 +13,8 @@ returns-in_err-begin g c =
     (record {
       same = failed.same;
       counted = tt;
-      key = λ bytes was. tt;
+      item = λ bytes was. tt;
+      weight = tt;
       ended = tt;
       end = λ bytes was. tt;
       fault = failed.given;
@@ -26,19 +27,20 @@ returns-in_err-begin g c =
 pub returns : goal.returns
 returns g c =
     let begun = c.in_ok-begin.ensures in
-    let taken = c.take_key.ensures in
+    let taken = c.take_item.ensures in
     record {
-      same = same_again c.args.self.now c.begin.new.self c.take_key.new.self begun.same taken.same;
-      counted = subst (λ n. IfOk c.take_key.result (λ next. IfSome next (λ _. (c.take_key.new.self.given ≡ n + 1) × (c.take_key.new.self.given ≤ c.take_key.new.self.limit))))
+      same = same_again c.args.self.now c.begin.new.self c.take_item.new.self begun.same taken.same;
+      counted = subst (λ n. IfOk c.take_item.result (λ next. IfSome next (λ _. (c.take_item.new.self.given ≡ n + 1) × (c.take_item.new.self.given ≤ c.take_item.new.self.limit))))
           begun.given taken.counted;
-      key = λ bytes was.
-          subst (λ n. IfOk c.take_key.result (λ next. IfSome next (λ key. slice_get (whole bytes) n ≡ Some key))) begun.given
-          (taken.key bytes (ap g.S.Source.remaining begun.same.made ∙ was));
-      ended = subst (λ n. IfOk c.take_key.result (λ next. IfNone next (c.take_key.new.self.given ≡ n))) begun.given taken.ended;
+      item = λ bytes was.
+          subst (λ n. IfOk c.take_item.result (λ next. IfSome next (λ item. slice_get (whole bytes) n ≡ Some item))) begun.given
+          (taken.item bytes (ap g.S.Source.remaining begun.same.made ∙ was));
+      weight = taken.weight;
+      ended = subst (λ n. IfOk c.take_item.result (λ next. IfNone next (c.take_item.new.self.given ≡ n))) begun.given taken.ended;
       end = λ bytes was.
-          subst (λ n. IfOk c.take_key.result (λ next. IfNone next (IsTraceOf bytes n × (g.S.Source.remaining c.take_key.new.self.source ≡ Some [])))) begun.given
+          subst (λ n. IfOk c.take_item.result (λ next. IfNone next (IsTraceOf bytes n × (g.S.Source.remaining c.take_item.new.self.source ≡ Some [])))) begun.given
           (taken.end bytes (ap g.S.Source.remaining begun.same.made ∙ was));
-      fault = subst (λ n. IfErr c.take_key.result (λ _. c.take_key.new.self.given ≡ n)) begun.given taken.fault;
+      fault = subst (λ n. IfErr c.take_item.result (λ _. c.take_item.new.self.given ≡ n)) begun.given taken.fault;
       cause = taken.cause;
       read_failed = λ is. risen_since _ _ _ begun.never_falls taken.never_falls (taken.read_failed is);
       never_falls = never_falls_on _ _ _ begun.never_falls taken.never_falls;

@@ -11,4 +11,4 @@ invariant-loop-self g l = record {
 }
 
 abbrev pub decreases-loop-self : goal.decreases-loop-self
-decreases-loop-self g l = 8 - length l.self.pending
+decreases-loop-self g l = l.count - length l.self.pending

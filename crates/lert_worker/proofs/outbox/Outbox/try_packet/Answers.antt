@@ -26,7 +26,7 @@ try_admit-requires-clause-number g c = ap (λ (e : Entry). e.by) c.take.ensures.
 
 pub try_admit-requires-clause-fits : goal.try_admit-requires-clause-fits
 try_admit-requires-clause-fits g c =
-    fits_cone g.H.Held c.args.fleet.now c.args.pass.now c.args.self.now c.args.cone (packet_of c.take.new.entry) c.requires.may c.requires.keys (ap packet_of c.take.ensures.entry)
+    fits_cone g.H.Held c.args.fleet.now c.args.pass.now c.args.self.now c.args.cone (packet_of c.take.new.entry) c.requires.may c.requires.items (ap packet_of c.take.ensures.entry)
 
 pub give_back-requires-clause-cone : goal.give_back-requires-clause-cone
 give_back-requires-clause-cone g c =
@@ -38,7 +38,7 @@ give_back-requires-clause-empty g c =
 
 pub give_back-requires-clause-room : goal.give_back-requires-clause-room
 give_back-requires-clause-room g c =
-    room_back c.args.self.now c.take.new.self c.take.new.entry c.args.cone c.requires.may.idle.packet_is c.take.ensures.rings c.take.ensures.entry c.requires.keys
+    room_back c.args.self.now c.take.new.self c.take.new.entry c.args.cone c.requires.may.idle.packet_is c.take.ensures.rings c.take.ensures.entry c.requires.items
 
 -- the entry is empty behind the call, whatever came of it
 pub returns-clause-may : goal.returns-clause-may

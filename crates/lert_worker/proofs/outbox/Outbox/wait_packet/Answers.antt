@@ -25,7 +25,7 @@ admit-admitted-requires-clause-number g c = ap (λ (e : Entry). e.by) c.take.ens
 
 pub admit-admitted-requires-clause-fits : goal.admit-admitted-requires-clause-fits
 admit-admitted-requires-clause-fits g c =
-    fits_cone g.H.Held c.args.fleet.now c.args.pass.now c.args.self.now c.args.cone (packet_of c.take.new.entry) c.requires.may c.requires.keys (ap packet_of c.take.ensures.entry)
+    fits_cone g.H.Held c.args.fleet.now c.args.pass.now c.args.self.now c.args.cone (packet_of c.take.new.entry) c.requires.may c.requires.items (ap packet_of c.take.ensures.entry)
 
 -- the entry is empty behind the call, whatever came of it
 pub returns-clause-may : goal.returns-clause-may

@@ -1,7 +1,7 @@
 use Rattle.lert_worker.specs.Outbox.{AreDrained, IsIdle, IsSameOutbox}
-use Rattle.lert_worker.proofs.outbox.Outbox.drop_keys.Given as goal
+use Rattle.lert_worker.proofs.outbox.Outbox.drop_items.Given as goal
 
--- the rings so far have no keys
+-- the rings so far have no items
 abbrev pub invariant-loop-cone : goal.invariant-loop-cone
 invariant-loop-cone l = record {
   idle : IsIdle l.self;
