@@ -24,8 +24,8 @@ SECTION_ORDERS = {b"\x4d\x3c\x2b\x1a": "<", b"\x1a\x2b\x3c\x4d": ">"}
 INTERFACE, OLD_PACKET, SIMPLE_PACKET, PACKET = 1, 2, 3, 6
 LEAST_BLOCK, MOST_BLOCK = 12, 1 << 24
 
-# Packets that came one after the other, each behind its link.
-Several = list[tuple[int, bytes]]
+# A packet behind its link, with its length on the wire, of which a capture may have a part alone.
+Packet = tuple[int, bytes, int]
 
 
 class Pcap:
@@ -45,9 +45,9 @@ class Pcap:
         self.link = link & 0xFFFF
         if self.link not in known:
             raise source.refusal(f"byte {LINK_AT}", f"packets of the link type {self.link}, which isn't known")
-        self.length = struct.Struct(f"{order}8xI4x")
+        self.lengths = struct.Struct(f"{order}8xII")
 
-    def packets(self) -> Iterator[Several]:
+    def packets(self) -> Iterator[list[Packet]]:
         """The packets as they come, many at once."""
         data, place = self.data, HEADER_LEN
         while True:
@@ -66,19 +66,19 @@ class Pcap:
     def check_length(self, data: bytes, place: int) -> None:
         """Where a packet is longer than any, nothing says where the next one begins, so that it can't be skipped."""
         if len(data) >= RECORD_LEN:
-            (length,) = self.length.unpack_from(data)
+            length, _on_wire = self.lengths.unpack_from(data)
             if length > MOST_PACKET:
                 raise self.source.refusal(f"byte {place}", f"a packet of {length} bytes")
 
-    def whole(self, data: bytes) -> tuple[Several, int]:
+    def whole(self, data: bytes) -> tuple[list[Packet], int]:
         """The packets that are whole at the front of these bytes, and their end."""
         several, at, link = [], 0, self.link
         while len(data) - at >= RECORD_LEN:
-            (length,) = self.length.unpack_from(data, at)
+            length, on_wire = self.lengths.unpack_from(data, at)
             end = at + RECORD_LEN + length
             if end > len(data) or length > MOST_PACKET:
                 break
-            several.append((link, data[at + RECORD_LEN : end]))
+            several.append((link, data[at + RECORD_LEN : end], on_wire))
             at = end
         return several, at
 
@@ -101,7 +101,7 @@ class Pcapng:
         # Of each interface of this section: its link, and the most bytes of a packet, or 0.
         self.interfaces: list[tuple[int, int]] = []
 
-    def packets(self) -> Iterator[Several]:
+    def packets(self) -> Iterator[list[Packet]]:
         """The packets as they come, many at once."""
         data, place, broken = b"", 0, None
         while broken or (more := self.source.read()):
@@ -121,7 +121,7 @@ class Pcapng:
             raise self.source.refusal(f"byte {place}", str(broken))
         self.source.refuse(f"byte {place}", str(broken))
 
-    def whole(self, data: bytes) -> tuple[Several, int, Broken | None]:
+    def whole(self, data: bytes) -> tuple[list[Packet], int, Broken | None]:
         """The packets of the blocks that are whole at the front of these bytes, their end, and what is amiss with the
         block behind them."""
         found, at = [], 0
@@ -149,8 +149,8 @@ class Pcapng:
             raise Broken(f"a block of {length} bytes")
         return length
 
-    def packet_in(self, block: bytes) -> tuple[int, bytes] | None:
-        """The packet of a block, behind its link, if it has one."""
+    def packet_in(self, block: bytes) -> Packet | None:
+        """The packet of a block, if it has one."""
         kind, length, last = *struct.unpack_from(f"{self.order}II", block), block[-4:]
         if last != block[4:8]:
             raise Broken("a block that ends with another length")
@@ -160,18 +160,18 @@ class Pcapng:
             elif kind == INTERFACE:
                 self.interfaces.append(struct.unpack_from(f"{self.order}8xHxxI", block[:-4]))
             elif kind == PACKET:
-                return self.packet(block, 28, *struct.unpack_from(f"{self.order}8xI8xI4x", block[:-4]))
+                return self.packet(block, 28, *struct.unpack_from(f"{self.order}8xI8xII", block[:-4]))
             elif kind == OLD_PACKET:
-                return self.packet(block, 28, *struct.unpack_from(f"{self.order}8xH10xI4x", block[:-4]))
+                return self.packet(block, 28, *struct.unpack_from(f"{self.order}8xH10xII", block[:-4]))
             elif kind == SIMPLE_PACKET:
                 most = self.interfaces[0][1] if self.interfaces else 0
                 (whole,) = struct.unpack_from(f"{self.order}8xI", block[:-4])
-                return self.packet(block, 12, 0, min(whole, most or whole, length - 16))
+                return self.packet(block, 12, 0, min(whole, most or whole, length - 16), whole)
         except struct.error:
             raise Broken(f"a block of {length} bytes, which is too short", length) from None
         return None
 
-    def packet(self, block: bytes, at: int, interface: int, length: int) -> tuple[int, bytes]:
+    def packet(self, block: bytes, at: int, interface: int, length: int, on_wire: int) -> Packet:
         if interface >= len(self.interfaces):
             raise Broken(f"a packet of interface {interface}, which the section hasn't got", len(block))
         if length > len(block) - at - 4:
@@ -179,10 +179,10 @@ class Pcapng:
         link = self.interfaces[interface][0]
         if link not in self.known:
             raise Broken(f"a packet of the link type {link}, which isn't known", len(block))
-        return link, block[at : at + length]
+        return link, block[at : at + length], on_wire
 
 
-def captured(source: Source, known: Container[int]) -> Iterator[Several]:
+def captured(source: Source, known: Container[int]) -> Iterator[list[Packet]]:
     """The packets of a capture as they come. Of another link than the known ones they are refused."""
     data = b""
     while len(data) < MAGIC_LEN and (more := source.read()):

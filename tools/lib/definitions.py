@@ -109,6 +109,11 @@ def counts_of(events: Iterable[Item]) -> Counter[int]:
     return counts
 
 
+def weight_of(events: Iterable[Item]) -> int:
+    """The sum of all weights."""
+    return sum(weight for _key, weight in events)
+
+
 def heavy(threshold: int, events: Iterable[Item]) -> list[int]:
     """The keys whose weights in all events add up to the threshold."""
     return sorted(key for key, count in counts_of(events).items() if count >= threshold)

@@ -1,5 +1,5 @@
 """What keys are made of: the values of lines, of one column of a CSV, or of one field of JSON lines, from a file or a
-pipe. Those of packets are in network_packets.py.
+pipe, and beside them amounts, where these are wanted. Those of packets are in network_packets.py.
 
 A reader gives the values in batches, as they come: it doesn't wait for more while it has a whole value, but of packets
 that came in part, and has about a chunk in memory at once.
@@ -10,10 +10,11 @@ from __future__ import annotations
 import csv
 import io
 import json
+import re
 import select
 import zlib
 from contextlib import suppress
-from typing import Callable, Generator, Iterator, NamedTuple, Sequence
+from typing import Any, Callable, Generator, Iterator, NamedTuple, Sequence, TypeVar
 
 CHUNK = 1 << 18
 MOST_LINE = 1 << 20
@@ -21,6 +22,12 @@ MOST_SHOWN = 200
 # The first bytes of a gzip file, and its form as zlib names it.
 GZIP = b"\x1f\x8b"
 GZIP_FORM = 16 + zlib.MAX_WBITS
+# A record counts at most as much as a threshold may be.
+MOST_AMOUNT = (1 << 32) - 1
+AMOUNT = re.compile(rb"[0-9]{1,20}")
+NO_AMOUNT = f"the amount is no decimal number up to {MOST_AMOUNT}"
+
+Each = TypeVar("Each")
 
 
 class BadInput(Exception):
@@ -28,11 +35,13 @@ class BadInput(Exception):
 
 
 class Batch(NamedTuple):
-    """Values, each with the number of its line, or of whatever `unit` names, from 1."""
+    """Values, each with the number of its line, or of whatever `unit` names, from 1, and with its amount, where that is
+    wanted."""
 
     values: list[bytes]
     places: Sequence[int]
     unit: str = "line"
+    amounts: list[int] | None = None
 
 
 class Unpacked:
@@ -177,30 +186,75 @@ def lines(source: Source) -> Iterator[Batch]:
 
 
 def stretches(
-    source: Source, values: Sequence[bytes | None], places: Sequence[int], lack: Callable[[int], str]
+    source: Source,
+    values: Sequence[bytes | None],
+    places: Sequence[int],
+    lack: Callable[[int], str],
+    amounts: Sequence[int | None] | None = None,
 ) -> Iterator[Batch]:
     """The values of lines but those that are None, which are refused, each behind the values before it. `lack` says
     what is amiss with one by its place among these."""
+
+    def part(begin: int, end: int) -> Batch:
+        return Batch(values[begin:end], places[begin:end], amounts=None if amounts is None else amounts[begin:end])
+
     begin = 0
     for at in [at for at, value in enumerate(values) if value is None] if None in values else ():
         if begin < at:
-            yield Batch(values[begin:at], places[begin:at])
+            yield part(begin, at)
         source.refuse(f"line {places[at]}", lack(at))
         begin = at + 1
     if begin < len(values):
-        yield Batch(values[begin:], places[begin:])
+        yield part(begin, len(values))
 
 
-def word(source: Source, number: int) -> Iterator[Batch]:
-    """A word of each line, by its number, from 1. Words are parted by blanks."""
+def amount_in(text: bytes | None) -> int | None:
+    """The amount that a text spells."""
+    amount = int(text) if text and AMOUNT.fullmatch(text) else None
+    return amount if amount is not None and amount <= MOST_AMOUNT else None
+
+
+def records(
+    source: Source,
+    wanted: Sequence[Each],
+    found: Sequence[Sequence[bytes | None]],
+    places: Sequence[int],
+    lack: Callable[[int, Each], str],
+) -> Iterator[Batch]:
+    """What was found in lines: the value that is wanted of each, and the text of its amount where there are two. `lack`
+    says why a line hasn't got one of them, by its place among these."""
+
+    def why(at: int) -> str:
+        return next((lack(at, one) for one, texts in zip(wanted, found) if texts[at] is None), NO_AMOUNT)
+
+    values, *weights = found
+    if not weights:
+        return stretches(source, values, places, why)
+    amounts = list(map(amount_in, weights[0]))
+    both = [None if amount is None else value for value, amount in zip(values, amounts)]
+    return stretches(source, both, places, why, amounts)
+
+
+def each_at(rows: Sequence[Sequence[Each]], at: int) -> list[Each | None]:
+    """What rows have at a place."""
+    try:
+        return [row[at] for row in rows]
+    except IndexError:
+        return [row[at] if at < len(row) else None for row in rows]
+
+
+def word(source: Source, wanted: Sequence[int]) -> Iterator[Batch]:
+    """A word of each line, by its number, from 1, and one that is its amount. Words are parted by blanks."""
     for batch in lines(source):
-        parted = [line.split(None, number) for line in batch.values]
-        values = [words[number - 1] if len(words) >= number else None for words in parted]
-        yield from stretches(source, values, batch.places, lambda _: f"the line has no word {number}")
+        parted = [line.split(None, max(wanted)) for line in batch.values]
+        found = [each_at(parted, number - 1) for number in wanted]
+        yield from records(source, wanted, found, batch.places, lambda _, number: f"the line has no word {number}")
 
 
-def place_of(wanted: str, header: list[str], source: Source) -> int:
-    """The place of a column in the row that names the columns."""
+def column_at(wanted: str, header: list[str], source: Source) -> int:
+    """The place of a column that is wanted by its number, or by its name in the row that names the columns."""
+    if is_number(wanted):
+        return int(wanted) - 1
     if header.count(wanted) != 1:
         count = "no" if wanted not in header else "more than one"
         # In one line, whatever stands there.
@@ -272,37 +326,52 @@ def rows_in(
     return texts, before
 
 
-def column(source: Source, wanted: str, delimiter: str) -> Iterator[Batch]:
-    """The values of one column: by its name in the first row, or else of all rows by its number, from 1."""
-    at = int(wanted) - 1 if wanted.isascii() and wanted.isdigit() else None
+def is_number(wanted: str) -> bool:
+    """Whether a column is wanted by its number."""
+    return wanted.isascii() and wanted.isdigit()
+
+
+def texts_at(rows: list[list[str]], at: int) -> list[bytes | None]:
+    return [None if text is None else text.encode("utf-8", "surrogateescape") for text in each_at(rows, at)]
+
+
+def column(source: Source, wanted: Sequence[str], delimiter: str) -> Iterator[Batch]:
+    """The values of one column, and of one that has their amounts: by their names in the first row, or else of all rows
+    by their numbers, from 1."""
+    places_in = [int(one) - 1 for one in wanted] if all(map(is_number, wanted)) else None
     for rows, places in rows_of(source, delimiter):
-        if at is None and rows:
-            at = place_of(wanted, rows[0], source)
+        if places_in is None and rows:
+            places_in = [column_at(one, rows[0], source) for one in wanted]
             rows, places = rows[1:], places[1:]
-        try:
-            values = [row[at].encode("utf-8", "surrogateescape") for row in rows]
-        except IndexError:
-            values = [row[at].encode("utf-8", "surrogateescape") if at < len(row) else None for row in rows]
-        yield from stretches(source, values, places, lambda _: f"the row has no column {wanted}")
-    if at is None:
-        place_of(wanted, [], source)
+        found = [texts_at(rows, at) for at in places_in or ()]
+        if rows:
+            yield from records(source, wanted, found, places, lambda _, one: f"the row has no column {one}")
+    if places_in is None:
+        column_at(next(one for one in wanted if not is_number(one)), [], source)
 
 
-def field(source: Source, wanted: str) -> Iterator[Batch]:
-    """The values of one field of the JSON object that each line is: a text, or a number as it is written there."""
+def field(source: Source, wanted: Sequence[str]) -> Iterator[Batch]:
+    """The values of one field of the JSON object that each line is, and of one that has their amounts: a text, or a
+    number as it is written there."""
     scan = json.JSONDecoder(parse_int=str, parse_float=str).scan_once
     for batch in lines(source):
-        values: list[bytes | None] = []
+        found: list[list[bytes | None]] = [[] for _ in wanted]
         for line in batch.values:
-            try:
-                text = line.decode().strip(" \t\r")
-                fields, end = scan(text, 0)
-                value = fields[wanted]
-            except (ValueError, StopIteration, RecursionError, TypeError, KeyError):
-                value = None
-            is_whole = isinstance(value, str) and end == len(text)
-            values.append(value.encode("utf-8", "surrogatepass") if is_whole else None)
-        yield from stretches(source, values, batch.places, lambda at: lack_of(batch.values[at], wanted))
+            fields = fields_in(line, scan)
+            for values, one in zip(found, wanted):
+                value = fields.get(one)
+                values.append(value.encode("utf-8", "surrogatepass") if isinstance(value, str) else None)
+        yield from records(source, wanted, found, batch.places, lambda at, one: lack_of(batch.values[at], one))
+
+
+def fields_in(line: bytes, scan: Callable[[str, int], tuple[Any, int]]) -> dict[str, Any]:
+    """The fields of a JSON object that is all of a line, else none."""
+    try:
+        text = line.decode().strip(" \t\r")
+        fields, end = scan(text, 0)
+    except (ValueError, StopIteration, RecursionError):
+        return {}
+    return fields if isinstance(fields, dict) and end == len(text) else {}
 
 
 def lack_of(line: bytes, wanted: str) -> str:

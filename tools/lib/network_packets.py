@@ -211,16 +211,17 @@ def reader_of(link: int) -> Callable[[bytes], Ends | None]:
     return lambda data: usual_ends(data, *places) or ends_behind(link, data)
 
 
-def packets(source: Source, what: str) -> Iterator[Batch]:
-    """One of the `VALUES` of each packet."""
+def packets(source: Source, what: str, weighs: bool = False) -> Iterator[Batch]:
+    """One of the `VALUES` of each packet. Its amount is its length on the wire, where one is wanted."""
     value = VALUES[what]
     number = left_out = 0
     for several in captured(source, LINKS):
-        found = [reader_of(link)(data) for link, data in several]
+        found = [reader_of(link)(data) for link, data, _ in several]
         places = [place for place, ends in enumerate(found, start=number + 1) if ends]
         number += len(several)
         left_out += len(several) - len(places)
         if places:
-            yield Batch([value(ends) for ends in found if ends], places, "packet")
+            amounts = [on_wire for ends, (_, _, on_wire) in zip(found, several) if ends] if weighs else None
+            yield Batch([value(ends) for ends in found if ends], places, "packet", amounts)
     if left_out:
         print(f"keys: {source.name}: {left_out} packets without a readable IP address are left out", file=sys.stderr)

@@ -158,7 +158,7 @@ class Rows(Lines):
         self.waiting: list[bytes] = []
 
     def batches(self, data: bytes) -> Iterator[Batch]:
-        return column(Given(self.head + data), self.wanted, self.delimiter)
+        return column(Given(self.head + data), [self.wanted], self.delimiter)
 
     def counted(self, data: bytes) -> int:
         return count(self.batches(data))
@@ -191,7 +191,7 @@ class Rows(Lines):
 
     def first_row(self, data: bytes) -> tuple[bytes, bytes]:
         head, _, rest = data.removeprefix(MARK).partition(b"\n")
-        column_is_there = column(Given(head + b"\n"), self.wanted, self.delimiter)
+        column_is_there = column(Given(head + b"\n"), [self.wanted], self.delimiter)
         count(column_is_there)
         return head + b"\n", rest
 
@@ -240,8 +240,8 @@ def sieve_of(
         rows = Rows(wanted_column, delimiter, head)
         return rows if hashes else with_numbers(rows, lambda data: rows.batches(data))
     if wanted_field is not None:
-        checked = Checked(lambda data: count(field(Given(data), wanted_field)))
-        return checked if hashes else with_numbers(checked, lambda data: field(Given(data), wanted_field))
+        checked = Checked(lambda data: count(field(Given(data), [wanted_field])))
+        return checked if hashes else with_numbers(checked, lambda data: field(Given(data), [wanted_field]))
     return Lines() if hashes else Checked(numbers_in)
 
 

@@ -7,6 +7,8 @@ make_captures() {
     python3 - <<'END'
 import struct
 
+# So many bytes more a packet had on the wire than in a capture, but those of which a block knows one length.
+MORE = 470
 # From 10.0.0.1 to 10.0.0.2, and 2001:db8::1 to ::2.
 ENDS_4 = bytes.fromhex("0a0000010a000002")
 ENDS_6 = bytes.fromhex("20010db8" + "00" * 11 + "01" + "20010db8" + "00" * 11 + "02")
@@ -89,7 +91,7 @@ ROWS = {
 def pcap(order, link, packets):
     yield struct.pack(order + "IHHiIII", 0xA1B2C3D4, 2, 4, 0, 0, 262144, link)
     for packet in packets:
-        yield struct.pack(order + "IIII", 0, 0, len(packet), len(packet) + 7) + packet
+        yield struct.pack(order + "IIII", 0, 0, len(packet), len(packet) + MORE) + packet
 
 def block(order, kind, body):
     body += bytes(-len(body) % 4)
@@ -103,7 +105,7 @@ def interface(order, link, most=262144):
     return block(order, 1, struct.pack(order + "HHI", link, 0, most) + bytes.fromhex("0100020061620000" "00000000"))
 
 def enhanced(order, number, packet):
-    return block(order, 6, struct.pack(order + "IIIII", number, 0, 0, len(packet), len(packet) + 7) + packet)
+    return block(order, 6, struct.pack(order + "IIIII", number, 0, 0, len(packet), len(packet) + MORE) + packet)
 
 def simple(order, packet):
     return block(order, 3, struct.pack(order + "I", len(packet)) + packet)
@@ -111,10 +113,15 @@ def simple(order, packet):
 def old(order, number, packet):
     return block(order, 2, struct.pack(order + "HHIIII", number, 0, 0, 0, len(packet), len(packet)) + packet)
 
-def put(name, parts, dues):
+def items_of(length):
+    return [255] * (length // 255) + ([length % 255] if length % 255 else [])
+
+def put(name, parts, dues, lengths):
     left_out = sum(due is None for due in dues)
     open(name, "wb").writelines(parts)
     open(f"{name}.due", "w").writelines(f"{due}\n" for due in dues if due)
+    weights = (items for due, items in zip(dues, map(items_of, lengths)) if due)
+    open(f"{name}.weights", "w").writelines(f"{weight}\n" for items in weights for weight in items)
     told = f"keys: {name}: {left_out} packets without a readable IP address are left out\n"
     open(f"{name}.told", "w").write(told if left_out else "")
     print(name, file=captures)
@@ -122,16 +129,19 @@ def put(name, parts, dues):
 captures = open("captures", "w")
 for number, (name, (link, rows)) in enumerate(ROWS.items()):
     packets, dues = [packet for packet, _ in rows], [due for _, due in rows]
-    put(f"{name}.pcap", pcap("<>"[number % 2], link, packets), dues)
-    put(f"{name}.pcapng", [section("<"), interface("<", link), *(enhanced("<", 0, packet) for packet in packets)], dues)
+    lengths = [len(packet) + MORE for packet in packets]
+    put(f"{name}.pcap", pcap("<>"[number % 2], link, packets), dues, lengths)
+    blocks = [section("<"), interface("<", link), *(enhanced("<", 0, packet) for packet in packets)]
+    put(f"{name}.pcapng", blocks, dues, lengths)
 ethernet, cut = behind(mac + "0800", tcp_4)[0][0], behind("00000002", udp_4)[0][0]
 several = [
     section("<"), interface("<", 1), interface("<", 101), block("<", 4, bytes(4)), enhanced("<", 0, ethernet),
     enhanced("<", 1, tcp_6[0]), block("<", 0x0BAD, b"x"), old("<", 1, udp_4[0]), simple("<", ethernet),
     enhanced("<", 1, b""), section(">"), interface(">", 0, 24), enhanced(">", 0, cut), simple(">", cut),
 ]
-put("several.pcapng", several, [TCP_4, TCP_6, UDP_4, TCP_4, None, UDP_4, "udp 10.0.0.1 - 10.0.0.2 -"])
-put("bare.pcapng", [section("<")], [])
+lengths = [len(ethernet) + MORE, len(tcp_6[0]) + MORE, len(udp_4[0]), len(ethernet), MORE, len(cut) + MORE, len(cut)]
+put("several.pcapng", several, [TCP_4, TCP_6, UDP_4, TCP_4, None, UDP_4, "udp 10.0.0.1 - 10.0.0.2 -"], lengths)
+put("bare.pcapng", [section("<")], [], [])
 
 # What is broken: its parts behind a whole packet, the place behind that of the first one, why, whether it can be
 # skipped, and whether a whole packet stands behind it.
@@ -172,6 +182,11 @@ names_of() {
     return $status
 }
 
+# The weights of what is packed of a capture by the lengths of its packets.
+weights_of() {
+    keys pack --packets five-tuple --weight bytes --from "$1" packed && keys unpack --weights packed | cut -d' ' -f2
+}
+
 # The names of the whole keys of a trace, one a line.
 names_in() {
     python3 - "$1" <<'END'
@@ -200,6 +215,7 @@ check_captures() {
     make_captures
     while read -r name <&3; do
         gives "packs $name" 0 "$(text_in "$name.due")" "$(text_in "$name.told")" names_of "$name"
+        gives "packs the bytes of $name" 0 "$(text_in "$name.weights")" "$(text_in "$name.told")" weights_of "$name"
     done 3<captures
     gives 'packs a pcapng that comes byte by byte' 0 "$(text_in several.pcapng.due)" \
         "$(text_in several.pcapng.told | sed 's/several.pcapng/standard input/')" names_of_drops several.pcapng

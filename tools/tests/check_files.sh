@@ -14,11 +14,11 @@ labelled() {
         keys unpack packed | sed 's/$/ 12/' | keys label --names names | cut -d' ' -f2-
 }
 
-# What a refusal leaves: the trace of before, and no file beside it.
+# left_by_refusal WORDS..: what a refusal leaves: the trace of before, and no file beside it.
 left_by_refusal() {
     local status
     rm -rf kept && mkdir kept && echo 7 | keys pack kept/trace || return
-    keys pack kept/trace
+    keys pack "$@" kept/trace
     status=$?
     keys unpack kept/trace && ls kept
     return $status

@@ -166,6 +166,7 @@ check_bad_traces() {
     gives 'a wrong header byte' 4 '' "lert: trace 0 bad at 3\nlert: trace 0 is other_header$other\n" run other_header
     gives 'a file that ends inside a key' 4 '' \
         "lert: trace 0 bad at 16\nlert: trace 0 is cut_key, which ends inside a key, $cut\n" run cut_key
+    check_bad_weights
     gives 'two bad traces' 4 '' \
         "lert: trace 1 bad at 16\nlert: trace 1 is cut_key, which ends inside a key, $cut\n" \
         run_workers 4 sevens cut_key other_header
@@ -247,6 +248,7 @@ check_workers() {
     done
     rm -rf d
     gives 'drawn runs of several workers' 0 '' '' passes "$top/tools/tests/crews" "$("$top/tools/lib/program")"
+    gives 'drawn runs with weights' 0 '' '' passes "$top/tools/tests/crews" "$("$top/tools/lib/program")" --weights
 }
 
 run_twice() {
@@ -303,7 +305,19 @@ check_recovery() {
     gives 'recovery of killed runs' 0 '' '' passes "$top/tools/tests/kill" "$program" --times 5 --keys 200000
 }
 
-# --- examples/words
+# --- examples
+
+hosts_of_bytes() { "$top/examples/bytes" "$@" | sed 's/^[0-9]* //'; }
+
+# Two hosts, of which one sends a byte less than a megabyte.
+hosts_of_capture() {
+    python3 -c 'import struct, sys
+sys.stdout.buffer.write(struct.pack("<IHHiIII", 0xA1B2C3D4, 2, 4, 0, 0, 20, 101))
+for host, length in ((7, 999_999), (8, 1_000_000)):
+    head = struct.pack(">BBHHHBBH", 0x45, 0, 20, 0, 0, 64, 17, 0) + bytes([10, 0, 0, host, 10, 0, 0, 9])
+    sys.stdout.buffer.write(struct.pack("<IIII", 0, 0, 20, length) + head)' >megabyte
+    hosts_of_bytes megabyte
+}
 
 without_hashes() { "$top/examples/words" "$1" | cut -d' ' -f2-; }
 example_words() { "$top/examples/words" "$@" | awk 'NF == 3 { print $3 }' | sort; }
@@ -315,6 +329,12 @@ check_example() {
     echo 'goes, so.' >>text
     gives 'the example' 0 "$report" '' without_hashes text
     gives 'the example over two texts' 0 'it\nso\n' '' example_words text text
+    # A packet of 1,500 bytes is six items, and one of 9,000 is 36.
+    report="cone 0 events 9920 reports 2 closed\n$((666 * 8 + 4)) 10.0.0.1\n$((5600 + 111 * 36 + 4)) 10.0.0.3\n"
+    gives 'the example of bytes' 0 "${report}total events 9920 reports 2\n" '' hosts_of_bytes
+    # 999,999 bytes are 3,922 items, and so are 1,000,000.
+    report='cone 0 events 7844 reports 1 closed\n7844 10.0.0.8\ntotal events 7844 reports 1\n'
+    gives 'the example over a capture' 0 "$report" '' hosts_of_capture
 }
 
 # --- gen and drill
@@ -362,6 +382,7 @@ check_program() {
     check_workers
     check_generated
     check_reports
+    check_weighed_runs
     check_recovery
     check_example
     check_look

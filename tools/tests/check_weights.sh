@@ -205,6 +205,48 @@ check_weighed_causes() {
     gives 'tells of a version' 0 '' "lert: trace 0 is bad, a trace of version 2, which this program doesn't read\n" causes_of 4
 }
 
+# bad_weights NAME AT CAUSE HEX..: a run of a trace of these bytes behind its first four is refused there.
+bad_weights() {
+    bytes 4c 45 52 54 "${@:4}" >bad
+    gives "$1" 4 '' "lert: trace 0 bad at $2\nlert: trace 0 is bad, $3\n" run bad
+}
+
+check_bad_weights() {
+    local two='02 00 00 00' zero='where a key has the weight 0' inside="which ends inside a key, $cut" version
+    bad_weights 'a weight of 0' 16 "$zero" $two "$(item 07 00)" "$(item 08 01)"
+    bad_weights 'a weight of 0 at the end' 25 "$zero" $two "$(item 07 01)" "$(item 08 00)"
+    bad_weights 'a cut key behind one with a weight' 17 "$inside" $two "$(item 07 01)" 08 00 00 00
+    bad_weights 'a cut key behind a weight of 0' 16 "$zero" $two "$(item 07 00)" 08 00 00 00
+    bad_weights 'a key without its weight' 8 "$inside" $two 07 00 00 00 00 00 00 00
+    for version in 00 03 05; do
+        bad_weights "a trace of version $version" 4 \
+            "a trace of version ${version#0}, which this program doesn't read" $version 00 00 00 "$(item 07 01)"
+    done
+}
+
+# Traces with weights: reports, beside a trace without them too, and as much weight as a cone takes.
+check_weighed_runs() {
+    local said='cone 0 events 3 reports 1 closed\n7 2\ntotal events 3 reports 1\n'
+    trace_of "$(item 07 01)" "$(item 07 02)" "$(item 08 02)" >weighed
+    gives 'a trace with weights' 0 "$said" '' run weighed
+    gives 'a trace with weights from a pipe in pieces' 0 "$said" '' run_in_pieces weighed
+    has python3 && gives 'the weights of its journal' 0 '7 1\n7 2\n8 2\n' '' journal --keys --weights d/cone-000.journal
+    trace_of "$(item 07 ff)" >weighed
+    gives 'a weight above the threshold' 0 'cone 0 events 1 reports 1 closed\n7 1\ntotal events 1 reports 1\n' '' \
+        run weighed
+    trace_of "$(times 8 "$(item 07 02)")" "$(item 08 20)" >weighed
+    said='cone 0 events 9 reports 2 closed\n7 2\n8 9\ntotal events 9 reports 2\n'
+    gives 'as much weight as a cone takes' 0 "$said" '' run_long 3 3 2 4 2 0 16 8 weighed
+    trace_of "$(times 8 "$(item 07 02)")" "$(item 08 21)" >weighed
+    gives 'more weight than a cone takes' 13 '' 'lert: cone 0 weight full at 16 plus 33\n' \
+        run_long 3 3 2 4 2 0 16 8 weighed
+    trace_of "$(item 07 02)" >weighed
+    rm -rf d
+    gives 'a trace with weights and one without' 0 \
+        'cone 0 events 4 reports 1 closed\n7 2\ntotal events 4 reports 1\n' '' \
+        lert run --threshold 3 --cone-bits 0 --workers 1 d weighed sevens
+}
+
 # The sizes of frames and of packets, and which counts a bin may have, by the table of these cases.
 sizes() {
     python3 - "$top/tools" <<'END'
