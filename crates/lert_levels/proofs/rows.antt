@@ -7,6 +7,7 @@ pub mod Windows
 pub mod CoverLaws
 pub mod DirectoryLaws
 pub mod YoungLaws
+pub mod UnitLaws
 pub mod YoungAdds
 pub mod YoungDrops
 pub mod YoungCounts

@@ -3,8 +3,11 @@
 ghost use Rattle.std.specs.Prelude.{◌≡◌, ◌+◌, ◌%◌, ◌<◌, ◌≤◌};
 
 use crate::samples::{SMALL, empty_zero, fill, fill_with};
+use lert_base::{Numbers, Settings};
 use lert_levels::Zero;
 use lert_plain::PlainTable;
+use std::alloc::Global;
+use std::process::Abort;
 
 // The counts of the tails 5, 7 and 9.
 fn counts(zero: &Zero<PlainTable>) -> [u64; 3]
@@ -53,6 +56,54 @@ fn are_weighed(zero: &mut Zero<PlainTable>) -> bool
 #[test]
 fn weights_add_up(rt: HostRuntime) {
     assert!(rt; are_weighed(&mut empty_zero(&rt, rt.alloc())));
+}
+
+// The small settings, with a threshold of which a byte of the bound can't say whether a tail weighs as much: 237 units of 13.
+const HEAVY: Numbers = Numbers {
+    threshold: 3072,
+    ..SMALL
+};
+
+fn heavy(rt: &impl Abort, alloc: Global) -> Zero<PlainTable>
+    ensures settings { result.settings ≡ HEAVY }
+    ensures from { result.from ≡ 0 }
+    ensures to { result.to ≡ 0 }
+{
+    let settings = Settings::new(HEAVY).expect(rt, "settings");
+    Zero::new(alloc, &settings).expect(rt, "memory")
+}
+
+// Adds so many events of the tail 5, each of the weight 255, behind the last one.
+fn weigh(zero: &mut Zero<PlainTable>, last: u64, count: u64)
+    requires settings { zero.old.settings ≡ HEAVY }
+    requires from { zero.old.from ≡ 0 }
+    requires last { last ≡ zero.old.to }
+    requires tables { last + count ≤ 12 }
+    ensures settings { zero.new.settings ≡ HEAVY }
+    ensures from { zero.new.from ≡ 0 }
+    ensures to { zero.new.to ≡ last + count }
+{
+    for n in 0..count {
+        zero.add(5, 255, last + n + 1);
+    }
+}
+
+// Whether the bound tells heavy tails apart up to the threshold: eleven events are 220 units, and twelve are 240, though they
+// weigh 3,060.
+fn are_in_units(zero: &mut Zero<PlainTable>) -> bool
+    requires settings { zero.old.settings ≡ HEAVY }
+    requires from { zero.old.from ≡ 0 }
+    requires to { zero.old.to ≡ 0 }
+{
+    weigh(zero, 0, 11);
+    let below = !zero.may_reach(5, 3072) && zero.may_reach(5, 2805);
+    weigh(zero, 11, 1);
+    below && zero.may_reach(5, 3072) && zero.count(5) == 3060 && !zero.may_reach(7, 1)
+}
+
+#[test]
+fn a_bound_in_units_tells_heavy_tails_apart(rt: HostRuntime) {
+    assert!(rt; are_in_units(&mut heavy(&rt, rt.alloc())));
 }
 
 // Whether tails are refused that never came, or only in a bin that was dropped three drops ago.

@@ -1,5 +1,6 @@
 -- Level 0 in memory: the bins of the newest positions, oldest first, each with a table of its own.
 use Rattle.std.specs.Prelude.{ℕ, suc, ◌≡◌, ◌≢◌, ◌+◌, ◌-◌, ◌*◌, ◌%◌, ◌<◌, ◌≤◌, ◌==◌, nat_lt, All, min, List, [], ◌∷◌, ◌++◌, length, map, if◌then◌else◌, slice_index_or, take, drop, sum_by}
+use Rattle.std.specs.Int.{div_ceil}
 use Rattle.lert_levels.specs.{declared.bound.pair.Pair.Pair, bound.Covers.CoversCounts}
 use Rattle.lert_base.specs.declared.count_table.CountTable.{Ghosts as TablesOf}
 use Rattle.lert_spec.specs.{declared.numbers.Numbers.Numbers, declared.piece.Piece.Piece, Bins.Bin, Edges.{span, capacity, quotient_bits, width}, Limits.IsValid, Table.{count_of, costs, total, plus}}
@@ -91,11 +92,16 @@ pub record AreNumbered (s : Numbers) (from to bins end : ℕ) : Type 0 where
 abbrev pub times_in : {T : Type 0} → (T → List Piece) → List T → ℕ → ℕ
 times_in pieces tables tail = sum_by (λ table. count_of (pieces table) tail) tables
 
--- the bound of the tails covers those of the first bins, which are full, in the generation before, and those of all others in
--- the present one
-pub record AreBounded {T : Type 0} (pieces : T → List Piece) (s : Numbers) (tables : List T) (from to : ℕ) (pairs : List Pair) (earlier : ℕ) : Type 0 where
+-- how many units of a size that is, rounded up
+abbrev pub units_in : {T : Type 0} → ℕ → (T → List Piece) → List T → ℕ → ℕ
+units_in unit pieces tables tail = div_ceil (times_in pieces tables tail) unit
+
+-- the bound of the tails, in units of a size, covers those of the first bins, which are full, in the generation before, and those of
+-- all others in the present one
+pub record AreBounded {T : Type 0} (pieces : T → List Piece) (s : Numbers) (tables : List T) (from to : ℕ) (pairs : List Pair) (unit earlier : ℕ) : Type 0 where
   pub full : from + earlier * span s 0 ≤ to
-  pub covers : CoversCounts pairs (times_in pieces (take earlier tables)) (times_in pieces (drop earlier tables))
+  pub some : 1 ≤ unit
+  pub covers : CoversCounts pairs (units_in unit pieces (take earlier tables)) (units_in unit pieces (drop earlier tables))
 
 -- the bins of level 0 may go into frames of this version: their counts cost no more positions than each has, and reach them
 abbrev pub AreLight : ℕ → List Bin → Type 0

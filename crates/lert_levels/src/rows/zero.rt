@@ -1,6 +1,7 @@
 //! Level 0 in memory.
 
 ghost use Rattle.std.specs.Prelude.{◌≡◌, ◌≢◌, ℕ, ◌+◌, ◌-◌, ◌*◌, ◌/◌, ◌%◌, ◌^◌, ◌<◌, ◌≤◌, ◌==◌, if◌then◌else◌, false, ◌++◌, [], All, drop, length, map, IfOk, OnOk, sum_by};
+ghost use Rattle.std.specs.Int.{div_ceil};
 ghost use Rattle.lert_levels.specs.bound.Covers.{CoversCounts};
 ghost use Rattle.lert_spec.specs.Edges.{span, quotient_bits, width, tail_bits};
 ghost use Rattle.lert_spec.specs.Table.{count_of};
@@ -17,14 +18,16 @@ use std::marker::Model;
 /// oldest bin, the last position in the newest one, and the bins, oldest first.
 ///
 /// Only `new` takes memory: a table of a bin's events for each bin that a level has at most, and a bound of two bytes a
-/// place, with four places for each event of a bin, up to a power of two.
+/// place, with four places for each event of a bin, up to a power of two. A byte counts up to 255 units, of a 255th of
+/// the threshold, rounded up: so it tells weights apart up to there, whatever the threshold is.
 #[derive(Drop)]
 pub struct Zero<T: CountTable> {
     settings: Settings,
     // That of the oldest bin first, and behind those in use the free ones.
     tables: Vec<T>,
-    // Of what a tail weighs in all bins.
+    // Of what a tail weighs in all bins, in units of this weight.
     bound: Bound,
+    unit: u64,
     // How many of the bins are of the bound's generation before: the oldest ones.
     earlier: u64,
     extent: Extent,
@@ -39,7 +42,7 @@ impl<T: CountTable> Model for Zero<T> {
     ghost view = { λ z. seen_as T.CountTable z.settings z.tables.items z.extent.from z.extent.to };
 
     ghost invariant = { λ z. AreFilled T.CountTable z.settings z.tables.items z.extent.from z.extent.to
-        × AreBounded T.pieces z.settings z.tables.items z.extent.from z.extent.to z.bound z.earlier
+        × AreBounded T.pieces z.settings z.tables.items z.extent.from z.extent.to z.bound z.unit z.earlier
         × AreNumbered z.settings z.extent.from z.extent.to z.extent.bins z.extent.end };
 }
 
@@ -58,6 +61,7 @@ impl<T: CountTable> Zero<T> {
             settings: *settings,
             tables,
             bound,
+            unit: unit(settings),
             earlier: 0,
             extent: Extent {
                 from: 0,
@@ -86,7 +90,8 @@ impl<T: CountTable> Zero<T> {
         self.extent.grow(m, self.settings.span(0));
         let newest = self.extent.bins - 1;
         self.tables[newest as usize].add(tail, u64::from(weight));
-        self.bound.add(tail, weight);
+        self.bound
+            .add(tail, units(u64::from(weight), self.unit) as u8);
     }
 
     /// What was added to a tail, over all bins. It looks into each table.
@@ -101,11 +106,12 @@ impl<T: CountTable> Zero<T> {
     }
 
     /// Whether a tail can weigh `count`, over all bins. It looks at two bytes and into no table. Where it answers true
-    /// the tail may weigh less: tails share bytes, which keep dropped events for a while and end at 255.
+    /// the tail may weigh less: tails share bytes, which keep dropped events for a while, count units that are rounded
+    /// up, and end at 255 of these.
     pub fn may_reach(&self, tail: u64, count: u64) -> bool
         ensures { result ≡ false → sum_by (λ bin. count_of bin.pieces tail) self.now.bins < count }
     {
-        self.bound.may_reach(tail, count)
+        self.bound.may_reach(tail, units(count, self.unit))
     }
 
     /// How many bins there are.
@@ -168,6 +174,25 @@ fn aged(bound: &mut Bound, earlier: u64, stay: u64, span: u64) -> u64
     }
     bound.turn();
     stay / span
+}
+
+// The unit of the bound's bytes, so that the threshold is at most 255 of it.
+fn unit(settings: &Settings) -> u64
+    ensures { 1 ≤ result }
+{
+    settings.numbers().threshold.div_ceil(255)
+}
+
+// How many units a weight is, rounded up. A division takes as long as the rest of a call, and most thresholds want none.
+fn units(weight: u64, unit: u64) -> u64
+    requires { 1 ≤ unit }
+    ensures value { result ≡ div_ceil weight unit }
+    ensures within { result ≤ weight }
+{
+    if unit == 1 {
+        return weight;
+    }
+    weight.div_ceil(unit)
 }
 
 // How many places the bound has: four for each event of a bin, up to a power of two, of which a remainder is a mask.

@@ -1,4 +1,5 @@
 use Rattle.std.proofs.Common.{◌-◌, ◌∙◌, ap, rules, arith}
+use Rattle.std.specs.Int.{div_ceil}
 use Rattle.lert_spec.specs.Table.{plus}
 use Rattle.lert_levels.proofs.{rows.YoungAdds.{Adds, add_place, add_fits, add_below, add_filled, add_bins}, rows.YoungBounds.added_bounded}
 use Rattle.lert_levels.proofs.rows.YoungNumbers.{IsNumbered, numbered, small_bins, small_end}
@@ -57,7 +58,8 @@ invariant_of-self g c =
           c.index_mut.ensures.value pieces c.add.ensures.adds c.add.ensures.room
           c.add.ensures.quotient_bits c.add.ensures.width,
       added_bounded known c.index_mut.result.now c.add.new.self c.args.tail c.args.weight c.index_mut.ensures.value pieces
-          c.self.inside.bound c.add-2.new.self c.self.inside.earlier c.self.invariant.1 c.add-2.ensures.counts,
+          c.self.inside.bound c.add-2.new.self c.self.inside.unit c.self.inside.earlier c.units.result c.self.invariant.1
+          (c.units.ensures.value ∙ ap (λ weight. div_ceil weight c.self.inside.unit) c.from-2.ensures) c.add-2.ensures.counts,
       (newest g at).numbers,
     )
 

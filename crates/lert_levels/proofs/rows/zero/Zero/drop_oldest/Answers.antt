@@ -27,7 +27,7 @@ invariant_of-self g c =
     let filled = dropped_filled known
     c.index_mut.result.now c.index_mut.ensures.value c.clear.ensures.pieces c.clear.ensures.adds c.clear.ensures.room c.clear.ensures.quotient_bits c.clear.ensures.width in (
       filled,
-      dropped_bounded known filled c.clear.ensures.pieces c.self.inside.bound c.aged-self-inside.new.bound c.self.inside.earlier c.aged-self-inside.result c.self.invariant.1
+      dropped_bounded known filled c.clear.ensures.pieces c.self.inside.bound c.aged-self-inside.new.bound c.self.inside.unit c.self.inside.earlier c.aged-self-inside.result c.self.invariant.1
           c.aged-self-inside.ensures.some c.aged-self-inside.ensures.part c.aged-self-inside.ensures.none,
       dropped_numbered c.self.inside.settings c.self.invariant.2 c.span-span.ensures.value c.span-span.ensures.positive (drops_whole known),
     )

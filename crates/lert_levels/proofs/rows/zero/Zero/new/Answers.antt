@@ -20,7 +20,7 @@ invariant_of-result g c = (
       c.numbers.ensures.value c.numbers.ensures.valid c.loop.invariant
       c.loop-test.false c.loop.auto.counter-end,
   empty_bounded g.T.CountTable c.args.settings.now c.loop.tables.items c.loop.counter
-      c.in_ok-bound.bound c.loop.invariant c.in_ok-bound.ensures.counts,
+      c.in_ok-bound.bound c.unit.result c.unit.ensures c.loop.invariant c.in_ok-bound.ensures.counts,
   none_numbered c.args.settings.now (subst IsValid c.numbers.ensures.value c.numbers.ensures.valid),
 )
 
