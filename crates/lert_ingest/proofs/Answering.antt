@@ -9,9 +9,9 @@ use Rattle.lert_trace.specs.{Reader.Reading, declared.fault.TraceFault.TraceFaul
 use Rattle.lert_trace.specs.declared.fault.TraceFault.TheVariants as trace_fault
 use Rattle.lert_worker.specs.{Ends.{IsAtEnd, Stopped}, declared.end.WorkerEnd.WorkerEnd}
 use Rattle.lert_worker.specs.declared.end.WorkerEnd.TheVariants as end
-use Rattle.lert_ingest.specs.{Bays.bays_of, Crews.IsReadOf, Faults.end_fault, Stops.{AreTelling, IsExact}, Traces.{AllFit, IsOver, part_length, part_weight}, declared.status.Status.Status}
+use Rattle.lert_ingest.specs.{Bays.bays_of, Faults.end_fault, Stops.{AreTelling, IsExact}, Traces.{AllFit, IsOver, part_length, part_weight}, declared.status.Status.Status}
 use Rattle.lert_ingest.specs.declared.status.Status.TheVariants as status
-use Rattle.lert_ingest.proofs.{BayLaws.{bay_at, slice_get-some, told_later}, Completing.{all_fit, read_to_end}, Crewed.{Crewed, first_fault}}
+use Rattle.lert_ingest.proofs.{BayLaws.{bay_at, slice_get-some, told_later}, Completing.{all_fit, read_to_end}, Crewed.{Crewed, IsTraceRead, as_many, first_fault, read_at, shared_all}}
 use Rattle.lert_ingest.proofs.{Exactly.{MayBe, may_bad, may_full, may_heavy, may_memory, bytes_at, bytes_of, fault_risen, few_at, items_same, may_be}, FaultOrder.IsNotAfter, Holding.none_full}
 use Rattle.lert_ingest.proofs.{Judging.{IsStop, bays_later, begun, cone_at, of_ends, running_told, shared, stop_shows, trace_stop, traces}, Told.{are_items, named, there_is}}
 
@@ -61,8 +61,8 @@ module _ {S B : Type 0} (crew : Crewed S B) where
         by_below = named crew.read trace
 
         of : (now : Reading S) × (read : List Item) × (slice_get (readings (trace % workers)) there.0 ≡ Some now) × (slice_get (reads (trace % workers)) there.0 ≡ Some read)
-            × IsReadOf remaining s_faults s_mark opened laters trace now read
-        of = run.each (trace % workers) there.0 trace by_below there.1
+            × IsTraceRead crew.read trace now read
+        of = read_at crew.read (trace % workers) there.0 trace by_below there.1
 
         -- a trace that leaves the format isn't read to an end
         no_end : IsAtEnd remaining of.0 → ⊥
@@ -101,7 +101,7 @@ module _ {S B : Type 0} (crew : Crewed S B) where
             not_later : trace < other → ⊥
             not_later later =
                 let place_is : slice_get (shares (trace % workers)) (places (trace % workers)) ≡ Some other = stop_is.1 ∙ ap Some (sym stop_is.0) in
-                let before = (run.shared (trace % workers) by_below).ascend there.0 (places (trace % workers)) trace other there.1 place_is later in
+                let before = (shared_all crew.read (trace % workers) by_below).ascend there.0 (places (trace % workers)) trace other there.1 place_is later in
                 no_end (stop_is.2.below there.0 of.0 before of.2)
 
             bad_there : (place : ℕ) (before : S) → slice_get opened other ≡ Some before → ((text : List ℕ) → remaining before ≡ Some text → left text ≡ Some place) →
@@ -146,7 +146,7 @@ module _ {S B : Type 0} (crew : Crewed S B) where
           ((other : ℕ) (lower : List ℕ) → other < trace → slice_get texts other ≡ Some lower → left lower ≡ None) → fails (status.BadTrace trace at) ⊎ fails status.OutOfMemory
       if_bad fits trace at bytes is leaves lower = by_answer (λ none.
           let first = bytes_at remaining opened texts are.bytes_are trace bytes is in
-          let now = slice_get-some laters trace (let n = run.number in let below = slice_get_within opened trace first.0 first.1 in omega (arith, n, below)) in
+          let now = slice_get-some laters trace (let n = as_many crew.read in let below = slice_get_within opened trace first.0 first.1 in omega (arith, n, below)) in
           let end = read_to_end crew none trace first.0 now.0 first.1 now.1 bytes first.2 in
           absurd (none-some at (sym end.well_formed ∙ leaves))) which
         where

@@ -10,12 +10,14 @@ use Rattle.lert_spec.specs.{Counts.{weighed, weight_of}, Edges.weight_room, decl
 use Rattle.lert_trace.specs.Reader.{Reading}
 use Rattle.lert_worker.specs.{Ends.{IsAtEnd, Stopped}, declared.end.WorkerEnd.WorkerEnd}
 use Rattle.lert_worker.specs.declared.end.WorkerEnd.TheVariants as end
-use Rattle.lert_ingest.specs.{Back.{IsBack, IsFullAt}, Crews.IsReadOf, Faults.{earliest, end_fault, fault_at, fault_of, full_fault, state_fault}, Stops.{AreTaken, AreWeaving}}
+use Rattle.lert_worker.proofs.crew.Weaving.{was_turned}
+use Rattle.lert_ingest.specs.{Back.{IsBack, IsFullAt}, Faults.{earliest, end_fault, fault_at, fault_of, full_fault, state_fault}, Stops.{AreTaken, AreWeaving}}
 use Rattle.lert_ingest.specs.{Bays.bays_of, Traces.part_weight}
 use Rattle.lert_bay.specs.Files.{IfTold}
 use Rattle.lert_ingest.specs.Traces.{AreItemsOf, AreReadToEnd, AreTracesLater}
 use Rattle.lert_ingest.specs.declared.status.Status.TheVariants as status
-use Rattle.lert_ingest.proofs.{BayLaws.slice_get-some, Crewed.{Crewed, first_fault}, Crew.was_turned, FaultOrder.{all_none, of_two_none}, Holding.{is_weaving, weaving_fits, weaving_light}}
+use Rattle.lert_ingest.proofs.{BayLaws.slice_get-some, Crewed.{Crewed, IsTraceRead, as_many, first_fault, read_at}}
+use Rattle.lert_ingest.proofs.{FaultOrder.{all_none, of_two_none}, Holding.{is_weaving, weaving_fits, weaving_light}}
 use Rattle.lert_ingest.proofs.{Judging.{IsCone, cone_at, cone_of_bay, shared, traces}, RuleLaws.by_rule, Told.{all_whole, are_items, named, there_is}}
 
 module _ {S B : Type 0} (crew : Crewed S B) where
@@ -24,15 +26,15 @@ module _ {S B : Type 0} (crew : Crewed S B) where
 
   -- a trace as its reader left it
   read_of : (trace : ℕ) → trace < length opened → (now : Reading S) × (read : List Item) × (place : ℕ) × (slice_get (readings (trace % workers)) place ≡ Some now)
-      × IsReadOf remaining s_faults s_mark opened laters trace now read
+      × IsTraceRead crew.read trace now read
   read_of trace below =
       let there = there_is crew.read trace below in
-      let at = run.each (trace % workers) there.0 trace (named crew.read trace) there.1 in
+      let at = read_at crew.read (trace % workers) there.0 trace (named crew.read trace) there.1 in
       (at.0, at.1, there.0, at.2, at.4)
 
   pub traces_later : AreTracesLater s_faults s_mark opened laters
   traces_later = record {
-    number = run.number;
+    number = as_many crew.read;
     each = λ trace before now was_is is.
         let at = read_of trace (slice_get_within opened trace before was_is) in
         let first = same_Some at.4.before before (sym at.4.was ∙ was_is) in

@@ -1,12 +1,15 @@
 -- A crew that ran, with what is known of the traces that it read and of the cones that came back.
-use Rattle.std.proofs.Common.{ℕ, ◌≤◌, List, length, Option}
+use Rattle.std.proofs.{Common.{◌≡◌, ℕ, ◌^◌, ◌<◌, ◌≤◌, List, length, Option, Some, slice_get, ap, sym, ◌∙◌, subst}, lemmas.List.length-map, lemmas.Option.slice_get-map}
+use Rattle.std.specs.Option.{option_map}
 use Rattle.lert_base.specs.{Packet.Packet, declared.cone_fault.ConeFault.ConeFault}
 use Rattle.lert_bay.specs.Files.{Files}
 use Rattle.lert_cone.specs.Stands.{Standing}
 use Rattle.lert_spec.specs.{declared.item.Item.Item, declared.numbers.Numbers.Numbers}
 use Rattle.lert_trace.specs.Reader.{Reading}
 use Rattle.lert_worker.specs.declared.end.WorkerEnd.{WorkerEnd}
-use Rattle.lert_ingest.specs.{Crews.{AreLeftBy, AreReadBy}, Faults.{earlier, earliest, end_fault, fault_at}, declared.status.Status.Status}
+use Rattle.lert_fleet.proofs.Places.{image_at}
+use Rattle.lert_worker.specs.{Ends.WasRead, crew.{Crewed.AreReadBy, Shares.{IsShare, LeftIn}}, declared.end.WorkerEnd.TheVariants.Cone}
+use Rattle.lert_ingest.specs.{Back.IsBack, Faults.{earlier, earliest, end_fault, fault_at}, Readers.{fresh_reader, fresh_readers, sources_of}, declared.status.Status.Status}
 
 -- each worker read its share of the traces
 pub record ReadCrew (S : Type 0) : Type 0 where
@@ -17,6 +20,10 @@ pub record ReadCrew (S : Type 0) : Type 0 where
   pub some : 1 ≤ workers
   pub opened : List S
   pub laters : List S
+  pub olds : List (Reading S)
+  pub news : List (Reading S)
+  pub olds_are : olds ≡ fresh_readers opened
+  pub laters_are : laters ≡ sources_of news
   pub shares : ℕ → List ℕ
   pub reads : ℕ → List (List Item)
   pub was : ℕ → List (Reading S)
@@ -24,7 +31,57 @@ pub record ReadCrew (S : Type 0) : Type 0 where
   pub places : ℕ → ℕ
   pub stopped : ℕ → ℕ
   pub ends : ℕ → WorkerEnd
-  pub run : AreReadBy remaining s_faults s_mark workers opened laters shares reads was readings places stopped ends
+  pub run : AreReadBy remaining s_faults s_mark workers olds news shares reads was readings places stopped ends
+
+module _ {S : Type 0} (crew : ReadCrew S) where
+  open crew use {remaining, s_faults, s_mark, workers, opened, laters, olds, news, olds_are, laters_are, shares, reads, readings, run}
+
+  -- a trace before a run and behind it, with the items that were read of it
+  pub record IsTraceRead (trace : ℕ) (now : Reading S) (read : List Item) : Type 0 where
+    pub before : S
+    pub was : slice_get opened trace ≡ Some before
+    pub is : slice_get laters trace ≡ Some now.source
+    pub read_is : WasRead remaining s_faults s_mark (fresh_reader before) now read
+
+  opened_number : length olds ≡ length opened
+  opened_number = ap (λ (xs : List (Reading S)). length xs) olds_are ∙ length-map opened fresh_reader
+
+  pub as_many : length laters ≡ length opened
+  as_many = ap (λ (xs : List S). length xs) laters_are ∙ (length-map news (λ (r : Reading S). r.source) ∙ (run.number ∙ opened_number))
+
+  pub shared_all : (by : ℕ) → by < workers → IsShare workers (length opened) by (shares by)
+  shared_all by below = subst (λ n. IsShare workers n by (shares by)) opened_number (run.shared by below)
+
+  pub read_at : (by place trace : ℕ) → by < workers → slice_get (shares by) place ≡ Some trace → (now : Reading S) × (read : List Item)
+      × (slice_get (readings by) place ≡ Some now) × (slice_get (reads by) place ≡ Some read) × IsTraceRead trace now read
+  read_at by place trace below there =
+      let at = run.each by place trace below there in
+      let of = at.4 in
+      let source = image_at fresh_reader opened trace of.before (ap (λ (xs : List (Reading S)). slice_get xs trace) (sym olds_are) ∙ of.was) in (
+        at.0,
+        at.1,
+        at.2,
+        at.3,
+        record {
+          before = source.0;
+          was = source.1;
+          is = ap (λ (xs : List S). slice_get xs trace) laters_are
+              ∙ (slice_get-map (λ (r : Reading S). r.source) news trace ∙ ap (option_map (λ (r : Reading S). r.source)) of.is);
+          read_is = subst (λ (r : Reading S). WasRead remaining s_faults s_mark r at.0 at.1) (sym source.2) of.read_is;
+        },
+      )
+
+-- of a crew each worker left its packets in the cones, which came back
+pub record AreConesLeft {B : Type 0} (files : B → Option Files) (leaves : B → Files → Type 0) (faults mark : B → ℕ) (s : Numbers) (workers : ℕ) (firsts backs : List (Standing B))
+    (shares : ℕ → List ℕ) (reads : ℕ → List (List Item)) (stopped : ℕ → ℕ) (ends : ℕ → WorkerEnd)
+    (added : ℕ → ℕ → List Packet) (turned : ℕ → ℕ → List (Packet × ConeFault)) : Type 0 where
+  pub cones_are : length firsts ≡ 2 ^ s.cone_bits
+  pub number : length backs ≡ length firsts
+  pub each : (cone : ℕ) (first closed : Standing B) → slice_get firsts cone ≡ Some first → slice_get backs cone ≡ Some closed
+      → IsBack files leaves faults mark s workers cone (added cone) (turned cone) first closed
+  pub left : (cone by : ℕ) → cone < length firsts → by < workers
+      → LeftIn s by cone (shares by) (reads by) (stopped by) (ends by) (added cone by) (turned cone by)
+  pub named : (by cone : ℕ) (fault : ConeFault) → by < workers → ends by ≡ Cone cone fault → cone < length firsts
 
 -- and left its packets in the cones, which came back
 pub record Crewed (S B : Type 0) : Type 1 where
@@ -38,7 +95,7 @@ pub record Crewed (S B : Type 0) : Type 1 where
   pub backs : List (Standing B)
   pub added : ℕ → ℕ → List Packet
   pub turned : ℕ → ℕ → List (Packet × ConeFault)
-  pub left_by : AreLeftBy files leaves b_faults b_mark s read.workers firsts backs read.shares read.reads read.stopped read.ends added turned
+  pub left_by : AreConesLeft files leaves b_faults b_mark s read.workers firsts backs read.shares read.reads read.stopped read.ends added turned
 
 -- the fault that is answered
 abbrev pub first_fault : {S B : Type 0} → Crewed S B → Option Status

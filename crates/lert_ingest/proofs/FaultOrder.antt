@@ -1,11 +1,13 @@
 -- The first fault of several.
 use Rattle.std.proofs.Common.{◌≡◌, ◌⊎◌, ℕ, ◌+◌, ◌<◌, ◌≤◌, zero, suc, Bool, true, false, cond, eqb, ltb, ◌&&◌, List, length, get_or, Option, Some, None, slice_get, refl, ap, sym, ◌∙◌, subst, inl, inr}
-use Rattle.std.proofs.{Common.arith, lemmas.Bool.{and_from, and_parts, cases_lt, eq-eqb, false≢true, lt-ltb, ltb-true, or_cases, or_left, or_right}, lemmas.Option.{none-some, same_Some}}
+use Rattle.std.proofs.{Common.arith, lemmas.Bool.{and_from, and_parts, cases_lt, eq-eqb, false≢true, lt-ltb, ltb-true, or_cases, or_left, or_right}}
+use Rattle.std.proofs.lemmas.Option.{none-some, same_Some, slice_get-get_or}
 use Rattle.lert_bay.specs.Files.{Files, Turns}
 use Rattle.lert_cone.specs.{Stands.{Standing, is_broken, is_finished}, Wrote.Anything, declared.state.ConeState.ConeState}
-use Rattle.lert_ingest.specs.{Back.IsSeen, Faults.{earlier, earliest, end_at, end_fault, end_of, fault_at, fault_of, goes_before, number_in, rank, state_fault}, declared.status.Status.Status}
+use Rattle.lert_ingest.specs.{Back.IsSeen, Faults.{earlier, earliest, end_fault, fault_at, fault_of, goes_before, number_in, rank, state_fault}, declared.status.Status.Status}
 use Rattle.lert_fleet.proofs.Places.{read_at}
-use Rattle.lert_worker.specs.{Ran.Worked, declared.end.WorkerEnd.WorkerEnd}
+use Rattle.lert_worker.specs.{crew.Crewed.{end_at, end_of}, declared.end.WorkerEnd.WorkerEnd}
+use Rattle.lert_worker.specs.declared.end.WorkerEnd.TheVariants as end
 use Rattle.lert_ingest.proofs.PartLaws.{eqb_true}
 
 -- a status isn't answered later than another one
@@ -154,10 +156,8 @@ fault_there cones cone standing st fault below is state_is fault_is =
     fault_is ∙ (ap (state_fault cone) state_is ∙ sym (ap (fault_of cone) (read_at cones cone standing below is)))
 
 -- the fault of a worker whose end was read
-pub end_there : {T P : Type 0} (workers : List (Worked T P)) (by : ℕ) (worker : Worked T P) (end : WorkerEnd) (fault : Option Status) → by < length workers →
-    worker ≡ get_or workers by worker → end ≡ worker.end → fault ≡ end_fault end → fault ≡ end_fault (end_at workers by)
-end_there workers by worker end fault below is end_is fault_is =
-    fault_is ∙ (ap end_fault end_is ∙ sym (ap (λ o. end_fault (end_of o)) (read_at workers by worker below is)))
+pub end_there : (ends : List WorkerEnd) (by : ℕ) (fault : Option Status) → by < length ends → fault ≡ end_fault (get_or ends by end.Ran) → fault ≡ end_fault (end_at ends by)
+end_there ends by fault below fault_is = fault_is ∙ sym (ap (λ o. end_fault (end_of o)) (slice_get-get_or ends by end.Ran below))
 
 -- one cone more that was looked at
 pub seen_more : {B : Type 0} (files : B → Option Files) (faults mark : B → ℕ) (cones : List (Standing B)) (cone : ℕ) (standing : Standing B) (st : ConeState)

@@ -1,14 +1,28 @@
 -- What fewer workers leave is what more of them leave, where each trace has the same worker in both crews.
-use Rattle.std.proofs.Common.{◌≡◌, ◌∙◌, ℕ, List, length, Option, Result, Ok, Err, sym, subst}
+use Rattle.std.proofs.{Common.{◌≡◌, ◌∙◌, ℕ, ◌%◌, ◌<◌, List, length, min, Option, Result, Ok, Err, ap, sym, subst, inl, inr, arith}, Math.Nat.{min-eq_left, min-eq_right, mod-eq_of_lt}}
+use Rattle.std.proofs.lemmas.Bool.{cases_lt}
 use Rattle.std.specs.Prelude.{IfErr, OnOk}
 use Rattle.lert_base.specs.{Packet.Packet, Weave.{IsBrought, IsPartWoven, IsWoven}}
 use Rattle.lert_bay.specs.Files.{Files}
 use Rattle.lert_cone.specs.Stands.{Standing}
 use Rattle.lert_spec.specs.{declared.item.Item.Item, declared.numbers.Numbers.Numbers}
-use Rattle.lert_ingest.specs.{Bays.{ArePartWoven, HoldsOpen, HoldsPart, bays_of}, Ingest.HasIngested, Shares.AreReadBySame}
+use Rattle.lert_ingest.specs.{Bays.{ArePartWoven, HoldsOpen, HoldsPart, bays_of}, Ingest.HasIngested}
 use Rattle.lert_ingest.specs.{Stops.{AreIngested, AreOpenPartly, StopShows}, declared.status.Status.Status}
 use Rattle.lert_ingest.specs.Stops.{trace_fault, bad_trace, too_long, bay_fault, malformed, capacity_full, weight_full, out_of_memory}
 use Rattle.lert_ingest.proofs.Exactly.{exact_turned}
+
+-- each of so many traces is read by the worker of one number, whether there are so many workers or so many
+abbrev pub AreReadBySame : ℕ → ℕ → ℕ → Type 0
+AreReadBySame workers others count = (trace : ℕ) → trace < count → trace % workers ≡ trace % others
+
+-- so where those that would have none aren't there
+pub same_workers : (fewer workers count : ℕ) → fewer ≡ min workers count → AreReadBySame fewer workers count
+same_workers fewer workers count is trace below = elim (cases_lt workers count) [
+  | inl less ↦ ap (λ n. trace % n) (is ∙ min-eq_left (omega (arith, less)))
+  | inr most ↦
+      ap (λ n. trace % n) (is ∙ min-eq_right most)
+      ∙ (mod-eq_of_lt below ∙ sym (mod-eq_of_lt (let b : trace < workers = omega (arith, below, most) in b)))
+]
 
 module _ (s : Numbers) (fewer workers : ℕ) where
   -- ---- the journal of a cone

@@ -9,8 +9,10 @@ use Rattle.lert_cone.proofs.SoundLaws.{events_more}
 use Rattle.lert_conelock.proofs.Contained.{item_here}
 use Rattle.lert_spec.specs.{declared.item.Item.Item, declared.numbers.Numbers.Numbers, Counts.{weighed, weight_of}, Edges.{capacity, weight_room}}
 use Rattle.lert_worker.specs.{Brings.HasNoRest, declared.end.WorkerEnd.WorkerEnd, declared.end.WorkerEnd.TheVariants.{Ran, Cone}}
-use Rattle.lert_ingest.specs.{Back.{IsBack, IsFullAt}, Bays.{HoldsFirst, HoldsOpen, HoldsPart}, Shares.{IsShare, LeftIn}, Stops.IsWeaving, Traces.{part_length, part_weight}}
-use Rattle.lert_ingest.proofs.{Counting.{AddsUp, length_adds, part_count, part_sum, weight_adds, woven_count}, Crew.{crew_part, crew_turned, crew_woven, was_turned}, Gathering.of_trace-own}
+use Rattle.lert_worker.proofs.crew.{Gathering.of_trace-own, Weaving.{crew_part, crew_turned, crew_woven, was_turned}}
+use Rattle.lert_worker.specs.crew.Shares.{IsShare, LeftIn}
+use Rattle.lert_ingest.specs.{Back.{IsBack, IsFullAt}, Bays.{HoldsFirst, HoldsOpen, HoldsPart}, Stops.IsWeaving, Traces.{part_length, part_weight}}
+use Rattle.lert_ingest.proofs.{Counting.{AddsUp, length_adds, part_count, part_sum, weight_adds, woven_count}}
 use Rattle.lert_ingest.proofs.RuleLaws.{by_rule}
 
 module _ {B : Type 0} (files : B → Option Files) (leaves : B → Files → Type 0) (faults mark : B → ℕ) (s : Numbers) (workers : ℕ) (some : 1 ≤ workers) (number : ℕ)

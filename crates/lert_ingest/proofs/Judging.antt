@@ -17,11 +17,13 @@ use Rattle.lert_trace.specs.{Reader.Means, declared.fault.TraceFault.TraceFault}
 use Rattle.lert_trace.specs.declared.fault.TraceFault.TheVariants as trace_fault
 use Rattle.lert_worker.specs.{Brings.{HasNoRest, IsOwn}, Ran.StillOpen, Ends.Stopped, declared.end.WorkerEnd.WorkerEnd}
 use Rattle.lert_worker.specs.declared.end.WorkerEnd.TheVariants as end
+use Rattle.lert_worker.proofs.crew.Weaving.{turned_part, was_turned}
+use Rattle.lert_worker.specs.crew.Shares.{IsShare, LeftIn}
 use Rattle.lert_ingest.specs.{Back.{IsBack, IsFullAt}, Bays.{AreLater, ArePartWoven, HoldsItems, HoldsPart, HoldsWeight, IfHeld, IsLater, bays_of}}
-use Rattle.lert_ingest.specs.{Faults.{earliest, end_fault, fault_at, fault_of, full_fault, rank, state_fault}, Shares.{IsShare, LeftIn}, Status.stop_status, Stops.{AreOpenPartly, StopShows}}
+use Rattle.lert_ingest.specs.{Faults.{earliest, end_fault, fault_at, fault_of, full_fault, rank, state_fault}, Status.stop_status, Stops.{AreOpenPartly, StopShows}}
 use Rattle.lert_ingest.specs.{Traces.most_items, declared.status.Status.Status}
 use Rattle.lert_ingest.specs.declared.status.Status.TheVariants as status
-use Rattle.lert_ingest.proofs.{BayLaws.{bay_at, slice_get-some, untold_since}, Crew.{turned_part, was_turned}, Crewed.{Crewed, first_fault}, FaultOrder.{IsFirstOf, each_of, of_all, of_two}}
+use Rattle.lert_ingest.proofs.{BayLaws.{bay_at, slice_get-some, untold_since}, Crewed.{Crewed, first_fault, read_at, shared_all}, FaultOrder.{IsFirstOf, each_of, of_all, of_two}}
 use Rattle.lert_ingest.proofs.{Counting.{length_adds, weight_adds}, Holding.{enough, holds_first, holds_open, holds_part, no_rest_of}}
 use Rattle.lert_ingest.proofs.{RuleLaws.{IsOverCapacity, IsOverWeight, by_rule}, Told.{all_begun, all_read, are_items}}
 
@@ -46,7 +48,7 @@ module _ {S B : Type 0} (crew : Crewed S B) where
   traces_number = (all_read crew.read).number
 
   pub shared : (by : ℕ) → by < workers → IsShare workers (length traces) by (shares by)
-  shared by below = subst (λ n. IsShare workers n by (shares by)) (sym traces_number) (run.shared by below)
+  shared by below = subst (λ n. IsShare workers n by (shares by)) (sym traces_number) (shared_all crew.read by below)
 
   pub begun : (by place trace : ℕ) (items : List Item) → by < workers → slice_get (shares by) place ≡ Some trace → slice_get traces trace ≡ Some items →
       (read : List Item) × (slice_get (reads by) place ≡ Some read) × BeginsWith items read
@@ -101,7 +103,7 @@ module _ {S B : Type 0} (crew : Crewed S B) where
   pub worker_of : (by place trace : ℕ) → by < workers → slice_get (shares by) place ≡ Some trace → trace % workers ≡ by
   worker_of by place trace below there =
       (subst (λ t. (t < length opened) × (t % workers ≡ by)) (get_or_from_slice_get (shares by) place trace trace there)
-      ((run.shared by below).own place trace (slice_get_within (shares by) place trace there))).1
+      ((shared_all crew.read by below).own place trace (slice_get_within (shares by) place trace there))).1
 
   -- a worker that stopped at a trace, or at a cone
   pub stop_place : (by : ℕ) → by < workers → (e : WorkerEnd) → ends by ≡ e → (e ≢ end.Ran) → slice_get (shares by) (places by) ≡ Some (stopped by)
@@ -121,7 +123,7 @@ module _ {S B : Type 0} (crew : Crewed S B) where
   trace_stop by below trace f is =
       let stop = subst (Stopped remaining (shares by) (was by) (readings by) (places by) (stopped by)) is (run.stop by below) in
       let there : slice_get (shares by) (places by) ≡ Some trace = stop.1 ∙ ap Some (sym stop.0) in
-      let at = run.each by (places by) trace below there in
+      let at = read_at crew.read by (places by) trace below there in
       let of = at.4 in
       let why = of.read_is.caused refl f (stop.3 at.0 at.2) in
       record {

@@ -1,39 +1,15 @@
 -- The items of all traces, by what was read of each.
-use Rattle.std.proofs.Common.{◌≡◌, ℕ, ◌%◌, ◌<◌, zero, suc, List, [], ◌∷◌, ◌++◌, length, take, drop, Option, Some, None, slice_get, refl, ap, sym, ◌∙◌, subst, inl, inr, arith, append-nil}
-use Rattle.std.proofs.{Common.length-append, lemmas.Bool.cases_lt, lemmas.List.{take-append-drop, take_all}, lemmas.Option.{get_or_from_slice_get, none-some, same_Some, slice_get_within}}
+use Rattle.std.proofs.Common.{◌≡◌, ℕ, ◌%◌, ◌<◌, List, [], ◌++◌, length, take, drop, Option, Some, None, slice_get, refl, ap, sym, ◌∙◌, subst, arith, append-nil}
+use Rattle.std.proofs.{lemmas.List.{take-append-drop, take_all}, lemmas.Option.{get_or_from_slice_get, none-some, same_Some, slice_get_within}}
 use Rattle.lert_base.specs.Beginning.{BeginsWith}
 use Rattle.lert_io.specs.Reading.{IfTold}
 use Rattle.lert_spec.specs.declared.item.Item.{Item}
 use Rattle.lert_trace.specs.Trace.{whole}
 use Rattle.lert_trace.specs.Reader.{Reading}
 use Rattle.lert_worker.specs.Ends.{IsAtEnd, WasRead}
-use Rattle.lert_ingest.proofs.{Crewed.ReadCrew, BayLaws.{slice_get-first, slice_get-seam}}
-use Rattle.lert_ingest.specs.{Crews.{IsReadOf, fresh_reader}, Traces.AreItemsOf}
-
--- a list of what there is at each place
-pub record IsListOf {A : Type 0} (count : ℕ) (P : ℕ → A → Type 0) : Type 0 where
-  pub items : List A
-  pub number : length items ≡ count
-  pub each : (place : ℕ) (x : A) → slice_get items place ≡ Some x → P place x
-
-pub list_of : {A : Type 0} (P : ℕ → A → Type 0) (count : ℕ) → ((place : ℕ) → place < count → (x : A) × P place x) → IsListOf count P
-list_of P zero each = record { items = []; number = refl; each = λ place x is. absurd (none-some x is) }
-list_of P (suc count) each =
-    let less = list_of P count (λ place below. each place (omega (arith, below))) in
-    let last = each count (omega arith) in
-    record {
-      items = less.items ++ last.0 ∷ [];
-      number = (let n = less.number in let sum = length-append less.items (last.0 ∷ []) in omega (arith, n, sum));
-      each = λ place x is. elim (cases_lt place (length less.items)) [
-        | inl below ↦ less.each place x (sym (slice_get-first less.items (last.0 ∷ []) place below) ∙ is)
-        | inr above ↦
-            let within = slice_get_within (less.items ++ last.0 ∷ []) place x is in
-            let sum = length-append less.items (last.0 ∷ []) in
-            let at : place ≡ length less.items = omega (arith, within, sum, above) in
-            let same : last.0 ≡ x = same_Some last.0 x (sym (slice_get-seam less.items last.0 []) ∙ (ap (slice_get (less.items ++ last.0 ∷ [])) (sym at) ∙ is)) in
-            subst (λ n. P n x) (let e : count ≡ place = (let n = less.number in omega (arith, n, at)) in e) (subst (P count) same last.1)
-      ];
-    }
+use Rattle.lert_worker.proofs.crew.Lists.{IsListOf, list_of}
+use Rattle.lert_ingest.proofs.Crewed.{IsTraceRead, ReadCrew, read_at, shared_all}
+use Rattle.lert_ingest.specs.{Readers.fresh_reader, Traces.AreItemsOf}
 
 -- the first items begin all of them
 begins_taken : (items all : List Item) (n : ℕ) → items ≡ take n all → BeginsWith all items
@@ -68,13 +44,13 @@ module _ {S : Type 0} (crew : ReadCrew S) where
   by_trace : (by place trace : ℕ) → by < workers → slice_get (shares by) place ≡ Some trace → (trace < length opened) × (trace % workers ≡ by)
   by_trace by place trace below there =
       subst (λ t. (t < length opened) × (t % workers ≡ by)) (get_or_from_slice_get (shares by) place trace trace there)
-      ((run.shared by below).own place trace (slice_get_within (shares by) place trace there))
+      ((shared_all crew by below).own place trace (slice_get_within (shares by) place trace there))
 
   pub named : (trace : ℕ) → trace % workers < workers
   named trace = omega (arith, some)
 
   pub there_is : (trace : ℕ) → trace < length opened → (place : ℕ) × (slice_get (shares (trace % workers)) place ≡ Some trace)
-  there_is trace below = (run.shared (trace % workers) (named trace)).all trace below refl
+  there_is trace below = (shared_all crew (trace % workers) (named trace)).all trace below refl
 
   -- what is so at the place of a trace is so wherever the trace is
   only_there : (trace : ℕ) (below : trace < length opened) (P : ℕ → ℕ → Type 0) → P (trace % workers) (there_is trace below).0 →
@@ -82,17 +58,17 @@ module _ {S : Type 0} (crew : ReadCrew S) where
   only_there trace below P here by place by_below there =
       let same = (by_trace by place trace by_below there).1 in
       let there_same : slice_get (shares (trace % workers)) place ≡ Some trace = subst (λ n. slice_get (shares n) place ≡ Some trace) (sym same) there in
-      let place_same = (run.shared (trace % workers) (named trace)).once (there_is trace below).0 place trace (there_is trace below).1 there_same in
+      let place_same = (shared_all crew (trace % workers) (named trace)).once (there_is trace below).0 place trace (there_is trace below).1 there_same in
       subst (λ n. P n place) same (subst (P (trace % workers)) place_same here)
 
   items_at : (trace : ℕ) → trace < length opened → (items : List Item) × AreAt trace items
   items_at trace below = by_case (remaining of.before) refl
     where
       at : (now : Reading S) × (read : List Item) × (slice_get (readings (trace % workers)) (there_is trace below).0 ≡ Some now)
-          × (slice_get (reads (trace % workers)) (there_is trace below).0 ≡ Some read) × IsReadOf remaining s_faults s_mark opened laters trace now read
-      at = run.each (trace % workers) (there_is trace below).0 trace (named trace) (there_is trace below).1
+          × (slice_get (reads (trace % workers)) (there_is trace below).0 ≡ Some read) × IsTraceRead crew trace now read
+      at = read_at crew (trace % workers) (there_is trace below).0 trace (named trace) (there_is trace below).1
 
-      of : IsReadOf remaining s_faults s_mark opened laters trace at.0 at.1
+      of : IsTraceRead crew trace at.0 at.1
       of = at.4
 
       by_case : (told : Option (List ℕ)) → remaining of.before ≡ told → (items : List Item) × AreAt trace items
@@ -132,11 +108,10 @@ module _ {S : Type 0} (crew : ReadCrew S) where
       slice_get (reads by) place ≡ Some items
   all_whole at_ends by place trace items below there is = by_case (remaining of.before) refl
     where
-      at : (now : Reading S) × (read : List Item) × (slice_get (readings by) place ≡ Some now) × (slice_get (reads by) place ≡ Some read) × IsReadOf remaining s_faults s_mark opened
-          laters trace now read
-      at = run.each by place trace below there
+      at : (now : Reading S) × (read : List Item) × (slice_get (readings by) place ≡ Some now) × (slice_get (reads by) place ≡ Some read) × IsTraceRead crew trace now read
+      at = read_at crew by place trace below there
 
-      of : IsReadOf remaining s_faults s_mark opened laters trace at.0 at.1
+      of : IsTraceRead crew trace at.0 at.1
       of = at.4
 
       by_case : (told : Option (List ℕ)) → remaining of.before ≡ told → slice_get (reads by) place ≡ Some items

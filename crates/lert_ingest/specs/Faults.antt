@@ -9,7 +9,7 @@ use Rattle.lert_cone.specs.declared.state.ConeState.{ConeState}
 use Rattle.lert_cone.specs.declared.state.ConeState.TheVariants as state
 use Rattle.lert_ingest.specs.{Status.stop_status, declared.status.Status.Status}
 use Rattle.lert_ingest.specs.declared.status.Status.TheVariants as status
-use Rattle.lert_worker.specs.{Ran.Worked, declared.end.WorkerEnd.WorkerEnd}
+use Rattle.lert_worker.specs.declared.end.WorkerEnd.{WorkerEnd}
 use Rattle.lert_worker.specs.declared.end.WorkerEnd.TheVariants as end
 
 -- the place of a status in the order in which faults are answered
@@ -82,11 +82,3 @@ fault_of cone (Some standing) = state_fault cone standing.state
 
 abbrev pub fault_at : {B : Type 0} → List (Standing B) → ℕ → Option Status
 fault_at cones cone = fault_of cone (slice_get cones cone)
-
--- how a worker of a list ended
-abbrev pub end_of : {T P : Type 0} → Option (Worked T P) → WorkerEnd
-end_of None = end.Ran
-end_of (Some worker) = worker.end
-
-abbrev pub end_at : {T P : Type 0} → List (Worked T P) → ℕ → WorkerEnd
-end_at workers by = end_of (slice_get workers by)

@@ -1,40 +1,14 @@
 -- What reading traces into cones by workers leaves.
-use Rattle.std.specs.Prelude.{◌≡◌, ◌+◌, ℕ, List, length, map, Option, Some, None, Result, Ok, Err, OnOk, IfErr, slice_get}
+use Rattle.std.specs.Prelude.{◌≡◌, ℕ, List, length, Option, Some, None, Result, Ok, Err, OnOk, IfErr}
 use Rattle.lert_bay.specs.Files.{Files}
 use Rattle.lert_cone.specs.Stands.{Standing}
-use Rattle.lert_conelock.specs.Sight.{LockSight}
-use Rattle.lert_fleet.specs.{Cones.FleetSight, Each.EachTwo}
 use Rattle.lert_spec.specs.declared.numbers.Numbers.{Numbers}
-use Rattle.lert_worker.specs.Ran.{HasRun, Working}
-use Rattle.lert_ingest.specs.{Bays.{AreLater, bays_of}, Crew.{IsPassFrom, IsQuiet}, Crews.fresh_reader, Faults.{earliest, end_at, end_fault}, Shares.IsShare, Sharing.WereTaken}
-use Rattle.lert_ingest.specs.{Stops.{AreIngested, IsExact, StopShows}, Traces.AreTracesLater, declared.status.Status.Status}
+use Rattle.lert_worker.specs.{crew.Crewed.end_at, declared.end.WorkerEnd.WorkerEnd}
+use Rattle.lert_ingest.specs.{Bays.{AreLater, bays_of}, Faults.{earlier, earliest, end_fault, fault_at}, Stops.{AreIngested, IsExact, StopShows}, Traces.AreTracesLater, declared.status.Status.Status}
 
--- the states of a fleet as it was made
-abbrev pub firsts_of : {H : Type 0} → FleetSight H → List H
-firsts_of {H = H} fleet = map (λ (lock : LockSight H). lock.first) fleet
-
--- a worker of a number is ready to read its share of the traces
-pub record IsReady {S H : Type 0} (fleet : FleetSight H) (s : Numbers) (workers count : ℕ) (opened : List S) (by : ℕ) (worker : Working S H) : Type 0 where
-  pub number_is : worker.number ≡ by
-  pub settings_is : worker.settings ≡ s
-  pub pass_is : IsPassFrom fleet by (by + 1) worker.pass
-  pub quiet : IsQuiet worker.pass
-  pub share : IsShare workers count by worker.traces
-  pub as_many : length worker.readers ≡ length worker.traces
-  pub readers : (place trace : ℕ) → slice_get worker.traces place ≡ Some trace
-      → (source : S) × (slice_get opened trace ≡ Some source) × (slice_get worker.readers place ≡ Some (fresh_reader source))
-
-abbrev pub AreReady : {S H : Type 0} → FleetSight H → Numbers → ℕ → List S → List (Working S H) → Type 0
-AreReady {S = S} {H = H} fleet s count opened crew = (by : ℕ) (worker : Working S H) → slice_get crew by ≡ Some worker → IsReady fleet s (length crew) count opened by worker
-
--- a crew ran, all readers were taken back, and this is the first fault of its ends
-pub record HasCrewRun {S H : Type 0} (remaining : S → Option (List ℕ)) (faults mark : S → ℕ) (fleet : FleetSight H) (count : ℕ) (olds news : List (Working S H))
-    (sources : List S)
-    (first : Option Status) : Type 0 where
-  pub mids : List (Working S H)
-  pub ran : EachTwo (HasRun remaining faults mark fleet) olds mids
-  pub taken : WereTaken count mids news sources
-  pub first_is : first ≡ earliest (λ by. end_fault (end_at mids by)) (length mids)
+-- the fault that is answered, by how all workers ended and by the cones that came back
+abbrev pub first_of_all : {B : Type 0} → List WorkerEnd → List (Standing B) → Option Status
+first_of_all ends cones = earlier (earliest (λ by. end_fault (end_at ends by)) (length ends)) (earliest (fault_at cones) (length cones))
 
 -- the answer, by the first fault
 abbrev pub answer_of : Option Status → Result (Unit {0}) Status

@@ -1,12 +1,9 @@
 pub mod Back
 pub mod Bays
 pub mod Cones
-pub mod Crew
-pub mod Crews
 pub mod Faults
 pub mod Ingest
-pub mod Shares
-pub mod Sharing
+pub mod Readers
 pub mod Status
 pub mod Stops
 pub mod Traces

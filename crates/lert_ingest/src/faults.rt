@@ -2,25 +2,23 @@
 
 ghost use Rattle.std.specs.Prelude.{◌≡◌, ◌≤◌, length};
 ghost use Rattle.lert_ingest.specs.Back.{AreSeen};
-ghost use Rattle.lert_ingest.specs.Faults.{earlier, earliest, end_at, end_fault, fault_at, full_fault, goes_before, number_in, rank, state_fault};
+ghost use Rattle.lert_ingest.specs.Faults.{earlier, earliest, end_fault, fault_at, full_fault, goes_before, number_in, rank, state_fault};
+ghost use Rattle.lert_worker.specs.crew.Crewed.{end_at};
 
 use crate::status::Status;
-use lert_base::{CountTable, Held};
+use lert_base::CountTable;
 use lert_bay::Bay;
 use lert_cone::{Cone, ConeFault, ConeState};
-use lert_io::Source;
-use lert_worker::{Worker, WorkerEnd};
+use lert_worker::WorkerEnd;
 
 /// The fault that is answered of how workers ended: that of the lowest trace; else the lowest bad trace; else the lowest trace that is
 /// too long; else the lowest cone that is full; else the lowest whose weight is. None exactly where they show none.
-pub fn first_of_ends<S: Source, H: Held<Refusal = ConeFault>>(
-    workers: &[Worker<S, H>],
-) -> Option<Status>
-    ensures { result ≡ earliest (λ by. end_fault (end_at workers.now by)) (length workers.now) }
+pub fn first_of_ends(ends: &[WorkerEnd]) -> Option<Status>
+    ensures { result ≡ earliest (λ by. end_fault (end_at ends.now by)) (length ends.now) }
 {
     let mut first = None;
-    for by in 0..workers.len() {
-        first = earlier(first, end_fault(workers[by].end()));
+    for by in 0..ends.len() {
+        first = earlier(first, end_fault(ends[by]));
     }
     first
 }

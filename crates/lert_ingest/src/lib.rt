@@ -7,9 +7,7 @@
 
 mod crews;
 mod faults;
-mod hiring;
-mod reading;
-mod sharing;
+mod readers;
 mod status;
 
 pub use crews::{Ingested, ingest};

@@ -5,3 +5,4 @@ pub mod Ran
 pub mod Runs
 pub mod Sending
 pub mod Trace
+pub mod crew
