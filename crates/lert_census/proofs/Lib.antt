@@ -1,0 +1,7 @@
+pub mod KeyLaws
+pub mod LineLaws
+pub mod Adding
+pub mod WeightLaws
+pub mod JoinLaws
+pub mod WeaveLaws
+pub mod NumberLaws

@@ -1,0 +1,3 @@
+pub mod Census
+pub mod Tally
+pub mod Short
