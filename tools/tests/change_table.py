@@ -1,5 +1,5 @@
-"""The table of changes that damage tries: at each place of the files that a rule speaks of, those that break it and those
-that don't.
+"""The table of changes that damage tries: at each place of the files that a rule speaks of, those that break it and
+those that don't.
 
 It knows nothing of the program: what is due of a change stands in docs/FORMATS.md and the definitions.
 """
