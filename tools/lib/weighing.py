@@ -22,7 +22,7 @@ LEAST_READ = 64
 
 
 class Form(NamedTuple):
-    """How values and their amounts are handed on: the words of `keys pack` for it, and how they are written and read."""
+    """How values and their amounts are handed on: the words of `keys pack` for it, how they are written, and read."""
 
     packing: Sequence[str]
     written: Callable[[Sequence[bytes], Sequence[int]], bytes]
@@ -63,7 +63,12 @@ class Weighed(Lines):
     """Records with amounts, in a form of their own. Those of 0 are records, and aren't handed on."""
 
     def __init__(
-        self, batches: Callable[[bytes], Iterator[Batch]], form: Form, hashes: bool, room: Load, rows: Rows | None = None
+        self,
+        batches: Callable[[bytes], Iterator[Batch]],
+        form: Form,
+        hashes: bool,
+        room: Load,
+        rows: Rows | None = None,
     ) -> None:
         """The batches have the records with their amounts, and the room is that of a cone. What is none is parted from
         them line by line, or as the rows of a CSV are."""
