@@ -10,6 +10,7 @@ from typing import NamedTuple
 
 from .definitions import Levels, levels_of
 from .formats import KEY_LEN, WRITTEN, BadNumbers, item_len, keeps_rules
+from .loads import Load
 from .slots import frame_len, quotient_bits
 from .words import Settings
 
@@ -101,13 +102,14 @@ def frames_len(settings: Settings, events: int) -> int:
     return (settings.bins + 1) * sum(frame_len(edges.span(one), WRITTEN) for one in reached)
 
 
-def disk(settings: Settings, events: int, fullest: int, traces: int = 1) -> Disk:
-    """That of a run of so many events, of which the fullest cone has this many, read from so many traces."""
-    cones = len(settings.cones())
+def disk(settings: Settings, load: Load, fullest: int, traces: int = 1) -> Disk:
+    """That of a run of so many events, which weigh so much, of which the fullest cone has this many, read from so many
+    traces."""
+    cones, events = len(settings.cones()), load.items
     packets = events // settings.packet + traces * cones
     flushes = events // settings.base
     record = RECORD_HEAD + settings.levels * (1 + settings.bins)
-    reports = min(events // settings.threshold, cones * settings.room)
+    reports = min(load.weight // settings.threshold, cones * settings.room)
     return Disk(
         JOURNAL_HEAD * cones + PACKET_HEAD * packets + item_len(WRITTEN) * events,
         min(cones * frames_len(settings, fullest), most_frames(settings, events, cones)),

@@ -10,11 +10,12 @@ from __future__ import annotations
 import csv
 import io
 import json
-import re
 import select
 import zlib
 from contextlib import suppress
 from typing import Any, Callable, Generator, Iterator, NamedTuple, Sequence, TypeVar
+
+from .amounts import NO_AMOUNT, amount_in, is_number
 
 CHUNK = 1 << 18
 MOST_LINE = 1 << 20
@@ -22,10 +23,6 @@ MOST_SHOWN = 200
 # The first bytes of a gzip file, and its form as zlib names it.
 GZIP = b"\x1f\x8b"
 GZIP_FORM = 16 + zlib.MAX_WBITS
-# A record counts at most as much as a threshold may be.
-MOST_AMOUNT = (1 << 32) - 1
-AMOUNT = re.compile(rb"[0-9]{1,20}")
-NO_AMOUNT = f"the amount is no decimal number up to {MOST_AMOUNT}"
 
 Each = TypeVar("Each")
 
@@ -208,12 +205,6 @@ def stretches(
         yield part(begin, len(values))
 
 
-def amount_in(text: bytes | None) -> int | None:
-    """The amount that a text spells."""
-    amount = int(text) if text and AMOUNT.fullmatch(text) else None
-    return amount if amount is not None and amount <= MOST_AMOUNT else None
-
-
 def records(
     source: Source,
     wanted: Sequence[Each],
@@ -324,11 +315,6 @@ def rows_in(
             source.refuse(f"line {before - whole + at}", f"no CSV: {fault}")
             texts, before = texts[1:], before + 1
     return texts, before
-
-
-def is_number(wanted: str) -> bool:
-    """Whether a column is wanted by its number."""
-    return wanted.isascii() and wanted.isdigit()
 
 
 def texts_at(rows: list[list[str]], at: int) -> list[bytes | None]:

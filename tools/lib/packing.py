@@ -12,13 +12,13 @@ from itertools import compress
 from operator import itemgetter
 from typing import BinaryIO, Iterable, Iterator
 
+from .amounts import MOST_WEIGHT
 from .formats import KEY_LEN, TRACE_HEAD, magic_of
 from .inputs import Batch, Source, stretches
 from .names import Names
 from .outputs import sync
 
 NUMBER = re.compile(rb"[0-9]{1,20}")
-MOST_WEIGHT = 255
 # What an item of each weight has behind its key.
 WEIGHTS = [bytes([weight]) for weight in range(MOST_WEIGHT + 1)]
 # What is kept before it is handed on: distinct names, or values where no names are wanted; bytes of items; bytes of the

@@ -11,9 +11,10 @@ from dataclasses import dataclass
 from pathlib import Path
 from typing import BinaryIO, Iterator
 
-from .definitions import Report, levels_of
-from .formats import HEADER_LEN, OPEN, BadNumbers, Header, Item, Left, item_len, items_in, items_of
+from .definitions import Report
+from .formats import HEADER_LEN, KEY_LEN, OPEN, BadNumbers, Header, Item, Left, item_len, items_in, items_of
 from .inputs import BadInput
+from .loads import Load, room_of
 from .logs import Cone, cones_of, in_file
 
 HEAD = struct.Struct("<BI")
@@ -28,6 +29,7 @@ class Journal:
         self.header = header
         self.gate = HEADER_LEN
         self.events = 0
+        self.weight = 0
 
     def lengths(self, file: BinaryIO) -> Iterator[int]:
         """The length of the payload of each new packet, where the file stands then. It may be read or not."""
@@ -48,19 +50,34 @@ class Journal:
             self.gate += HEAD.size + length
             self.events += items
 
-    def count(self) -> int:
-        """How many events it has by now."""
+    def load(self) -> Load:
+        """How many events it has by now, and what they weigh."""
         with self.path.open("rb", buffering=0) as file:
-            in_file(self.path, lambda: [None for _ in self.lengths(file)])
-        return self.events
+            in_file(self.path, lambda: self.take(file))
+        return Load(self.events, self.weight)
+
+    def take(self, file: BinaryIO) -> None:
+        for length in self.lengths(file):
+            self.weight += self.weight_in(file, length)
+
+    def weight_in(self, file: BinaryIO, length: int) -> int:
+        """What the items of a packet weigh, at whose payload the file stands."""
+        size = item_len(self.header.version)
+        if size == KEY_LEN:
+            return (length - PACKET_LEN) // size
+        return sum(self.payload(file, length)[PACKET_LEN + KEY_LEN :: size])
+
+    def payload(self, file: BinaryIO, length: int) -> bytes:
+        payload = file.read(length)
+        if len(payload) < length:
+            raise Left(self.gate + HEAD.size + len(payload))
+        return payload
 
     def packets(self) -> Iterator[tuple[Item, ...]]:
         """The items of each new packet."""
         with self.path.open("rb") as file:
             for length in self.lengths(file):
-                payload = file.read(length)
-                if len(payload) < length:
-                    raise Left(self.gate + HEAD.size + len(payload))
+                payload = self.payload(file, length)
                 yield tuple(items_in(self.header.version, items_of(self.header, self.gate + 1, payload)))
 
 
@@ -84,12 +101,13 @@ class Reported:
 
 @dataclass
 class Part:
-    """A cone of a run: its number, how many events and reports it has, and how many it takes."""
+    """A cone of a run: its number, how many events it has and what they weigh, how much of both it takes, and how many
+    reports it has."""
 
     cone: int
-    events: int
+    load: Load
+    room: Load
     reports: int
-    capacity: int
     closed: bool
 
 
@@ -109,7 +127,7 @@ class Run:
 
     def parts(self) -> list[Part]:
         """How far each cone is, by its log as it was read, and by its journal as it is."""
-        return [part_of(cone, journal.count()) for cone, journal in zip(self.cones, self.journals)]
+        return [part_of(cone, journal.load()) for cone, journal in zip(self.cones, self.journals)]
 
     def is_closed(self) -> bool:
         return all(cone.log.closed for cone in self.cones)
@@ -120,9 +138,8 @@ class Run:
             yield from reports_of(cone)
 
 
-def part_of(cone: Cone, events: int) -> Part:
-    most = levels_of(cone.header).capacity(cone.header)
-    return Part(cone.header.cone, events, len(cone.log.reports), most, cone.log.closed)
+def part_of(cone: Cone, load: Load) -> Part:
+    return Part(cone.header.cone, load, room_of(cone.header), len(cone.log.reports), cone.log.closed)
 
 
 def reports_of(cone: Cone) -> list[Reported]:

@@ -9,15 +9,16 @@ from pathlib import Path
 
 from .capacity import capacity
 from .inputs import MOST_LINE
+from .loads import total
 from .metrics import Metric, text_of, write
 from .service_runs import Directory, Ended, Ends, StateFile, cone_bits_of, directories, ended_in, remove_old
 from .service_runs import free, reported_in, settle, wait_for
-from .shown import Shown, Wanted, gauges
-from .sieve import Lines, Sifted
+from .shown import Shown, Wanted, gauges, told_lost
+from .sieve import CHUNK, Lines, Sifted
 from .sources import Command, File, Pipe
+from .whole_lines import WholeLines
 
-CHUNK = 1 << 18
-# A block of input has at most so much of a cone's room.
+# A block of input has at most so many bytes of a cone's capacity: no more records without amounts.
 BLOCKS_A_CONE = 8
 WAIT = 0.5
 BETWEEN_LOOKS = 0.5
@@ -39,13 +40,12 @@ class Service:
         self.source: Command | File | Pipe
         self.directory: Directory | None = None
         self.shown: Shown | None = None
-        self.rest = b""
-        self.is_skipping = False
-        self.is_stopping = False
-        self.is_full = False
-        self.is_stalled = False
+        self.lines = WholeLines()
+        # Of what was read: the whole lines that weren't handed on yet, and whether they are read again.
+        self.left, self.is_sent_back = b"", False
+        self.is_stopping = self.is_full = self.is_stalled = False
         self.failures = 0
-        # Of the last records: how many were read again and stand in a journal.
+        # Of the last records: how many, or how much, were read again and stands in a journal.
         self.skipped = 0
         self.came = self.looked = self.measured = time.monotonic()
         self.bad_told, self.bad_untold = 0.0, 0
@@ -79,13 +79,13 @@ class Service:
             data = self.source.read(self.most(), WAIT)
             if self.source.is_new:
                 self.source.is_new = False
-                self.end_line()
+                self.sift(self.lines.last())
             if data is None:
                 self.stall()
             elif data:
                 self.take(data)
             elif not self.begin_again():
-                self.end_line()
+                self.sift(self.lines.last())
                 break
 
     def take(self, data: bytes) -> None:
@@ -93,21 +93,10 @@ class Service:
         if self.is_stalled:
             self.is_stalled = False
             self.tell("the source goes on")
-        whole = self.rest + data
-        if self.is_skipping:
-            _, found, whole = whole.partition(b"\n")
-            self.is_skipping = not found
-        first = whole.find(b"\n")
-        if first > MOST_LINE:
-            self.count_bad(1, f"a line of more than {MOST_LINE} bytes")
-            whole = whole[first + 1 :]
-        cut = whole.rfind(b"\n") + 1
-        self.rest = whole[cut:]
-        if len(self.rest) > MOST_LINE:
-            self.rest, self.is_skipping = b"", True
-            self.count_bad(1, f"a line of more than {MOST_LINE} bytes")
-        if cut:
-            self.sift(whole[:cut])
+        whole, too_long = self.lines.take(data)
+        if too_long:
+            self.count_bad(too_long, f"a line of more than {MOST_LINE} bytes")
+        self.sift(whole)
 
     def begin_line(self) -> None:
         """A named pipe may go on inside a line whose beginning the last service had read."""
@@ -116,47 +105,52 @@ class Service:
             return
         if state.cut:
             self.tell("the first line is left out, since its beginning may be missing")
-            self.is_skipping = True
-            state.records += not state.cut_is_counted
-            state.lost += not state.cut_is_counted
+            self.lines.is_skipping = True
+            if not state.cut_is_counted:
+                self.count_cut()
         state.cut, state.cut_is_counted = True, False
         self.file.save(synced=True)
 
-    def end_line(self) -> None:
-        """What the source ends with is a line, too."""
-        if self.rest:
-            whole, self.rest = self.rest + b"\n", b""
-            self.sift(whole)
+    def count_cut(self) -> None:
+        """A line of which a part is missing. With amounts it is none: who knows how much it counts."""
+        if self.wanted.weighs:
+            self.state.bad += 1
+        else:
+            self.state.records += 1
+            self.state.lost += 1
 
     def sift(self, data: bytes) -> None:
-        had_head, self.skipped = bool(self.sieve.head), 0
-        sifted = self.sieve.sift(data)
-        if self.sieve.head and not had_head:
-            self.head.write_bytes(self.sieve.head)
-        if self.state.upto:
-            # What was read before was counted, too.
-            sifted = self.unskipped(sifted)
-        self.count_bad(sifted.bad, sifted.why)
-        if sifted.records:
-            self.hand_on(sifted)
-        else:
-            self.save()
+        """Takes whole lines, as many at once as there are to be. It may send the source back."""
+        self.left = data
+        while self.left:
+            had_head, self.skipped = bool(self.sieve.head), 0
+            sifted, self.left = self.sieve.sift_some(self.left)
+            if self.sieve.head and not had_head:
+                self.head.write_bytes(self.sieve.head)
+            if self.state.upto:
+                # What was read before was counted, too.
+                sifted = self.unskipped(sifted)
+            self.count_bad(sifted.bad, sifted.why)
+            if sifted.load().items:
+                self.hand_on(sifted)
+            else:
+                self.count(sifted)
 
     def unskipped(self, sifted: Sifted) -> Sifted:
         """Those of records that are read again which stand in no journal."""
-        self.skipped = min(self.state.skip, sifted.records)
+        self.skipped = min(self.state.skip, sifted.load().weight)
         self.state.skip -= self.skipped
-        return Sifted(self.sieve.behind(sifted.data, self.skipped), sifted.records - self.skipped)
+        return self.sieve.behind(sifted, self.skipped)
 
     def most(self) -> int:
         """How much is read at once: not beyond the place up to which it is read again."""
-        upto, place = self.state.upto, self.source.place
+        upto, place, most = self.state.upto, self.source.place, min(self.chunk, self.sieve.at_once())
         if not upto or place.get("inode") != upto["inode"]:
-            return self.chunk
+            return most
         if place["at"] < upto["at"]:
-            return min(self.chunk, upto["at"] - place["at"])
+            return min(most, upto["at"] - place["at"])
         self.state.upto, self.state.skip = {}, 0
-        return self.chunk
+        return most
 
     def count_bad(self, count: int, why: str) -> None:
         self.state.bad += count
@@ -171,27 +165,31 @@ class Service:
     def save(self) -> None:
         place = dict(self.source.place)
         if place:
-            place["at"] = max(0, place["at"] - len(self.rest) - self.sieve.held())
+            place["at"] = max(0, place["at"] - len(self.lines.rest) - len(self.left) - self.sieve.held())
         self.state.place = place
         self.file.save()
 
     def hand_on(self, sifted: Sifted) -> None:
-        records, directory = sifted.records, self.directory
-        if directory is not None and directory.given and not directory.has_room(records, self.wanted.full):
+        directory = self.directory
+        more, self.is_sent_back = sifted.load(), False
+        if directory is not None and directory.given.items and not directory.has_room(more, self.wanted.full):
             self.end("its fullest cone is full enough")
+            if self.is_sent_back:
+                # These come again behind those that it lost.
+                return
         if self.directory is None:
-            self.begin(records)
+            self.begin(sifted)
         else:
-            self.count(records)
+            self.count(sifted)
         if self.directory is not None and not self.directory.give(sifted.data, self.show):
             self.recover()
 
-    def count(self, records: int) -> None:
+    def count(self, sifted: Sifted) -> None:
         """Writes down records that are handed on next: in one step that they were read, and where they go."""
-        self.state.records += 0 if self.state.upto else records
-        self.state.given += records
+        self.state.records += 0 if self.state.upto else sifted.records
+        self.state.given += sifted.load().weight
         if self.directory is not None:
-            self.directory.given = self.state.given
+            self.directory.given = self.directory.given.plus(sifted.load())
         self.save()
 
     def stall(self) -> None:
@@ -206,7 +204,7 @@ class Service:
         until = time.monotonic() + self.wanted.pause
         while self.wanted.again and not self.is_stopping:
             if time.monotonic() >= until:
-                self.end_line()
+                self.sift(self.lines.last())
                 self.source.again()
                 return True
             time.sleep(BETWEEN_LOOKS)
@@ -215,8 +213,8 @@ class Service:
 
     # --- directories
 
-    def begin(self, records: int) -> None:
-        """Begins a directory, to which so many records go first."""
+    def begin(self, sifted: Sifted) -> None:
+        """Begins a directory, to which these records go first."""
         self.state.serial += 1
         name = f"run-{self.state.serial:06}-{time.strftime('%Y%m%dT%H%M%SZ', time.gmtime())}"
         place = self.wanted.folder / name
@@ -224,13 +222,13 @@ class Service:
         if isinstance(self.source, File):
             self.state.start = dict(self.state.place) or {**self.source.place, "at": 0}
             self.state.start_skip, self.skipped = self.skipped, 0
-        self.count(records)
+        self.count(sifted)
         self.directory = Directory(place, self.wanted.settings, self.wanted.packing, self.wanted.named)
-        self.directory.given = records
+        self.directory.given = sifted.load()
         self.shown = Shown(place, self.wanted.named)
         self.tell(f"{name}: begun")
-        if self.sieve.head:
-            self.directory.give(self.sieve.head, self.show)
+        if beginning := self.sieve.beginning():
+            self.directory.give(beginning, self.show)
 
     def end(self, why: str) -> None:
         """Ends the run in order."""
@@ -245,7 +243,7 @@ class Service:
             return
         self.settle(directory.stop(), "its run has ended by itself")
         # The first one may fail for what is over by now.
-        self.failures = self.failures + 1 if not directory.counts or not sum(directory.counts) else 1
+        self.failures = 1 if total(directory.loads).items else self.failures + 1
         if self.failures >= MOST_FAILURES:
             raise Ends(f"{MOST_FAILURES} runs failed one after the other: see {directory.place}/said")
         time.sleep(min(2**self.failures / 4, 10))
@@ -254,7 +252,7 @@ class Service:
         directory, self.directory = self.directory, None
         if directory is not None:
             directory.count()
-            self.note(directory.place, settle(directory.place, directory.given, how), why)
+            self.note(directory.place, settle(directory.place, directory.given.weight, how), why)
             if how == "closed":
                 self.failures = 0
 
@@ -269,8 +267,8 @@ class Service:
         self.state.folder, self.state.given = "", 0
         self.file.save(synced=True)
         recovered = {None: "", 0: ", recovered"}.get(ended.recovered, f", not recovered: status {ended.recovered}")
-        lost = f"{ended.events} events, {ended.lost} records in no journal"
-        self.tell(f"{place.name}: {why}; {ended.how}{recovered}: {lost}")
+        parts = f"{ended.events} events, {told_lost(ended.lost, self.wanted.weighs)}"
+        self.tell(f"{place.name}: {why}; {ended.how}{recovered}: {parts}")
         if is_again:
             self.tell("these are read again")
         for old in remove_old(self.wanted.folder, self.wanted.keep):
@@ -304,11 +302,12 @@ class Service:
         if cone_bits_of(place, self.wanted.settings) or source.name_of(state.start) is None:
             return False
         state.upto = state.upto or dict(state.place)
-        state.skip = state.start_skip + ended.events
+        state.skip = state.start_skip + ended.given - ended.lost
         state.place = dict(state.start)
         source.go_on(state.start)
         self.sieve.forget()
-        self.rest, self.is_skipping = b"", False
+        self.lines.forget()
+        self.left, self.is_sent_back = b"", True
         return True
 
     def count_ended(self) -> None:
@@ -332,7 +331,7 @@ class Service:
                 self.stop()
             if not self.directory.is_alive():
                 self.recover()
-            elif self.directory.given and self.directory.is_over(self.wanted.period):
+            elif self.directory.given.items and self.directory.is_over(self.wanted.period):
                 self.end("its time is over")
         if now >= self.measured + BETWEEN_METRICS:
             self.measure()
@@ -357,22 +356,24 @@ class Service:
 
     def metrics(self) -> list[Metric]:
         state, directory = self.state, self.directory
-        counts = directory.count() if directory is not None else []
-        full = max(counts, default=0) / directory.capacity if directory is not None else 0
+        loads = directory.count() if directory is not None else []
+        full = max((load.share(directory.room) for load in loads), default=0) if directory is not None else 0
         reports = len(self.shown.keys) if directory is not None and self.shown is not None else 0
         values = {
             "up": int(not self.is_stopping and not self.is_full),
             "records_total": state.records,
             "bad_total": state.bad,
             "lost_total": state.lost,
+            "lost_amount_total": state.lost,
             "runs_total": state.serial,
             "stalled": int(self.is_stalled),
             "free_bytes": free(self.wanted.folder),
-            "events": sum(counts),
+            "events": total(loads).items,
+            "weight": total(loads).weight,
             "reports": reports,
             "full_ratio": full,
         }
-        return gauges(values, self.wanted.folder.name)
+        return gauges(values, self.wanted.folder.name, self.wanted.weighs)
 
     # --- the end
 
@@ -381,12 +382,11 @@ class Service:
         if isinstance(self.source, Command) and not self.is_full:
             while data := self.source.read(self.chunk, WAIT):
                 self.take(data)
-        is_cut = bool(self.rest) and not isinstance(self.source, File)
+        is_cut = bool(self.lines.rest) and not isinstance(self.source, File)
         if is_cut:
-            self.state.records += 1
-            self.state.lost += 1
+            self.count_cut()
             self.tell("the last line had no end, and is in no journal")
-        self.state.cut = self.state.cut_is_counted = is_cut or self.is_skipping
+        self.state.cut = self.state.cut_is_counted = is_cut or self.lines.is_skipping
         if self.is_full:
             least = self.wanted.reserve
             self.tell(f"the disk has {free(self.wanted.folder)} bytes free, less than {least}: ending the run in order")
@@ -395,6 +395,6 @@ class Service:
         self.file.save(synced=True)
         self.measure()
         state = self.state
-        parts = f"{state.bad} lines that are none, {state.lost} records in no journal"
+        parts = f"{state.bad} lines that are none, {told_lost(state.lost, self.wanted.weighs)}"
         self.tell(f"ended: {state.records} records, {parts}")
         return DISK_IS_FULL if self.is_full else DONE

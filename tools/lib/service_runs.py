@@ -3,6 +3,8 @@
 A directory has the files of its run and, besides: `names` (of `keys pack`), `report` (what the run printed, or a
 recovery), `said` (what both said), `options` (of the run), `lock` (held while one of both lives), and `ended`, once it
 is known how many of its records are in the journals.
+
+Records are counted by their amounts, where they have any: a crash may leave a part of one in a journal.
 """
 
 from __future__ import annotations
@@ -20,10 +22,10 @@ from functools import cache
 from pathlib import Path
 from typing import Callable, Iterator, Sequence
 
-from .capacity import capacity
 from .cones import SUFFIXES
 from .formats import BadNumbers
 from .inputs import BadInput
+from .loads import NONE, Load, most, room_of, total
 from .metrics import write
 from .run_state import Run
 from .words import Settings
@@ -48,16 +50,17 @@ class State:
     handed on, so that no record is in a journal that isn't counted here."""
 
     serial: int = 0
-    # The directory that is written, and how many records were handed to it.
+    # The directory that is written, and how many records were handed to it, or what they amount to.
     folder: str = ""
     given: int = 0
-    # Of all time: what was read, what was none, and what is in no journal.
+    # Of all time: how many records were read, how many lines were none, and how many records, or which amount of them,
+    # are in no journal.
     records: int = 0
     bad: int = 0
     lost: int = 0
     # Of a file that is followed: the place behind what was handed on; that before the directory's first records, and
-    # how many of those behind it went to another one; up to which place records are read again, and how many of these
-    # stand in a journal.
+    # how many of those behind it, or how much of them, went to another one; up to which place records are read again,
+    # and how many, or how much, of these stands in a journal.
     place: dict[str, int] = field(default_factory=dict)
     start: dict[str, int] = field(default_factory=dict)
     start_skip: int = 0
@@ -109,11 +112,12 @@ class Directory:
     def __init__(self, place: Path, settings: Settings, packing: Sequence[str], named: bool) -> None:
         self.place = place
         self.settings = settings
-        self.capacity = capacity(settings)
+        self.room = room_of(settings.header(0))
         self.begun = time.time()
-        self.given = 0
+        self.given = NONE
         self.run: Run | None = None
-        self.counts: list[int] = []
+        # Of each cone.
+        self.loads: list[Load] = []
         place.mkdir(parents=True)
         (place / "options").write_text(" ".join(settings.words()) + "\n")
         names = ["--names", str(place / "names")] if named else []
@@ -166,34 +170,38 @@ class Directory:
             self.run.read()
         return self.run
 
-    def count(self) -> list[int]:
-        """The events of each cone by now."""
+    def count(self) -> list[Load]:
+        """What is in each cone by now."""
         if self.run is not None or self.look() is not None:
             with suppress(BadInput, OSError):
-                self.counts = [journal.count() for journal in self.run.journals]
-        return self.counts
+                self.loads = [journal.load() for journal in self.run.journals]
+        return self.loads
 
-    def fullest(self) -> int:
-        """At most so many events are in the fullest cone once all that was given has come, as far as it is known."""
-        return max(self.counts, default=0) + self.given - sum(self.counts)
+    def waiting(self) -> Load:
+        """What is on its way to the journals, as far as it is known."""
+        return self.given.less(total(self.loads))
 
-    def has_room(self, records: int, fill: float) -> bool:
-        """Whether so many records more leave each cone below this share of its capacity. What is under way may be in
-        any cone, and is waited for where that decides."""
-        most = int(fill * self.capacity)
-        waits = self.given - sum(self.counts)
+    def fullest(self) -> Load:
+        """At most so much is in the fullest cone once all that was given has come."""
+        return most(self.loads).plus(self.waiting())
+
+    def has_room(self, more: Load, fill: float) -> bool:
+        """Whether so much more leaves each cone below this share of what it takes. What is under way may be in any
+        cone, and is waited for where that decides."""
+        room = self.room.part(fill)
+        waits = self.waiting().items
         until = time.monotonic() + 2.0
-        while self.fullest() + records > most and self.is_alive():
+        while not self.fullest().plus(more).fits(room) and self.is_alive():
             self.count()
-            sure = max(self.counts, default=0) + records
-            if sure > most or time.monotonic() >= until or self.given - sum(self.counts) >= waits and self.is_idle():
+            is_sure = not most(self.loads).plus(more).fits(room)
+            if is_sure or time.monotonic() >= until or self.waiting().items >= waits and self.is_idle():
                 break
             time.sleep(BETWEEN_LOOKS)
-        return self.fullest() + records <= most
+        return self.fullest().plus(more).fits(room)
 
     def is_idle(self) -> bool:
         """Whether no more can be on its way than waits for its packet."""
-        return self.given - sum(self.counts) <= 4 * self.settings.packet * len(self.settings.cones())
+        return self.waiting().items <= 4 * self.settings.packet * len(self.settings.cones())
 
     def end(self) -> str:
         """Ends the run in order, and says how it ended."""
@@ -240,15 +248,15 @@ def wait_for(place: Path) -> bool:
     return True
 
 
-def events_in(place: Path) -> int:
-    """The events in the journals of a directory, those of journals that can't be read being none."""
-    total = 0
+def load_in(place: Path) -> Load:
+    """What the journals of a directory have, those that can't be read having nothing."""
+    load = NONE
     with suppress(BadInput, BadNumbers, OSError):
         run = Run(place)
         for journal in run.journals:
             with suppress(BadInput, OSError):
-                total += journal.count()
-    return total
+                load = load.plus(journal.load())
+    return load
 
 
 def is_closed(place: Path) -> bool:
@@ -272,7 +280,8 @@ def recover(place: Path) -> int:
 
 @dataclass
 class Ended:
-    """How a directory ended: its records, those of them that its journals have, and those that no journal has."""
+    """How a directory ended: how many records were handed to it, or what they amount to; the events that its journals
+    have; and how many of the records, or which amount of them, are in no journal."""
 
     how: str
     given: int
@@ -293,8 +302,8 @@ def settle(place: Path, given: int, how: str) -> Ended:
     recovered = None
     if not is_closed(place):
         recovered = recover(place) if has_files(place) else None
-    events = events_in(place)
-    ended = Ended(how, given, events, max(0, given - events), recovered)
+    load = load_in(place)
+    ended = Ended(how, given, load.items, max(0, given - load.weight), recovered)
     with suppress(OSError):
         write(place / "ended", json.dumps(asdict(ended)) + "\n")
     return ended

@@ -21,6 +21,7 @@ class Wanted(NamedTuple):
     folder: Path
     settings: Settings
     packing: Sequence[str]
+    weighs: bool
     named: bool
     period: int
     full: float
@@ -76,14 +77,24 @@ WHAT = {
     "events": "Events in the journals of the run.",
     "reports": "Reports of the run.",
     "full_ratio": "How full the fullest cone is.",
+    "weight": "What the events in the journals of the run weigh.",
+    "lost_amount_total": "The amount that is in no journal.",
 }
 
 
-def gauges(values: dict[str, float], service: str) -> list[Metric]:
+def told_lost(lost: int, weighs: bool) -> str:
+    return f"an amount of {lost} in no journal" if weighs else f"{lost} records in no journal"
+
+
+# Of these a service has those that go with amounts, or without.
+OF_AMOUNTS, OF_RECORDS = {"weight", "lost_amount_total"}, {"lost_total"}
+
+
+def gauges(values: dict[str, float], service: str, weighs: bool) -> list[Metric]:
     """The metrics of a service, by their names without what all begin with."""
     made = []
-    for name, value in values.items():
+    for name in [name for name in values if name not in (OF_RECORDS if weighs else OF_AMOUNTS)]:
         metric = Metric(f"lert_live_{name}", "counter" if name.endswith("_total") else "gauge", WHAT[name])
-        metric.put(value, service=service)
+        metric.put(values[name], service=service)
         made.append(metric)
     return made

@@ -9,10 +9,13 @@ from __future__ import annotations
 import csv
 import io
 from contextlib import suppress
-from typing import Callable, Iterator, NamedTuple
+from typing import Callable, Iterator, NamedTuple, Sequence
 
+from .amounts import is_number as is_by_number
 from .inputs import MOST_LINE, BadInput, Batch, column, field
+from .loads import Load
 
+CHUNK = 1 << 18
 # A row of a CSV has at most so many lines here.
 MOST_LINES = 1000
 # What may stand before a text in UTF-8.
@@ -20,13 +23,30 @@ MARK = b"\xef\xbb\xbf"
 NO_NUMBER = "no decimal number below 2^64"
 
 
+class Records(NamedTuple):
+    """What of a stream are records, by the words of `keys pack`: a column, a field or a word of its rows or lines, or
+    else its lines, and whether they are hashed or numbers."""
+
+    column: str | None
+    delimiter: str
+    field: str | None
+    word: int | None
+    are_hashed: bool
+
+
 class Sifted(NamedTuple):
-    """The bytes of the records, how many there are, and how many lines are none, with why the first one is."""
+    """The bytes of the records, how many there are, and how many lines are none, with why the first one is; and what
+    the records count, where that isn't one each."""
 
     data: bytes
     records: int
     bad: int = 0
     why: str = ""
+    weighed: Load | None = None
+
+    def load(self) -> Load:
+        """The items that the records become."""
+        return Load(self.records, self.records) if self.weighed is None else self.weighed
 
 
 class Given:
@@ -79,20 +99,38 @@ def checked(values: list[bytes]) -> int:
 class Lines:
     """Any lines."""
 
+    # The row that names the columns, once it is known, and the lines of a row that isn't at its end.
     head = b""
+    waiting: Sequence[bytes] = ()
 
     def sift(self, data: bytes) -> Sifted:
         return Sifted(data, data.count(b"\n"))
 
+    def sift_some(self, data: bytes) -> tuple[Sifted, bytes]:
+        """The records of as many lines as are handed on at once, and the lines behind them."""
+        return self.sift(data), b""
+
+    def at_once(self) -> int:
+        """At most so many bytes are read at once."""
+        return CHUNK
+
+    def beginning(self) -> bytes:
+        """What is handed on before all records."""
+        return b""
+
     def held(self) -> int:
-        """How many bytes wait for more: those of a row that isn't at its end."""
-        return 0
+        """How many bytes wait for more."""
+        return sum(map(len, self.waiting))
 
     def forget(self) -> None:
         """Lets them go."""
+        self.waiting = ()
 
-    def behind(self, data: bytes, records: int) -> bytes:
-        """What stands behind so many records of those that were sifted."""
+    def behind(self, sifted: Sifted, amount: int) -> Sifted:
+        """What stands behind so many of the records that were sifted, or so great an amount of them."""
+        return Sifted(self.data_behind(sifted.data, amount), sifted.records - amount)
+
+    def data_behind(self, data: bytes, records: int) -> bytes:
         at = 0
         for _ in range(records):
             at = data.index(b"\n", at) + 1
@@ -148,17 +186,20 @@ def numbers_in(data: bytes) -> int:
 
 
 class Rows(Lines):
-    """The rows of a CSV. Where the column is named, the first row of all is the head, and each row like it is none."""
+    """The rows of a CSV. Where a column is named, the first row of all is the head, and each row like it is none."""
 
-    def __init__(self, wanted: str, delimiter: str, head: bytes) -> None:
+    def __init__(self, wanted: Sequence[str], delimiter: str, head: bytes) -> None:
+        """Of these columns."""
         self.wanted = wanted
         self.delimiter = delimiter
         self.head = head
-        self.is_named = not (wanted.isascii() and wanted.isdigit())
-        self.waiting: list[bytes] = []
+        self.is_named = not all(map(is_by_number, wanted))
+
+    def beginning(self) -> bytes:
+        return self.head
 
     def batches(self, data: bytes) -> Iterator[Batch]:
-        return column(Given(self.head + data), [self.wanted], self.delimiter)
+        return column(Given(self.head + data), self.wanted, self.delimiter)
 
     def counted(self, data: bytes) -> int:
         return count(self.batches(data))
@@ -179,7 +220,7 @@ class Rows(Lines):
             self.head, whole = self.first_row(whole)
         if self.is_named:
             whole = self.without_heads(whole) if self.head in whole else whole
-        self.waiting = []
+        self.waiting = ()
         try:
             return Sifted(whole, self.counted(whole))
         except BadInput:
@@ -191,8 +232,8 @@ class Rows(Lines):
 
     def first_row(self, data: bytes) -> tuple[bytes, bytes]:
         head, _, rest = data.removeprefix(MARK).partition(b"\n")
-        column_is_there = column(Given(head + b"\n"), [self.wanted], self.delimiter)
-        count(column_is_there)
+        columns_are_there = column(Given(head + b"\n"), self.wanted, self.delimiter)
+        count(columns_are_there)
         return head + b"\n", rest
 
     def row_by_row(self, data: bytes) -> Sifted:
@@ -213,13 +254,7 @@ class Rows(Lines):
         self.waiting = row
         return Sifted(b"".join(good), records, bad, why)
 
-    def held(self) -> int:
-        return sum(map(len, self.waiting))
-
-    def forget(self) -> None:
-        self.waiting = []
-
-    def behind(self, data: bytes, records: int) -> bytes:
+    def data_behind(self, data: bytes, records: int) -> bytes:
         row, at = b"", 0
         for line in lines_of(data) if records else []:
             row, at = row + line, at + len(line)
@@ -230,19 +265,18 @@ class Rows(Lines):
         return data[at:]
 
 
-def sieve_of(
-    wanted_column: str | None, delimiter: str, wanted_field: str | None, word: int | None, hashes: bool, head: bytes
-) -> Lines:
-    """That of the words of `keys pack`. What isn't hashed are numbers."""
-    if word is not None:
-        return Words(word, not hashes)
-    if wanted_column is not None:
-        rows = Rows(wanted_column, delimiter, head)
-        return rows if hashes else with_numbers(rows, lambda data: rows.batches(data))
-    if wanted_field is not None:
-        checked = Checked(lambda data: count(field(Given(data), [wanted_field])))
-        return checked if hashes else with_numbers(checked, lambda data: field(Given(data), [wanted_field]))
-    return Lines() if hashes else Checked(numbers_in)
+def sieve_of(records: Records, head: bytes) -> Lines:
+    """That of such records. What isn't hashed are numbers."""
+    if records.word is not None:
+        return Words(records.word, not records.are_hashed)
+    if records.column is not None:
+        rows = Rows([records.column], records.delimiter, head)
+        return rows if records.are_hashed else with_numbers(rows, lambda data: rows.batches(data))
+    if records.field is not None:
+        wanted = [records.field]
+        checked = Checked(lambda data: count(field(Given(data), wanted)))
+        return checked if records.are_hashed else with_numbers(checked, lambda data: field(Given(data), wanted))
+    return Lines() if records.are_hashed else Checked(numbers_in)
 
 
 def with_numbers(sieve: Rows | Checked, values: Callable[[bytes], Iterator[Batch]]) -> Lines:

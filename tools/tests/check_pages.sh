@@ -152,6 +152,8 @@ commands_due() {
 README.md ./lert run DIR TRACE.. # the blocks
 docs/USE.md tools/keys pack # the blocks
 docs/USE.md ./lert recover # the blocks of README.md
+docs/USE.md tools/fit --amount MEAN # check_fit
+docs/USE.md tools/watch --progress # the blocks of docs/LOOK.md
 docs/USE.md ./lert recover DIR # the blocks of README.md
 docs/USE.md tools/report DIR # the blocks
 docs/USE.md tools/live DIR # the blocks

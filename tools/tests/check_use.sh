@@ -18,6 +18,24 @@ fitted() {
     lert run --workers 1 $options e over
 }
 
+# The same of items of weight 255, by the weight that is told.
+fitted_by_weight() {
+    local options
+    fit "${@:2}" >told || return
+    options=$(sed -n 's/^options //p' told)
+    sed -n 's/^capacity .* and a weight of \([0-9,]*\),.*/weight \1/p' told
+    trace_of "$(times "$1" "$(item 00 ff)")" >whole && trace_of "$(times $(($1 + 1)) "$(item 00 ff)")" >over || return
+    rm -rf d e && lert run --workers 1 $options d whole | tail -n 1
+    lert run --workers 1 $options e over
+}
+
+# What a plan for so many events of a mean amount has to say of a day, by plain numbers.
+amounts_by_awk() {
+    awk -v events="$1" -v mean="$2" 'BEGIN {
+        items = events * (mean + 254) / 255; items = items > int(items) ? int(items) + 1 : items
+        printf "runs a day 1 of %d events, at most %d items, a weight of %d\n", events, items, events * mean }'
+}
+
 check_fit() {
     gives 'a run at its capacity, by the room for reports' 8 'capacity 48\ntotal events 48 reports 1\n' \
         'lert: cone 0 full at 48 plus 1\n' fitted 48 --events 40 --threshold 12 --bins 3 --ratio 3 --base 4 --packet 8
@@ -26,6 +44,13 @@ check_fit() {
     gives 'a run of eight cones at its capacity' 8 'capacity 1,911\ntotal events 1911 reports 1\n' \
         'lert: cone 0 full at 1904 plus 8\n' \
         fitted 1911 --events 5000 --threshold 3 --base 16 --packet 16 --cone-bits 3 --hottest 25%
+    # 100 events of 700 weigh 70,000, and 138 times 510 is the least room for that: 276 times 255.
+    gives 'a run at its capacity, by the weight' 13 'weight 70,380\ntotal events 276 reports 1\n' \
+        'lert: cone 0 weight full at 0 plus 70635\n' fitted_by_weight 276 --events 100 --threshold 510 --amount 700 --fill 1
+    gives 'items and weight of a plan for amounts' 0 "$(amounts_by_awk 12345 612)\n" '' \
+        eval 'fit --events 12345 --threshold 100000 --amount 612 | sed -n "2s/\([0-9]\),/\1/gp" | sed "s/events /events, /; s/,,/,/; s/items /items, /; s/,,/,/"'
+    gives 'a plan for amounts of 1 each' 0 "$(fit --events 1000000 --threshold 100 | head -n 1)\n" '' \
+        eval 'fit --events 1000000 --threshold 100 --amount 1 | head -n 1'
     gives 'no options for too little memory' 1 '' 'fit: the memory is too little for any run\n' \
         fit --events 100 --memory 1M
     gives 'no options for numbers that break a rule' 1 '' 'fit: the numbers break rule 2\n' fit --events 100 --bins 17
@@ -282,6 +307,7 @@ check_use() {
     check_fit
     check_report
     check_live
+    check_services_of_amounts
     check_metrics
     check_pages
     check_package

@@ -133,7 +133,7 @@ check_weighed_reports() {
     reports_of '7 2\n' "$(item 07 01)" "$(item 07 02)"
     log_of "$(closed_behind 02 07 02)"
     gives 'files of two keys with weights' 0 'cone 0 events 2 n0 2 reports 1 closed\n' '' sound files
-    said="cone 0 events 2 of 71 reports 1 closed\n${columns}0 7 3 1 2 2\n"
+    said="cone 0 events 2 of 71 weight 3 of 96 reports 1 closed\n${columns}0 7 3 1 2 2\n"
     gives 'tells of a report by weights' 0 "$said" '' "$top/tools/report" files
     log_of "$(closed_behind 02 07 01)"
     gives 'a report before its weights add up' 1 '' \
