@@ -1,5 +1,5 @@
 -- What is known of the traces of a run: those that were opened, the same ones later, and the items of all.
-use Rattle.std.specs.Prelude.{◌≡◌, ◌⊎◌, ℕ, ◌+◌, ◌^◌, ◌<◌, ◌≤◌, List, [], flat_map, length, map, sum_by, Option, Some, None, slice_get}
+use Rattle.std.specs.Prelude.{◌≡◌, ◌⊎◌, ℕ, ◌+◌, ◌^◌, ◌<◌, ◌≤◌, List, [], drop, flat_map, length, map, sum_by, Option, Some, None, slice_get}
 use Rattle.lert_io.specs.{Fault.{HasRisen, IsFaultless}, Reading.IfTold}
 use Rattle.lert_spec.specs.{declared.item.Item.Item, declared.numbers.Numbers.Numbers, Counts.{weighed, weight_of}, Edges.{capacity, weight_room}, Mix.part_in}
 use Rattle.lert_trace.specs.Trace.{left, whole}
@@ -22,11 +22,16 @@ pub record AreTracesLater {S : Type 0} (faults mark : S → ℕ) (opened later :
 abbrev pub AtTrace : {S : Type 0} → (S → S → Type 0) → List S → List S → ℕ → Type 0
 AtTrace {S = S} R opened later trace = (before now : S) → slice_get opened trace ≡ Some before → slice_get later trace ≡ Some now → R before now
 
--- the items of all traces: of each that tells its bytes all whole items
-pub record AreItemsOf {S : Type 0} (remaining : S → Option (List ℕ)) (opened : List S) (traces : List (List Item)) : Type 0 where
+-- the items that all traces have still to give, of each of which so many were given: of each that tells its bytes all whole items
+-- behind these
+pub record AreRestsOf {S : Type 0} (remaining : S → Option (List ℕ)) (given : ℕ → ℕ) (opened : List S) (traces : List (List Item)) : Type 0 where
   pub number : length traces ≡ length opened
   pub each : (trace : ℕ) (before : S) (items : List Item) → slice_get opened trace ≡ Some before → slice_get traces trace ≡ Some items
-      → IfTold (remaining before) (λ bytes. items ≡ whole bytes)
+      → IfTold (remaining before) (λ bytes. items ≡ drop (given trace) (whole bytes))
+
+-- the items of all traces
+abbrev pub AreItemsOf : {S : Type 0} → (S → Option (List ℕ)) → List S → List (List Item) → Type 0
+AreItemsOf remaining opened traces = AreRestsOf remaining (λ _. 0) opened traces
 
 -- all traces tell their bytes, and these are they
 abbrev pub AreBytesOf : {S : Type 0} → (S → Option (List ℕ)) → List S → List (List ℕ) → Type 0

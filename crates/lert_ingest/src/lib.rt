@@ -10,5 +10,5 @@ mod faults;
 mod readers;
 mod status;
 
-pub use crews::{Ingested, ingest};
+pub use crews::{Ingested, IngestedRest, ingest, ingest_rest};
 pub use status::Status;
