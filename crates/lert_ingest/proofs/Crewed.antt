@@ -1,5 +1,5 @@
 -- A crew that ran, with what is known of the traces that it read and of the cones that came back.
-use Rattle.std.proofs.{Common.{◌≡◌, ℕ, ◌^◌, ◌<◌, ◌≤◌, List, length, Option, Some, None, slice_get, ap, sym, ◌∙◌, subst}, lemmas.List.length-map, lemmas.Option.slice_get-map}
+use Rattle.std.proofs.{Common.{◌≡◌, ℕ, ◌^◌, ◌<◌, ◌≤◌, List, length, Option, Some, None, slice_get, ap, ◌∙◌, subst}, lemmas.List.length-map, lemmas.Option.slice_get-map}
 use Rattle.std.specs.Option.{option_map}
 use Rattle.lert_base.specs.{Packet.Packet, declared.cone_fault.ConeFault.ConeFault}
 use Rattle.lert_bay.specs.Files.{Files}

@@ -1,11 +1,11 @@
 -- A cone that came back from its lock, by what is so of each state that did.
-use Rattle.std.proofs.{Common.{◌≡◌, ◌≢◌, ◌⊎◌, ℕ, ◌<◌, Bool, false, List, [], ◌++◌, length, Option, Some, ap, sym, ◌∙◌, subst, inl, inr}}
+use Rattle.std.proofs.{Common.{◌≡◌, ◌≢◌, ◌⊎◌, ℕ, ◌<◌, Bool, false, List, ◌++◌, length, Option, Some, ap, sym, ◌∙◌, subst, inl, inr}}
 use Rattle.std.proofs.{lemmas.Option.{none-some, same_Some}}
 use Rattle.std.specs.Prelude.{Contains, IsTrue}
 use Rattle.lert_base.specs.{declared.held.Held.{Ghosts as HeldOf}, Packet.{Packet, events_of}, declared.cone_fault.ConeFault.ConeFault}
 use Rattle.lert_bay.specs.Files.{Files}
-use Rattle.lert_cone.specs.{Listing.Listing, Locked.RefusesUnder, History.most_version, Refuses.IsRefused, declared.state.ConeState.TheVariants.Running}
-use Rattle.lert_cone.specs.Stands.{Standing, StandsFor, Terms, WereSound, is_broken, is_finished, terms_of, version_of}
+use Rattle.lert_cone.specs.{Locked.RefusesUnder, History.most_version, Refuses.IsRefused, declared.state.ConeState.TheVariants.Running}
+use Rattle.lert_cone.specs.Stands.{Standing, StandsFor, Terms, WereSound, is_broken, is_finished, terms_of}
 use Rattle.lert_conelock.specs.{After.RefusesAfter, Prefix.IsPrefix}
 use Rattle.lert_spec.specs.{declared.numbers.Numbers.Numbers, Counts.{weighed, weight_of}}
 use Rattle.lert_worker.specs.crew.Crewed.{IsBack as IsStateBack, IsLeftOver}

@@ -1,16 +1,33 @@
 -- How the calls that read traces into cones end.
-use Rattle.std.proofs.{Common.{◌≡◌, ℕ, ◌^◌, ◌≤◌, List, length, min, Option, Result, Some, Ok, Err, slice_get, refl, ap, sym, ◌∙◌, subst, arith}, Math.Nat.le-min, lemmas.List.length-map}
+use Rattle.std.proofs.{Common.{◌≡◌, ℕ, ◌%◌, ◌^◌, ◌<◌, ◌≤◌, List, length, min, Option, Result, Ok, Err, refl, ap, sym, ◌∙◌, subst, arith}, Math.Nat.le-min, lemmas.List.length-map, lemmas.Option.{same_Some, slice_get_within}}
 use Rattle.std.specs.Prelude.{IfErr, IfOk}
 use Rattle.lert_base.specs.{declared.held.Held.{Ghosts as HeldOf}, Packet.Packet, declared.cone_fault.ConeFault.ConeFault}
 use Rattle.lert_bay.specs.Files.{Files}
 use Rattle.lert_cone.specs.Stands.{Standing, Terms}
+use Rattle.lert_fleet.proofs.Places.{image_at}
+use Rattle.lert_worker.proofs.crew.Lists.{same_lists}
 use Rattle.lert_spec.specs.declared.numbers.Numbers.{Numbers}
 use Rattle.lert_trace.specs.Reader.{Reading}
 use Rattle.lert_worker.specs.{crew.Crewed.{HasCrewed, end_at}, declared.end.WorkerEnd.WorkerEnd}
-use Rattle.lert_ingest.specs.{Back.AreSeen, Bays.{AreLater, bays_of}, Cones.{AreHeld, mades_of}, Ingest.{HasIngestedBehind, answer_of, first_of_all}, Past.past_of}
+use Rattle.lert_ingest.specs.{Back.AreSeen, Cones.{AreHeld, mades_of}, Ingest.{HasIngestedBehind, answer_of, first_of_all}, Past.past_of}
 use Rattle.lert_ingest.specs.{Readers.{AreReadable, given_of, opened_of, sources_of}, declared.status.Status.Status}
 use Rattle.lert_ingest.specs.declared.status.Status.TheVariants as status
 use Rattle.lert_ingest.proofs.{Assembling.{ingested, untouched}, Crewed.Crewed, Ended.{IsConeHeld, is_back}, Fewer.{ingested_fewer, same_workers}, Starting.{are_begun, seen_later}}
+
+-- a run leaves of which traces its readers are
+made_same : {S H T R : Type 0} (remaining : S → Option (List ℕ)) (faults mark : S → ℕ) (held : HeldOf H T R ConeFault) (s : Numbers) (olds news : List (Reading S)) (firsts backs : List H)
+    (ends : List WorkerEnd) → 1 ≤ length ends → HasCrewed remaining faults mark held s olds news firsts backs ends → opened_of news ≡ opened_of olds
+made_same {S = S} remaining faults mark held s olds news firsts backs ends some crewed =
+    same_lists (opened_of news) (opened_of olds)
+    (length-map news (λ (r : Reading S). r.made) ∙ (crewed.read_by.number ∙ sym (length-map olds (λ (r : Reading S). r.made)))) (λ trace x y is there.
+    let new = image_at (λ (r : Reading S). r.made) news trace x is in
+    let old = image_at (λ (r : Reading S). r.made) olds trace y there in
+    let below : trace % length ends < length ends = omega (arith, some) in
+    let place = (crewed.read_by.shared (trace % length ends) below).all trace (slice_get_within olds trace old.0 old.1) refl in
+    let at = crewed.read_by.each (trace % length ends) place.0 trace below place.1 in
+    let of = at.4 in
+    sym new.2 ∙ (ap (λ (r : Reading S). r.made) (same_Some new.0 at.0 (sym new.1 ∙ of.is))
+    ∙ (of.read_is.made_is ∙ (ap (λ (r : Reading S). r.made) (same_Some of.before old.0 (sym of.was ∙ old.1)) ∙ old.2))))
 
 module _ {S B R : Type 0} (remaining : S → Option (List ℕ)) (s_faults s_mark : S → ℕ) (files : B → Option Files) (leaves : B → Files → Type 0) (b_faults b_mark : B → ℕ)
     (held : HeldOf (Standing B) (Terms B) R ConeFault) (is_held : IsConeHeld files leaves b_faults b_mark held) (s : Numbers) (before : ℕ → List Packet) (olds : List (Reading S))
@@ -98,3 +115,10 @@ module _ {S B R : Type 0} (remaining : S → Option (List ℕ)) (s_faults s_mark
         IfErr ends (λ _. backs ≡ firsts) → length backs ≡ length firsts
     as_many_back (Ok es) crewed states_back = crewed.left_by.number
     as_many_back (Err e) crewed states_back = ap (λ (cs : List (Standing B)). length cs) states_back
+
+    -- the readers are of the same traces
+    pub opened_same : (ends : Result V E) (workers : ℕ) → 1 ≤ workers → 1 ≤ length olds → IfOk ends (λ es. length (items es) ≡ min workers (length olds)) →
+        IfOk ends (λ es. HasCrewed remaining s_faults s_mark held s olds news firsts backs (items es)) → IfErr ends (λ _. news ≡ olds) → opened_of news ≡ opened_of olds
+    opened_same (Ok es) workers one some busy crewed readers_back =
+        made_same remaining s_faults s_mark held s olds news firsts backs (items es) (let least = le-min one some in omega (arith, busy, least)) crewed
+    opened_same (Err e) workers one some busy crewed readers_back = ap opened_of readers_back

@@ -1,9 +1,8 @@
 -- Fresh readers and new cones: there was nothing before.
-use Rattle.std.proofs.Common.{◌≡◌, ℕ, ◌+◌, zero, suc, List, [], ◌∷◌, length, map, Option, Some, Result, slice_get, refl, ap, ◌∙◌, subst, arith}
-use Rattle.std.proofs.lemmas.Option.{slice_get-map}
+use Rattle.std.proofs.Common.{◌≡◌, ℕ, ◌+◌, zero, suc, List, [], ◌∷◌, map, Option, Result, refl, ap, ◌∙◌, subst, arith}
 use Rattle.lert_bay.specs.Files.{Files}
 use Rattle.lert_cone.specs.Stands.{Standing}
-use Rattle.lert_spec.specs.{declared.item.Item.Item, declared.numbers.Numbers.Numbers}
+use Rattle.lert_spec.specs.{declared.numbers.Numbers.Numbers}
 use Rattle.lert_trace.specs.{Reader.Reading, Trace.whole}
 use Rattle.lert_fleet.proofs.Places.{image_at}
 use Rattle.lert_ingest.specs.{Cones.{AreNew, mades_of}, Ingest.{HasIngested, HasIngestedBehind}, Past.{Past, no_past, past_of, rests_of}, Readers.{AreReadable, IsReadable, fresh_reader, fresh_readers, given_of, opened_of, sources_of}}

@@ -143,12 +143,6 @@ module _ {S B : Type 0} (remaining : S → Option (List ℕ)) (faults : S → �
   abbrev pub AreOpenPartly : (ℕ → ℕ → Type 0) → Type 0
   AreOpenPartly = AreOpenPartlyBehind (no_past s) remaining faults files bay_faults s workers opened opened now bays bays later
 
-  abbrev pub AreEnough : ℕ → ℕ → ℕ → Type 0
-  AreEnough = AreEnoughBehind (no_past s) remaining faults files bay_faults s workers opened opened now bays bays later
-
-  abbrev pub AreHeavyEnough : ℕ → ℕ → ℕ → Type 0
-  AreHeavyEnough = AreHeavyEnoughBehind (no_past s) remaining faults files bay_faults s workers opened opened now bays bays later
-
   abbrev pub StopShows : Status → Type 0
   StopShows = StopShowsBehind (no_past s) remaining faults files bay_faults s workers opened opened now bays bays later
 

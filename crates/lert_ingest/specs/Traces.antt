@@ -1,7 +1,7 @@
 -- What is known of the traces of a run: those that were opened, the same ones later, and the items of all.
-use Rattle.std.specs.Prelude.{◌≡◌, ◌⊎◌, ℕ, ◌+◌, ◌^◌, ◌<◌, ◌≤◌, List, [], drop, flat_map, length, map, sum_by, Option, Some, None, slice_get}
+use Rattle.std.specs.Prelude.{◌≡◌, ℕ, ◌≤◌, List, [], drop, flat_map, length, map, sum_by, Option, Some, None, slice_get}
 use Rattle.lert_io.specs.{Fault.{HasRisen, IsFaultless}, Reading.IfTold}
-use Rattle.lert_spec.specs.{declared.item.Item.Item, declared.numbers.Numbers.Numbers, Counts.{weighed, weight_of}, Edges.{capacity, weight_room}, Mix.part_in}
+use Rattle.lert_spec.specs.{declared.item.Item.Item, declared.numbers.Numbers.Numbers, Counts.{weighed, weight_of}, Mix.part_in}
 use Rattle.lert_trace.specs.Trace.{left, whole}
 
 -- the most items that a trace may have, 2^36
@@ -78,19 +78,3 @@ part_length s cone traces = sum_by (λ items. length (part_in weighed s cone ite
 -- and what they weigh
 abbrev pub part_weight : Numbers → ℕ → List (List Item) → ℕ
 part_weight s cone traces = sum_by (λ items. weight_of weighed (part_in weighed s cone items)) traces
-
--- each cone takes its part of the items of all traces, by their number and by their weight
-abbrev pub AllFit : Numbers → List (List Item) → Type 0
-AllFit s traces = (cone : ℕ) → cone < 2 ^ s.cone_bits → (part_length s cone traces ≤ capacity s) × (part_weight s cone traces ≤ weight_room s)
-
--- a cone has more items in all traces than it takes, or more weight
-abbrev pub IsOver : Numbers → List (List Item) → ℕ → Type 0
-IsOver s traces cone = (capacity s < part_length s cone traces) ⊎ (weight_room s < part_weight s cone traces)
-
--- a cone has as many items in all traces as a beginning of its journal and a packet together, or more
-abbrev pub HasThem : Numbers → List (List Item) → ℕ → ℕ → ℕ → Type 0
-HasThem s traces cone n len = n + len ≤ part_length s cone traces
-
--- and as much weight
-abbrev pub HasWeight : Numbers → List (List Item) → ℕ → ℕ → ℕ → Type 0
-HasWeight s traces cone weight more = weight + more ≤ part_weight s cone traces

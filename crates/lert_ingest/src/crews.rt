@@ -29,7 +29,11 @@ use std::thread::Threads;
 pub type Ingested<S, B, T> = (VecDeque<S>, Vec<Cone<B, T>>, Result<(), Status>);
 
 /// Readers, cones, and the answer of reading on.
-pub type IngestedRest<S, B, T> = (VecDeque<TraceReader<S>>, Vec<Cone<B, T>>, Result<(), Status>);
+pub type IngestedRest<S, B, T> = (
+    VecDeque<TraceReader<S>>,
+    Vec<Cone<B, T>>,
+    Result<(), Status>,
+);
 
 /// Reads 1 to 1,024 traces into cones that were just made, one for each number of the settings, by 1 to 64 workers on several threads.
 ///
@@ -93,7 +97,8 @@ where
     requires number { length cones.items ≡ 2 ^ settings.now.cone_bits }
     requires readable { AreReadable readers.items }
     requires held { (before : ℕ → List Packet) × AreHeld B.files B.leaves B.faults settings.now before cones.items }
-    ensures { (before : ℕ → List Packet) → AreHeld B.files B.leaves B.faults settings.now before cones.items →
+    ensures opened { opened_of result.0.items ≡ opened_of readers.items }
+    ensures ingested { (before : ℕ → List Packet) → AreHeld B.files B.leaves B.faults settings.now before cones.items →
         HasIngestedBehind (past_of settings.now (given_of readers.items) before) S.remaining S.faults S.mark B.files B.leaves B.faults B.mark
         settings.now workers (opened_of readers.items) (sources_of readers.items) (sources_of result.0.items)
         (mades_of cones.items) cones.items result.1.items result.2 }

@@ -1,4 +1,4 @@
-use Rattle.std.proofs.Common.{◌≡◌, ◌∙◌, List, [], length, ap, refl, sym, subst, arith}
+use Rattle.std.proofs.Common.{◌∙◌, List, [], length, ap, refl, sym, subst, arith}
 use Rattle.std.proofs.lemmas.List.{length-map}
 use Rattle.lert_trace.specs.Reader.{Reading}
 use Rattle.lert_ingest.specs.{Ingest.HasIngested, Readers.{AreReadable, fresh_reader}}
@@ -16,7 +16,7 @@ ingest_rest-readers-requires-clause-held g c κs within =
 
 pub close_readers-requires-clause-room : goal.close_readers-requires-clause-room
 close_readers-requires-clause-room g c =
-    let has = c.ingest_rest-readers.ensures (λ _. []) (new_held g.B.Bay.files g.B.Bay.leaves g.B.Faulty.faults c.args.settings.now c.args.cones.items c.requires.new_cones) in
+    let has = c.ingest_rest-readers.ensures.ingested (λ _. []) (new_held g.B.Bay.files g.B.Bay.leaves g.B.Faulty.faults c.args.settings.now c.args.cones.items c.requires.new_cones) in
     let news = sym (length-map c.ingest_rest-readers.result.0.items (λ (r : Reading _). r.source)) in
     let olds = length-map c.open_readers-readers.result.0.items (λ (r : Reading _). r.source) in
     let fresh = ap (λ (rs : List (Reading _)). length rs) c.open_readers-readers.ensures.readers ∙ length-map c.args.traces.items fresh_reader in
@@ -29,7 +29,7 @@ ingested : (g : given.Over) (c : After-close_readers g) → HasIngested g.S.Sour
 ingested g c = of_fresh g.S.Source.remaining g.S.Faulty.faults g.S.Faulty.mark g.B.Bay.files g.B.Bay.leaves g.B.Faulty.faults g.B.Faulty.mark c.args.settings.now c.args.workers
     c.args.traces.items c.open_readers-readers.result.0.items c.open_readers-readers.ensures.readers _ c.close_readers.result.items (sym c.close_readers.ensures) c.args.cones.items
     c.ingest_rest-readers.result.1.items c.requires.new_cones c.ingest_rest-readers.result.2
-    (c.ingest_rest-readers.ensures (λ _. []) (new_held g.B.Bay.files g.B.Bay.leaves g.B.Faulty.faults c.args.settings.now c.args.cones.items c.requires.new_cones))
+    (c.ingest_rest-readers.ensures.ingested (λ _. []) (new_held g.B.Bay.files g.B.Bay.leaves g.B.Faulty.faults c.args.settings.now c.args.cones.items c.requires.new_cones))
 
 pub returns : goal.returns
 returns g c = record {

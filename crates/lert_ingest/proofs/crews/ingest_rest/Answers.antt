@@ -4,7 +4,7 @@ use Rattle.lert_cone.proofs.ConeSend.{cone_send}
 use Rattle.std.proofs.{Common.{◌≡◌, ◌∙◌, List, length, ap, refl, sym, subst, arith}, lemmas.Bool.false≢true}
 use Rattle.lert_cone.specs.{Locked.is_stopped, Stands.Standing}
 use Rattle.lert_ingest.specs.Back.{AreSeen}
-use Rattle.lert_ingest.proofs.{Finishing.{as_many_back, of_answer}, Starting.{all_fit_new, all_opened, few_cones}}
+use Rattle.lert_ingest.proofs.{Finishing.{as_many_back, of_answer, opened_same}, Starting.{all_fit_new, all_opened, few_cones}}
 use Rattle.lert_ingest.proofs.crews.ingest_rest.Given as given
 use Rattle.lert_ingest.proofs.crews.ingest_rest.Goals as goal
 use Rattle.lert_ingest.proofs.crews.ingest_rest.Goals.{After-run_crew-readers}
@@ -37,13 +37,13 @@ run_crew-readers-requires-clause-fits g c κs within =
 -- as many cones come back as there were
 counted : (g : given.Over) (c : After-run_crew-readers g) → length c.run_crew-readers.result.states.items ≡ length c.args.cones.items
 counted g c = as_many_back g.S.Source.remaining g.S.Faulty.faults g.S.Faulty.mark g.B.Bay.files g.B.Bay.leaves g.B.Faulty.faults g.B.Faulty.mark _ (record {
-      terms_are = λ _. refl;
-      stands = λ _ _ stands. stands;
-      stood = λ _ _ stands. stands;
-      stopped_is = λ cone stopped running. false≢true (sym (ap is_stopped running) ∙ stopped);
-      over_is = λ _. refl;
-      refuses = λ _ _ _ _ why. why;
-    }) c.args.settings.now c.requires.held.0 c.args.readers.items c.requires.readable c.args.cones.items c.requires.number c.requires.held.1 (λ es. es.items)
+  terms_are = λ _. refl;
+  stands = λ _ _ stands. stands;
+  stood = λ _ _ stands. stands;
+  stopped_is = λ cone stopped running. false≢true (sym (ap is_stopped running) ∙ stopped);
+  over_is = λ _. refl;
+  refuses = λ _ _ _ _ why. why;
+}) c.args.settings.now c.requires.held.0 c.args.readers.items c.requires.readable c.args.cones.items c.requires.number c.requires.held.1 (λ es. es.items)
     c.run_crew-readers.result.readers.items c.run_crew-readers.result.states.items c.run_crew-readers.result.ends
     c.run_crew-readers.ensures.ran c.run_crew-readers.ensures.states_back
 
@@ -54,15 +54,27 @@ answer-answer-requires g c =
     let most = few_cones c.args.settings.now c.args.cones.items c.requires.number c.requires.held.1 in
     omega (arith, shown, back, most)
 
-pub returns : goal.returns
-returns g c = λ before held. of_answer g.S.Source.remaining g.S.Faulty.faults g.S.Faulty.mark g.B.Bay.files g.B.Bay.leaves g.B.Faulty.faults g.B.Faulty.mark _ (record {
-      terms_are = λ _. refl;
-      stands = λ _ _ stands. stands;
-      stood = λ _ _ stands. stands;
-      stopped_is = λ cone stopped running. false≢true (sym (ap is_stopped running) ∙ stopped);
-      over_is = λ _. refl;
-      refuses = λ _ _ _ _ why. why;
-    }) c.args.settings.now before c.args.readers.items c.requires.readable c.args.cones.items c.requires.number held (λ es. es.items)
+pub returns-clause-opened : goal.returns-clause-opened
+returns-clause-opened g c = opened_same g.S.Source.remaining g.S.Faulty.faults g.S.Faulty.mark g.B.Bay.files g.B.Bay.leaves g.B.Faulty.faults g.B.Faulty.mark _ (record {
+  terms_are = λ _. refl;
+  stands = λ _ _ stands. stands;
+  stood = λ _ _ stands. stands;
+  stopped_is = λ cone stopped running. false≢true (sym (ap is_stopped running) ∙ stopped);
+  over_is = λ _. refl;
+  refuses = λ _ _ _ _ why. why;
+}) c.args.settings.now c.requires.held.0 c.args.readers.items c.requires.readable c.args.cones.items c.requires.number c.requires.held.1 (λ es. es.items)
+    c.run_crew-readers.result.readers.items c.run_crew-readers.result.states.items c.run_crew-readers.result.ends c.args.workers
+    c.requires.least c.requires.some c.run_crew-readers.ensures.busy c.run_crew-readers.ensures.ran c.run_crew-readers.ensures.readers_back
+
+pub returns-clause-ingested : goal.returns-clause-ingested
+returns-clause-ingested g c = λ before held. of_answer g.S.Source.remaining g.S.Faulty.faults g.S.Faulty.mark g.B.Bay.files g.B.Bay.leaves g.B.Faulty.faults g.B.Faulty.mark _ (record {
+  terms_are = λ _. refl;
+  stands = λ _ _ stands. stands;
+  stood = λ _ _ stands. stands;
+  stopped_is = λ cone stopped running. false≢true (sym (ap is_stopped running) ∙ stopped);
+  over_is = λ _. refl;
+  refuses = λ _ _ _ _ why. why;
+}) c.args.settings.now before c.args.readers.items c.requires.readable c.args.cones.items c.requires.number held (λ es. es.items)
     c.run_crew-readers.result.readers.items c.run_crew-readers.result.states.items c.run_crew-readers.result.ends c.args.workers
     c.requires.least c.requires.some c.run_crew-readers.ensures.busy c.run_crew-readers.ensures.ran c.run_crew-readers.ensures.readers_back c.run_crew-readers.ensures.states_back
     (subst (AreSeen g.B.Bay.files g.B.Faulty.faults g.B.Faulty.mark) c.deref.ensures.value c.first_of_cones.ensures.seen)
