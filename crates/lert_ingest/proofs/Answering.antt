@@ -9,10 +9,11 @@ use Rattle.lert_trace.specs.{Reader.Reading, declared.fault.TraceFault.TraceFaul
 use Rattle.lert_trace.specs.declared.fault.TraceFault.TheVariants as trace_fault
 use Rattle.lert_worker.specs.{Ends.{IsAtEnd, Stopped}, declared.end.WorkerEnd.WorkerEnd}
 use Rattle.lert_worker.specs.declared.end.WorkerEnd.TheVariants as end
-use Rattle.lert_ingest.specs.{Bays.bays_of, Faults.end_fault, Stops.{AreTelling, IsExactBehind}, Past.{AllFitBehind, IsOverBehind, Past, rests_of}, Cones.mades_of, Traces.{part_length, part_weight}, declared.status.Status.Status}
+use Rattle.lert_ingest.specs.{Bays.bays_of, Faults.end_fault, Cones.mades_of}
+use Rattle.lert_ingest.specs.{Stops.{AreTelling, IsExactBehind}, Past.{AllFitBehind, IsOverBehind, Past, rests_of}, Traces.{part_length, part_weight}, declared.status.Status.Status}
 use Rattle.lert_ingest.specs.declared.status.Status.TheVariants as status
 use Rattle.lert_ingest.proofs.{BayLaws.{bay_at, made_at, slice_get-some, told_later}, Completing.{all_fit, read_to_end}, Crewed.{Crewed, IsTraceRead, as_many, first_fault, past, read_at, shared_all}}
-use Rattle.lert_ingest.proofs.{Exactly.{MayBe, may_bad, may_full, may_heavy, may_memory, bytes_at, bytes_of, fault_risen, few_at, items_same, may_be}, FaultOrder.IsNotAfter, Holding.none_full}
+use Rattle.lert_ingest.proofs.{Exactly.{MayBe, may_bad, may_full, may_heavy, may_memory, bytes_at, bytes_of, fault_risen, few_at, rests_same, may_be}, FaultOrder.IsNotAfter, Holding.none_full}
 use Rattle.lert_ingest.proofs.{Judging.{IsStop, bays_later, begun, cone_at, of_ends, running_told, shared, stop_shows, trace_stop, traces}, Told.{are_items, named, there_is}}
 
 -- a cone that takes all has neither too many items nor too heavy ones
@@ -42,7 +43,7 @@ module _ {S B : Type 0} (crew : Crewed S B) where
           let now = told_later files b_faults b_mark (mades_of firsts) (bays_of backs) (bays_later crew) are.told cone c.closed.bay (bay_at backs cone c.closed c.closed_is) in
           let running = running_told crew one found cone c
           (are.faultless cone c.first.made c.closed.bay (made_at firsts cone c.first c.first_is) (bay_at backs cone c.closed c.closed_is)) now.0 now.1 in
-          let same = items_same remaining given opened texts (traces crew) are.bytes_are (are_items crew.read) in
+          let same = rests_same remaining given opened texts (traces crew) are.bytes_are (are_items crew.read) in
           let enough = fits cone (subst (λ n. cone < n) left_by.cones_are within) in
           none_full files leaves b_faults b_mark s workers some cone before (traces crew) shares reads stopped ends (shared crew) (added cone) (turned cone) c.left c.first c.closed c.back
           (begun crew) (subst (λ (ts : List (List Item)). (length (events_of (before cone)) + part_length s cone ts ≤ capacity s)
@@ -122,7 +123,8 @@ module _ {S B : Type 0} (crew : Crewed S B) where
             by_fault trace_fault.TooLong stop =
                 let text = bytes_of remaining opened texts are.bytes_are other stop.before stop.opened_is in
                 absurd (let many = stop.means.1 text.0 text.2 in let most =
-                few_at remaining s_faults files b_faults s given before workers opened were laters (mades_of firsts) (bays_of firsts) (bays_of backs) texts are other text.0 text.1 in omega (arith, many, most))
+                few_at remaining s_faults files b_faults s given before workers opened were laters (mades_of firsts) (bays_of firsts) (bays_of backs) texts are other text.0 text.1 in
+                omega (arith, many, most))
 
         -- so it is answered, or want of memory
         pub lowest : (other place : ℕ) (text : List ℕ) → one ≡ status.BadTrace other place → slice_get texts other ≡ Some text → left text ≡ Some place
@@ -142,7 +144,8 @@ module _ {S B : Type 0} (crew : Crewed S B) where
         where
           go : (answer : Option Status) → first_fault crew ≡ answer → P
           go None is = if_none is
-          go (Some one) is = if_some one is (may_be remaining s_faults files b_faults s given before workers opened were laters (mades_of firsts) (bays_of firsts) (bays_of backs) texts are one (stop_shows crew one is))
+          go (Some one) is = if_some one is
+              (may_be remaining s_faults files b_faults s given before workers opened were laters (mades_of firsts) (bays_of firsts) (bays_of backs) texts are one (stop_shows crew one is))
 
       if_bad : AllFitBehind (past crew) s (rests_of given texts) → (trace at : ℕ) (bytes : List ℕ) → slice_get texts trace ≡ Some bytes → left bytes ≡ Some at →
           ((other : ℕ) (lower : List ℕ) → other < trace → slice_get texts other ≡ Some lower → left lower ≡ None) → fails (status.BadTrace trace at) ⊎ fails status.OutOfMemory
@@ -162,7 +165,7 @@ module _ {S B : Type 0} (crew : Crewed S B) where
       if_full : All (λ bytes. left bytes ≡ None) texts → (over : ℕ) → over < 2 ^ s.cone_bits → IsOverBehind (past crew) s (rests_of given texts) over →
           ((cone n len : ℕ) × fails (status.CapacityFull cone n len)) ⊎ (((cone weight more : ℕ) × fails (status.WeightFull cone weight more)) ⊎ fails status.OutOfMemory)
       if_full well over below is_over = by_answer (λ none.
-          let same = items_same remaining given opened texts (traces crew) are.bytes_are (are_items crew.read) in
+          let same = rests_same remaining given opened texts (traces crew) are.bytes_are (are_items crew.read) in
           let closed = slice_get-some backs over (let n = left_by.number in let m = left_by.cones_are in omega (arith, n, m, below)) in
           let now = told_later files b_faults b_mark (mades_of firsts) (bays_of backs) (bays_later crew) are.told over closed.0.bay (bay_at backs over closed.0 closed.1) in
           let taken = all_fit crew none over closed.0.bay (bay_at backs over closed.0 closed.1) in

@@ -5,9 +5,10 @@ use Rattle.std.specs.Prelude.{IfErr, OnOk}
 use Rattle.lert_bay.specs.Files.{Files}
 use Rattle.lert_cone.specs.Stands.{Standing}
 use Rattle.lert_spec.specs.declared.numbers.Numbers.{Numbers}
-use Rattle.lert_ingest.specs.{Bays.{AreLater, bays_of}, Cones.mades_of, Ingest.{HasIngestedBehind, answer_of}, Past.Past, Stops.{AreIngestedBehind, StopShowsBehind, out_of_memory}, declared.status.Status.Status}
+use Rattle.lert_ingest.specs.{Bays.{AreLater, bays_of}, Cones.mades_of, Ingest.{HasIngestedBehind, answer_of}, Past.Past}
+use Rattle.lert_ingest.specs.{Stops.{AreIngestedBehind, StopShowsBehind, out_of_memory}, declared.status.Status.Status}
 use Rattle.lert_ingest.specs.declared.status.Status.TheVariants as status
-use Rattle.lert_ingest.proofs.{Answering.is_exact, Crewed.{Crewed, first_fault, past}, Completing.{all_fit, are_weaving, items_are, read_to_end, traces_later}, Exactly.exact_memory}
+use Rattle.lert_ingest.proofs.{Answering.is_exact, Crewed.{Crewed, first_fault, past}, Completing.{all_fit, are_weaving, items_are, read_to_end, traces_later}, Exactly.exact_memory_behind}
 use Rattle.lert_ingest.proofs.Judging.{bays_later, stop_shows, traces}
 
 module _ {S B : Type 0} (past : Past) (remaining : S → Option (List ℕ)) (s_faults s_mark : S → ℕ) (files : B → Option Files) (leaves : B → Files → Type 0) (b_faults b_mark : B → ℕ)
@@ -27,7 +28,7 @@ module _ {S B : Type 0} (past : Past) (remaining : S → Option (List ℕ)) (s_f
         };
         read = tt;
         stopped = out_of_memory refl refl;
-        exact = exact_memory remaining s_faults files b_faults s past opened were were workers bays (bays_of firsts) (bays_of firsts) _ _ (λ texts are. refl);
+        exact = exact_memory_behind remaining s_faults files b_faults s past opened were were workers bays (bays_of firsts) (bays_of firsts) _ _ (λ texts are. refl);
       }))
 
 -- all that a crew did

@@ -87,7 +87,8 @@ module _ {S : Type 0} (crew : ReadCrew S) where
       )
 
 -- of a crew each worker left its packets in the cones, which came back
-pub record AreConesLeft {B : Type 0} (files : B → Option Files) (leaves : B → Files → Type 0) (faults mark : B → ℕ) (s : Numbers) (before : ℕ → List Packet) (workers : ℕ) (firsts backs : List (Standing B))
+pub record AreConesLeft {B : Type 0} (files : B → Option Files) (leaves : B → Files → Type 0) (faults mark : B → ℕ) (s : Numbers) (before : ℕ → List Packet)
+    (workers : ℕ) (firsts backs : List (Standing B))
     (shares : ℕ → List ℕ) (reads : ℕ → List (List Item)) (stopped : ℕ → ℕ) (ends : ℕ → WorkerEnd)
     (added : ℕ → ℕ → List Packet) (turned : ℕ → ℕ → List (Packet × ConeFault)) : Type 0 where
   pub cones_are : length firsts ≡ 2 ^ s.cone_bits

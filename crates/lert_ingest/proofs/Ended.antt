@@ -21,7 +21,8 @@ pub record IsConeHeld {B R : Type 0} (files : B → Option Files) (leaves : B �
   pub refuses : (terms : Terms B) (history : List Packet) (packet : Packet) (fault : ConeFault) → held.refuses terms history packet fault → RefusesUnder terms history packet fault
 
 module _ {B R : Type 0} (files : B → Option Files) (leaves : B → Files → Type 0) (faults mark : B → ℕ) (held : HeldOf (Standing B) (Terms B) R ConeFault)
-    (is_held : IsConeHeld files leaves faults mark held) (s : Numbers) (workers number : ℕ) (before : List Packet) (added : ℕ → List Packet) (turned : ℕ → List (Packet × ConeFault)) (first closed : Standing B)
+    (is_held : IsConeHeld files leaves faults mark held) (s : Numbers) (workers number : ℕ) (before : List Packet) (added : ℕ → List Packet) (turned : ℕ → List (Packet × ConeFault))
+    (first closed : Standing B)
     (new : IsHeld files leaves faults s number before first) (back : IsStateBack held workers added turned first closed) where
   stood_first : held.stands_for first before
   stood_first = is_held.stood first before new.stands

@@ -9,7 +9,7 @@ use Rattle.lert_spec.specs.{declared.item.Item.Item, declared.numbers.Numbers.Nu
 use Rattle.lert_ingest.specs.{Bays.{ArePartWovenBehind, HoldsOpenBehind, HoldsPartBehind, bays_of}, Ingest.HasIngestedBehind, Past.Past}
 use Rattle.lert_ingest.specs.{Stops.{AreIngestedBehind, AreOpenPartlyBehind, StopShowsBehind}, declared.status.Status.Status}
 use Rattle.lert_ingest.specs.Stops.{trace_fault, bad_trace, too_long, bay_fault, malformed, capacity_full, weight_full, out_of_memory}
-use Rattle.lert_ingest.proofs.Exactly.{exact_turned}
+use Rattle.lert_ingest.proofs.Exactly.{exact_turned_behind}
 
 -- each of so many traces is read by the worker of one number, whether there are so many workers or so many
 abbrev pub AreReadBySame : ℕ → ℕ → ℕ → Type 0
@@ -118,7 +118,7 @@ module _ (s : Numbers) (fewer workers : ℕ) where
       traces_later = has.traces_later;
       read = reads result has.read;
       stopped = stopped result has.stopped;
-      exact = exact_turned remaining faults files bay_faults s past opened were now fewer workers bays (bays_of firsts) (bays_of backs) bays (bays_of firsts) (bays_of backs) _ _ _ _ (λ texts are. (
+      exact = exact_turned_behind remaining faults files bay_faults s past opened were now fewer workers bays (bays_of firsts) (bays_of backs) bays (bays_of firsts) (bays_of backs) _ _ _ _ (λ texts are. (
         record { told = are.told; faultless = are.faultless; traces_faultless = are.traces_faultless; bytes_are = are.bytes_are; few = are.few },
         λ ok. ok,
         λ one failed. failed,

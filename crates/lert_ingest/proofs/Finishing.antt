@@ -1,5 +1,6 @@
 -- How the calls that read traces into cones end.
-use Rattle.std.proofs.{Common.{◌≡◌, ℕ, ◌%◌, ◌^◌, ◌<◌, ◌≤◌, List, length, min, Option, Result, Ok, Err, refl, ap, sym, ◌∙◌, subst, arith}, Math.Nat.le-min, lemmas.List.length-map, lemmas.Option.{same_Some, slice_get_within}}
+use Rattle.std.proofs.Common.{◌≡◌, ℕ, ◌%◌, ◌^◌, ◌<◌, ◌≤◌, List, length, min, Option, Result, Ok, Err, refl, ap, sym, ◌∙◌, subst, arith}
+use Rattle.std.proofs.{Math.Nat.le-min, lemmas.List.length-map, lemmas.Option.{same_Some, slice_get_within}}
 use Rattle.std.specs.Prelude.{IfErr, IfOk}
 use Rattle.lert_base.specs.{declared.held.Held.{Ghosts as HeldOf}, Packet.Packet, declared.cone_fault.ConeFault.ConeFault}
 use Rattle.lert_bay.specs.Files.{Files}

@@ -5,9 +5,10 @@ use Rattle.lert_cone.specs.Stands.{Standing}
 use Rattle.lert_spec.specs.{declared.numbers.Numbers.Numbers}
 use Rattle.lert_trace.specs.{Reader.Reading, Trace.whole}
 use Rattle.lert_fleet.proofs.Places.{image_at}
-use Rattle.lert_ingest.specs.{Cones.{AreNew, mades_of}, Ingest.{HasIngested, HasIngestedBehind}, Past.{Past, no_past, past_of, rests_of}, Readers.{AreReadable, IsReadable, fresh_reader, fresh_readers, given_of, opened_of, sources_of}}
+use Rattle.lert_ingest.specs.{Cones.{AreNew, mades_of}, Ingest.{HasIngested, HasIngestedBehind}, Past.{Past, no_past, past_of}}
+use Rattle.lert_ingest.specs.Readers.{AreReadable, IsReadable, fresh_reader, fresh_readers, given_of, opened_of, sources_of}
 use Rattle.lert_ingest.specs.{Bays.bays_of, Traces.{part_length, part_weight}, declared.status.Status.Status}
-use Rattle.lert_ingest.proofs.Starting.{new_mades}
+use Rattle.lert_ingest.proofs.{Exactly.rests_none, Starting.new_mades}
 
 -- the traces of readers that were just made
 sources_fresh : {S : Type 0} (traces : List S) → sources_of (fresh_readers traces) ≡ traces
@@ -32,10 +33,6 @@ fresh_readable traces trace reader is =
     let source = image_at fresh_reader traces trace reader is in
     subst IsReadable source.2 (record { limit_is = refl; within = omega arith; no_fault = refl })
 
-rests_none : (texts : List (List ℕ)) → rests_of (λ _. 0) texts ≡ map whole texts
-rests_none [] = refl
-rests_none (text ∷ texts) = ap (λ xs. whole text ∷ xs) (rests_none texts)
-
 none_more : (n : ℕ) → 0 + n ≡ n
 none_more n = omega arith
 
@@ -59,7 +56,8 @@ module _ {S B : Type 0} (remaining : S → Option (List ℕ)) (s_faults s_mark :
       (ap (λ given. past_of s given (λ _. [])) (ap given_of olds_are ∙ given_fresh opened) ∙ past_none s)
       (subst (λ ts. HasIngestedBehind (past_of s (given_of olds) (λ _. [])) remaining s_faults s_mark files leaves b_faults b_mark s workers ts opened now (bays_of firsts) firsts backs result)
       (ap opened_of olds_are ∙ opened_fresh opened)
-      (subst (λ ts. HasIngestedBehind (past_of s (given_of olds) (λ _. [])) remaining s_faults s_mark files leaves b_faults b_mark s workers (opened_of olds) ts now (bays_of firsts) firsts backs result)
+      (subst (λ ts. HasIngestedBehind (past_of s (given_of olds) (λ _. [])) remaining s_faults s_mark files leaves b_faults b_mark s workers (opened_of olds) ts now (bays_of firsts)
+      firsts backs result)
       (ap sources_of olds_are ∙ sources_fresh opened)
       (subst (λ ts. HasIngestedBehind (past_of s (given_of olds) (λ _. [])) remaining s_faults s_mark files leaves b_faults b_mark s workers (opened_of olds) (sources_of olds) ts (bays_of firsts)
       firsts backs result) laters_are

@@ -42,7 +42,12 @@ module _ {B : Type 0} (files : B → Option Files) (leaves : B → Files → Typ
         by_sound seen (inl sound) = record { history = back.history; woven = woven_part; sound = of_cone (before number ++ back.history) seen sound }
         by_sound seen (inr more) =
             let over = back.over_is more.0 more.1 in
-            record { history = back.history ++ more.0 ∷ []; woven = woven_over more.0.by over.1 more.0 over.0 over.2; sound = subst (λ h. IsSound s number h seen) (append_assoc (before number) back.history (more.0 ∷ [])) (of_cone ((before number ++ back.history) ++ more.0 ∷ []) seen more.2) }
+            record {
+              history = back.history ++ more.0 ∷ [];
+              woven = woven_over more.0.by over.1 more.0 over.0 over.2;
+              sound = subst (λ h. IsSound s number h seen) (append_assoc (before number) back.history (more.0 ∷ []))
+                  (of_cone ((before number ++ back.history) ++ more.0 ∷ []) seen more.2);
+            }
 
         by_state : (seen : Files) → files closed.bay ≡ Some seen → (b : Bool) → is_broken closed.state ≡ b → HoldsPartBehind before s workers traces number seen
         by_state seen told false is = record {
@@ -61,7 +66,8 @@ module _ {B : Type 0} (files : B → Option Files) (leaves : B → Files → Typ
         record {
           history = back.history;
           woven = woven_part;
-          sound = subst (λ n. IsSoundAs s n false (before number ++ back.history) seen) back.number_is (subst (λ (t : Numbers). IsSoundAs t closed.listing.cone false (before number ++ back.history) seen) back.settings_is
+          sound = subst (λ n. IsSoundAs s n false (before number ++ back.history) seen) back.number_is
+              (subst (λ (t : Numbers). IsSoundAs t closed.listing.cone false (before number ++ back.history) seen) back.settings_is
               (subst (λ b. IsSoundAs closed.listing.settings closed.listing.cone b (before number ++ back.history) seen) (not_closed running) whole.files.kept.as_read));
           no_rest = no_rest;
         }
@@ -113,7 +119,8 @@ module _ {B : Type 0} (files : B → Option Files) (leaves : B → Files → Typ
         by_case (inl stopped) = stopped running
         by_case (inr full) = elim (by_rule s (events_of (before number ++ full.past)) e.0.items f full.refused) [
           | inl rule ↦
-              let many : length (events_of (before number ++ full.past)) + length e.0.items ≤ length (events_of (before number)) + part_length s number traces = enough (λ items. length items) length_adds by below e.0 f has full in
+              let many : length (events_of (before number ++ full.past)) + length e.0.items ≤ length (events_of (before number)) + part_length s number traces =
+              enough (λ items. length items) length_adds by below e.0 f has full in
               let most = fits.0 in
               let over = rule.over in
               omega (arith, most, many, over)

@@ -39,7 +39,8 @@ module _ {B : Type 0} (files : B → Option Files) (leaves : B → Files → Typ
   }
 
 -- there are 1 to 256 of them
-pub few_cones : {B : Type 0} {files : B → Option Files} {leaves : B → Files → Type 0} {faults : B → ℕ} {before : ℕ → List Packet} (s : Numbers) (cones : List (Standing B)) → length cones ≡ 2 ^ s.cone_bits →
+pub few_cones : {B : Type 0} {files : B → Option Files} {leaves : B → Files → Type 0} {faults : B → ℕ} {before : ℕ → List Packet} (s : Numbers) (cones : List (Standing B)) →
+    length cones ≡ 2 ^ s.cone_bits →
     AreHeld files leaves faults s before cones → length cones ≤ 256
 few_cones s cones number new =
     let some = one-le-pow s.cone_bits 2 (omega arith) in

@@ -4,7 +4,8 @@ use Rattle.lert_bay.specs.Files.{Files}
 use Rattle.lert_cone.specs.Stands.{Standing}
 use Rattle.lert_spec.specs.declared.numbers.Numbers.{Numbers}
 use Rattle.lert_worker.specs.{crew.Crewed.end_at, declared.end.WorkerEnd.WorkerEnd}
-use Rattle.lert_ingest.specs.{Bays.{AreLater, bays_of}, Faults.{earlier, earliest, end_fault, fault_at}, Past.{Past, no_past}, Stops.{AreIngestedBehind, IsExactBehind, StopShowsBehind}, Traces.AreTracesLater, declared.status.Status.Status}
+use Rattle.lert_ingest.specs.{Bays.{AreLater, bays_of}, Faults.{earlier, earliest, end_fault, fault_at}, Past.{Past, no_past}}
+use Rattle.lert_ingest.specs.{Stops.{AreIngestedBehind, IsExactBehind, StopShowsBehind}, Traces.AreTracesLater, declared.status.Status.Status}
 
 -- the fault that is answered, by how all workers ended and by the cones that came back
 abbrev pub first_of_all : {B : Type 0} → List WorkerEnd → List (Standing B) → Option Status
