@@ -1,53 +1,56 @@
 -- The exact answer of a crew of workers.
-use Rattle.std.proofs.{Common.{◌≡◌, ◌⊎◌, ℕ, ◌%◌, ◌^◌, ◌<◌, ◌≤◌, List, length, map, Option, Some, None, slice_get, refl, ap, sym, ◌∙◌, subst, inl, inr, arith}, lemmas.Bool.cases_lt}
+use Rattle.std.proofs.{Common.{◌≡◌, ◌⊎◌, ℕ, ◌+◌, ◌%◌, ◌^◌, ◌<◌, ◌≤◌, List, length, Option, Some, None, slice_get, refl, ap, sym, ◌∙◌, subst, inl, inr, arith}, lemmas.Bool.cases_lt}
 use Rattle.std.proofs.lemmas.Option.{get_or_from_slice_get, none-some, same_Some, slice_get_within}
 use Rattle.std.specs.Prelude.{All}
-use Rattle.lert_base.specs.declared.cone_fault.ConeFault.{ConeFault}
-use Rattle.lert_spec.specs.{declared.item.Item.Item, declared.numbers.Numbers.Numbers, Edges.{capacity, weight_room}}
-use Rattle.lert_trace.specs.Trace.{left, whole}
+use Rattle.lert_base.specs.{Packet.{events_of}, declared.cone_fault.ConeFault.ConeFault}
+use Rattle.lert_spec.specs.{declared.item.Item.Item, declared.numbers.Numbers.Numbers, Counts.{weighed, weight_of}, Edges.{capacity, weight_room}}
+use Rattle.lert_trace.specs.Trace.{left}
 use Rattle.lert_trace.specs.{Reader.Reading, declared.fault.TraceFault.TraceFault}
 use Rattle.lert_trace.specs.declared.fault.TraceFault.TheVariants as trace_fault
 use Rattle.lert_worker.specs.{Ends.{IsAtEnd, Stopped}, declared.end.WorkerEnd.WorkerEnd}
 use Rattle.lert_worker.specs.declared.end.WorkerEnd.TheVariants as end
-use Rattle.lert_ingest.specs.{Bays.bays_of, Faults.end_fault, Stops.{AreTelling, IsExact}, Traces.{AllFit, IsOver, part_length, part_weight}, declared.status.Status.Status}
+use Rattle.lert_ingest.specs.{Bays.bays_of, Faults.end_fault, Cones.mades_of}
+use Rattle.lert_ingest.specs.{Stops.{AreTelling, IsExactBehind}, Past.{AllFitBehind, IsOverBehind, Past, rests_of}, Traces.{part_length, part_weight}, declared.status.Status.Status}
 use Rattle.lert_ingest.specs.declared.status.Status.TheVariants as status
-use Rattle.lert_ingest.proofs.{BayLaws.{bay_at, slice_get-some, told_later}, Completing.{all_fit, read_to_end}, Crewed.{Crewed, IsTraceRead, as_many, first_fault, read_at, shared_all}}
-use Rattle.lert_ingest.proofs.{Exactly.{MayBe, may_bad, may_full, may_heavy, may_memory, bytes_at, bytes_of, fault_risen, few_at, items_same, may_be}, FaultOrder.IsNotAfter, Holding.none_full}
+use Rattle.lert_ingest.proofs.{BayLaws.{bay_at, made_at, slice_get-some, told_later}, Completing.{all_fit, read_to_end}, Crewed.{Crewed, IsTraceRead, as_many, first_fault, past, read_at, shared_all}}
+use Rattle.lert_ingest.proofs.{Exactly.{MayBe, may_bad, may_full, may_heavy, may_memory, bytes_at, bytes_of, fault_risen, few_at, rests_same, may_be}, FaultOrder.IsNotAfter, Holding.none_full}
 use Rattle.lert_ingest.proofs.{Judging.{IsStop, bays_later, begun, cone_at, of_ends, running_told, shared, stop_shows, trace_stop, traces}, Told.{are_items, named, there_is}}
 
 -- a cone that takes all has neither too many items nor too heavy ones
-not_over : (s : Numbers) (traces : List (List Item)) (over : ℕ) → (part_length s over traces ≤ capacity s) × (part_weight s over traces ≤ weight_room s) → IsOver s traces over → ⊥
-not_over s traces over fits (inl many) = omega (arith, fits.0, many)
-not_over s traces over fits (inr heavy) = omega (arith, fits.1, heavy)
+not_over : (past : Past) (s : Numbers) (traces : List (List Item)) (over : ℕ) → (past.many over traces ≤ capacity s) × (past.heavy over traces ≤ weight_room s) → IsOverBehind past s traces over →
+    ⊥
+not_over past s traces over fits (inl many) = omega (arith, fits.0, many)
+not_over past s traces over fits (inr heavy) = omega (arith, fits.1, heavy)
 
 well_at : (texts : List (List ℕ)) → All (λ bytes. left bytes ≡ None) texts → (trace : ℕ) (bytes : List ℕ) → slice_get texts trace ≡ Some bytes → left bytes ≡ None
 well_at texts well trace bytes is = subst (λ (b : List ℕ). left b ≡ None) (get_or_from_slice_get texts trace bytes bytes is) (well trace bytes (slice_get_within texts trace bytes is))
 
 module _ {S B : Type 0} (crew : Crewed S B) where
-  open crew.read use {remaining, s_faults, s_mark, workers, some, opened, laters, shares, reads, was, readings, places, stopped, ends, run}
-  open crew use {files, leaves, b_faults, b_mark, s, firsts, backs, added, turned, left_by}
+  open crew.read use {remaining, s_faults, s_mark, workers, some, opened, given, were, laters, shares, reads, was, readings, places, stopped, ends, run}
+  open crew use {files, leaves, b_faults, b_mark, s, before, firsts, backs, added, turned, left_by}
 
   -- where all tell and no fault was counted
   abbrev Telling : List (List ℕ) → Type 0
-  Telling = AreTelling remaining s_faults files b_faults s workers opened laters (bays_of firsts) (bays_of backs)
+  Telling = AreTelling remaining s_faults files b_faults s workers opened laters (mades_of firsts) (bays_of backs)
 
   module _ (texts : List (List ℕ)) (are : Telling texts) where
-    module _ (one : Status) (found : first_fault crew ≡ Some one) (fits : AllFit s (map whole texts)) where
+    module _ (one : Status) (found : first_fault crew ≡ Some one) (fits : AllFitBehind (past crew) s (rests_of given texts)) where
       -- no worker stopped at a cone, where the cones take all whole items
       no_cone : (by : ℕ) → by < workers → (cone : ℕ) (f : ConeFault) → ends by ≡ end.Cone cone f → ⊥
       no_cone by below cone f is =
           let within = left_by.named by cone f below is in
           let c = cone_at crew cone within in
-          let now = told_later files b_faults b_mark (bays_of firsts) (bays_of backs) (bays_later crew) are.told cone c.closed.bay (bay_at backs cone c.closed c.closed_is) in
+          let now = told_later files b_faults b_mark (mades_of firsts) (bays_of backs) (bays_later crew) are.told cone c.closed.bay (bay_at backs cone c.closed c.closed_is) in
           let running = running_told crew one found cone c
-          (are.faultless cone c.first.bay c.closed.bay (bay_at firsts cone c.first c.first_is) (bay_at backs cone c.closed c.closed_is)) now.0 now.1 in
-          let same = items_same remaining opened texts (traces crew) are.bytes_are (are_items crew.read) in
+          (are.faultless cone c.first.made c.closed.bay (made_at firsts cone c.first c.first_is) (bay_at backs cone c.closed c.closed_is)) now.0 now.1 in
+          let same = rests_same remaining given opened texts (traces crew) are.bytes_are (are_items crew.read) in
           let enough = fits cone (subst (λ n. cone < n) left_by.cones_are within) in
-          none_full files leaves b_faults b_mark s workers some cone (traces crew) shares reads stopped ends (shared crew) (added cone) (turned cone) c.left c.first c.closed c.back
-          (begun crew) (subst (λ (ts : List (List Item)). (part_length s cone ts ≤ capacity s) × (part_weight s cone ts ≤ weight_room s)) (sym same) enough) running by below f is
+          none_full files leaves b_faults b_mark s workers some cone before (traces crew) shares reads stopped ends (shared crew) (added cone) (turned cone) c.left c.first c.closed c.back
+          (begun crew) (subst (λ (ts : List (List Item)). (length (events_of (before cone)) + part_length s cone ts ≤ capacity s)
+          × (weight_of weighed (events_of (before cone)) + part_weight s cone ts ≤ weight_room s)) (sym same) enough) running by below f is
 
       module _ (trace at : ℕ) (bytes : List ℕ) (is : slice_get texts trace ≡ Some bytes) (bad : left bytes ≡ Some at)
-          (lower : (other : ℕ) (before : List ℕ) → other < trace → slice_get texts other ≡ Some before → left before ≡ None) where
+          (lower : (other : ℕ) (text : List ℕ) → other < trace → slice_get texts other ≡ Some text → left text ≡ None) where
         first : (before : S) × (slice_get opened trace ≡ Some before) × (remaining before ≡ Some bytes)
         first = bytes_at remaining opened texts are.bytes_are trace bytes is
 
@@ -67,7 +70,7 @@ module _ {S B : Type 0} (crew : Crewed S B) where
         -- a trace that leaves the format isn't read to an end
         no_end : IsAtEnd remaining of.0 → ⊥
         no_end at_end =
-            let made : of.0.made ≡ first.0 = of.4.read_is.made_is ∙ same_Some of.4.before first.0 (sym of.4.was ∙ first.1) in
+            let made : of.0.made ≡ first.0 = of.4.read_is.made_is ∙ same_Some of.4.first.made first.0 (sym of.4.begun.made_is ∙ first.1) in
             let trace_of = at_end.told bytes (ap remaining made ∙ first.2) in
             none-some at (sym trace_of.well_formed ∙ bad)
 
@@ -120,7 +123,8 @@ module _ {S B : Type 0} (crew : Crewed S B) where
             by_fault trace_fault.TooLong stop =
                 let text = bytes_of remaining opened texts are.bytes_are other stop.before stop.opened_is in
                 absurd (let many = stop.means.1 text.0 text.2 in let most =
-                few_at remaining s_faults files b_faults s workers opened laters (bays_of firsts) (bays_of backs) texts are other text.0 text.1 in omega (arith, many, most))
+                few_at remaining s_faults files b_faults s given before workers opened were laters (mades_of firsts) (bays_of firsts) (bays_of backs) texts are other text.0 text.1 in
+                omega (arith, many, most))
 
         -- so it is answered, or want of memory
         pub lowest : (other place : ℕ) (text : List ℕ) → one ≡ status.BadTrace other place → slice_get texts other ≡ Some text → left text ≡ Some place
@@ -135,14 +139,15 @@ module _ {S B : Type 0} (crew : Crewed S B) where
   -- the answer
   module _ (ok : Type 0) (fails : Status → Type 0) (when_none : first_fault crew ≡ None → ok) (when_some : (one : Status) → first_fault crew ≡ Some one → fails one) where
     module _ (texts : List (List ℕ)) (are : Telling texts) where
-      by_answer : {P : Type 0} → (first_fault crew ≡ None → P) → ((one : Status) → first_fault crew ≡ Some one → MayBe s texts one → P) → P
+      by_answer : {P : Type 0} → (first_fault crew ≡ None → P) → ((one : Status) → first_fault crew ≡ Some one → MayBe (past crew) s texts one → P) → P
       by_answer {P} if_none if_some = go (first_fault crew) refl
         where
           go : (answer : Option Status) → first_fault crew ≡ answer → P
           go None is = if_none is
-          go (Some one) is = if_some one is (may_be remaining s_faults files b_faults s workers opened laters (bays_of firsts) (bays_of backs) texts are one (stop_shows crew one is))
+          go (Some one) is = if_some one is
+              (may_be remaining s_faults files b_faults s given before workers opened were laters (mades_of firsts) (bays_of firsts) (bays_of backs) texts are one (stop_shows crew one is))
 
-      if_bad : AllFit s (map whole texts) → (trace at : ℕ) (bytes : List ℕ) → slice_get texts trace ≡ Some bytes → left bytes ≡ Some at →
+      if_bad : AllFitBehind (past crew) s (rests_of given texts) → (trace at : ℕ) (bytes : List ℕ) → slice_get texts trace ≡ Some bytes → left bytes ≡ Some at →
           ((other : ℕ) (lower : List ℕ) → other < trace → slice_get texts other ≡ Some lower → left lower ≡ None) → fails (status.BadTrace trace at) ⊎ fails status.OutOfMemory
       if_bad fits trace at bytes is leaves lower = by_answer (λ none.
           let first = bytes_at remaining opened texts are.bytes_are trace bytes is in
@@ -150,38 +155,39 @@ module _ {S B : Type 0} (crew : Crewed S B) where
           let end = read_to_end crew none trace first.0 now.0 first.1 now.1 bytes first.2 in
           absurd (none-some at (sym end.well_formed ∙ leaves))) which
         where
-          which : (one : Status) → first_fault crew ≡ Some one → MayBe s texts one → fails (status.BadTrace trace at) ⊎ fails status.OutOfMemory
+          which : (one : Status) → first_fault crew ≡ Some one → MayBe (past crew) s texts one → fails (status.BadTrace trace at) ⊎ fails status.OutOfMemory
           which one found (may_bad other place text there leaves_at) =
               inl (subst fails (lowest texts are (status.BadTrace other place) found fits trace at bytes is leaves lower other place text refl there leaves_at) (when_some _ found))
           which one found (may_full cone n len named over) = absurd (let most = fits cone named in omega (arith, most.0, over))
           which one found (may_heavy cone weight more named over) = absurd (let most = fits cone named in omega (arith, most.1, over))
           which one found may_memory = inr (when_some _ found)
 
-      if_full : All (λ bytes. left bytes ≡ None) texts → (over : ℕ) → over < 2 ^ s.cone_bits → IsOver s (map whole texts) over →
+      if_full : All (λ bytes. left bytes ≡ None) texts → (over : ℕ) → over < 2 ^ s.cone_bits → IsOverBehind (past crew) s (rests_of given texts) over →
           ((cone n len : ℕ) × fails (status.CapacityFull cone n len)) ⊎ (((cone weight more : ℕ) × fails (status.WeightFull cone weight more)) ⊎ fails status.OutOfMemory)
       if_full well over below is_over = by_answer (λ none.
-          let same = items_same remaining opened texts (traces crew) are.bytes_are (are_items crew.read) in
+          let same = rests_same remaining given opened texts (traces crew) are.bytes_are (are_items crew.read) in
           let closed = slice_get-some backs over (let n = left_by.number in let m = left_by.cones_are in omega (arith, n, m, below)) in
-          let now = told_later files b_faults b_mark (bays_of firsts) (bays_of backs) (bays_later crew) are.told over closed.0.bay (bay_at backs over closed.0 closed.1) in
+          let now = told_later files b_faults b_mark (mades_of firsts) (bays_of backs) (bays_later crew) are.told over closed.0.bay (bay_at backs over closed.0 closed.1) in
           let taken = all_fit crew none over closed.0.bay (bay_at backs over closed.0 closed.1) in
-          absurd (not_over s (map whole texts) over (subst (λ (ts : List (List Item)). (part_length s over ts ≤ capacity s) × (part_weight s over ts ≤ weight_room s)) same
+          absurd (not_over (past crew) s (rests_of given texts) over (subst (λ (ts : List (List Item)). (length (events_of (before over)) + part_length s over ts ≤ capacity s)
+          × (weight_of weighed (events_of (before over)) + part_weight s over ts ≤ weight_room s)) same
           (taken.0, taken.1 now.0 now.1)) is_over)) which
         where
-          which : (one : Status) → first_fault crew ≡ Some one → MayBe s texts one →
+          which : (one : Status) → first_fault crew ≡ Some one → MayBe (past crew) s texts one →
               ((cone n len : ℕ) × fails (status.CapacityFull cone n len)) ⊎ (((cone weight more : ℕ) × fails (status.WeightFull cone weight more)) ⊎ fails status.OutOfMemory)
           which one found (may_bad other place text there leaves_at) = absurd (none-some place (sym (well_at texts well other text there) ∙ leaves_at))
           which one found (may_full cone n len named is) = inl (cone, n, len, when_some _ found)
           which one found (may_heavy cone weight more named is) = inr (inl (cone, weight, more, when_some _ found))
           which one found may_memory = inr (inr (when_some _ found))
 
-      if_complete : All (λ bytes. left bytes ≡ None) texts → AllFit s (map whole texts) → ok ⊎ fails status.OutOfMemory
+      if_complete : All (λ bytes. left bytes ≡ None) texts → AllFitBehind (past crew) s (rests_of given texts) → ok ⊎ fails status.OutOfMemory
       if_complete well fits = by_answer (λ none. inl (when_none none)) which
         where
-          which : (one : Status) → first_fault crew ≡ Some one → MayBe s texts one → ok ⊎ fails status.OutOfMemory
+          which : (one : Status) → first_fault crew ≡ Some one → MayBe (past crew) s texts one → ok ⊎ fails status.OutOfMemory
           which one found (may_bad other place text there leaves_at) = absurd (none-some place (sym (well_at texts well other text there) ∙ leaves_at))
           which one found (may_full cone n len named over) = absurd (let most = fits cone named in omega (arith, most.0, over))
           which one found (may_heavy cone weight more named over) = absurd (let most = fits cone named in omega (arith, most.1, over))
           which one found may_memory = inr (when_some _ found)
 
-    pub is_exact : IsExact remaining s_faults files b_faults s workers opened laters (bays_of firsts) (bays_of backs) ok fails
+    pub is_exact : IsExactBehind (past crew) remaining s_faults files b_faults s workers opened were laters (mades_of firsts) (bays_of firsts) (bays_of backs) ok fails
     is_exact = record { bad = if_bad; full = if_full; complete = if_complete }

@@ -4,7 +4,7 @@ use Rattle.std.proofs.{lemmas.Bool.cases_eq, lemmas.List.{get_or-set_same, lengt
 use Rattle.lert_bay.specs.Files.{Files}
 use Rattle.lert_cone.specs.Stands.{Standing}
 use Rattle.lert_io.proofs.Rising.{risen_since}
-use Rattle.lert_ingest.specs.Bays.{AreLater, AreMarked, AreTold, HasFailed, IsLater, IsUntold, bays_of}
+use Rattle.lert_ingest.specs.{Bays.{AreLater, AreMarked, AreTold, HasFailed, IsLater, IsUntold, bays_of}, Cones.mades_of}
 
 -- a write into a list changes one place
 pub slice_get-set_same : {X : Type 0} (xs : List X) (i : ℕ) (y : X) → i < length xs → slice_get (set xs i y) i ≡ Some y
@@ -50,6 +50,11 @@ pub bay_at : {B : Type 0} (cones : List (Standing B)) (at : ℕ) (cone : Standin
 bay_at (cone ∷ cones) zero other is = ap (λ (o : Standing _). Some o.bay) (same_Some cone other is)
 bay_at (cone ∷ cones) (suc at) other is = bay_at cones at other is
 bay_at [] at other is = absurd (cc)
+
+pub made_at : {B : Type 0} (cones : List (Standing B)) (at : ℕ) (cone : Standing B) → slice_get cones at ≡ Some cone → slice_get (mades_of cones) at ≡ Some cone.made
+made_at (cone ∷ cones) zero other is = ap (λ (o : Standing _). Some o.made) (same_Some cone other is)
+made_at (cone ∷ cones) (suc at) other is = made_at cones at other is
+made_at [] at other is = absurd (cc)
 
 pub bay_is : {B : Type 0} (cones : List (Standing B)) (at : ℕ) (cone : Standing B) (bay : B) → slice_get cones at ≡ Some cone →
     slice_get (bays_of cones) at ≡ Some bay → bay ≡ cone.bay

@@ -6,10 +6,10 @@ use Rattle.lert_base.specs.{Packet.Packet, Weave.{IsBrought, IsPartWoven, IsWove
 use Rattle.lert_bay.specs.Files.{Files}
 use Rattle.lert_cone.specs.Stands.{Standing}
 use Rattle.lert_spec.specs.{declared.item.Item.Item, declared.numbers.Numbers.Numbers}
-use Rattle.lert_ingest.specs.{Bays.{ArePartWoven, HoldsOpen, HoldsPart, bays_of}, Ingest.HasIngested}
-use Rattle.lert_ingest.specs.{Stops.{AreIngested, AreOpenPartly, StopShows}, declared.status.Status.Status}
+use Rattle.lert_ingest.specs.{Bays.{ArePartWovenBehind, HoldsOpenBehind, HoldsPartBehind, bays_of}, Ingest.HasIngestedBehind, Past.Past}
+use Rattle.lert_ingest.specs.{Stops.{AreIngestedBehind, AreOpenPartlyBehind, StopShowsBehind}, declared.status.Status.Status}
 use Rattle.lert_ingest.specs.Stops.{trace_fault, bad_trace, too_long, bay_fault, malformed, capacity_full, weight_full, out_of_memory}
-use Rattle.lert_ingest.proofs.Exactly.{exact_turned}
+use Rattle.lert_ingest.proofs.Exactly.{exact_turned_behind}
 
 -- each of so many traces is read by the worker of one number, whether there are so many workers or so many
 abbrev pub AreReadBySame : ℕ → ℕ → ℕ → Type 0
@@ -42,11 +42,12 @@ module _ (s : Numbers) (fewer workers : ℕ) where
     part_woven : (history : List Packet) → IsPartWoven s cone fewer traces history → IsPartWoven s cone workers traces history
     part_woven history is = record { each = λ k d below. brought _ (is.each k d below); joined = is.joined; cut = is.cut }
 
-    part_held : (seen : Files) → HoldsPart s fewer traces cone seen → HoldsPart s workers traces cone seen
-    part_held seen holds = record { history = holds.history; woven = part_woven holds.history holds.woven; sound = holds.sound }
+    part_held : (before : ℕ → List Packet) (seen : Files) → HoldsPartBehind before s fewer traces cone seen → HoldsPartBehind before s workers traces cone seen
+    part_held before seen holds = record { history = holds.history; woven = part_woven holds.history holds.woven; sound = holds.sound }
 
-    open_held : (still : ℕ → ℕ → Type 0) (seen : Files) → HoldsOpen s fewer traces still cone seen → HoldsOpen s workers traces still cone seen
-    open_held still seen holds = record {
+    open_held : (before : ℕ → List Packet) (still : ℕ → ℕ → Type 0) (seen : Files) → HoldsOpenBehind before s fewer traces still cone seen →
+        HoldsOpenBehind before s workers traces still cone seen
+    open_held before still seen holds = record {
       history = holds.history;
       woven = part_woven holds.history holds.woven;
       sound = holds.sound;
@@ -55,14 +56,14 @@ module _ (s : Numbers) (fewer workers : ℕ) where
 
   -- ---- all cones
 
-  module _ {S B : Type 0} (remaining : S → Option (List ℕ)) (faults mark : S → ℕ) (files : B → Option Files) (leaves : B → Files → Type 0)
-      (bay_faults bay_mark : B → ℕ) (opened now : List S) (same : AreReadBySame fewer workers (length opened)) where
+  module _ {S B : Type 0} (past : Past) (remaining : S → Option (List ℕ)) (faults mark : S → ℕ) (files : B → Option Files) (leaves : B → Files → Type 0)
+      (bay_faults bay_mark : B → ℕ) (opened were now : List S) (same : AreReadBySame fewer workers (length opened)) where
     -- of as many lists of items as there are traces
     of_items : (traces : List (List Item)) → length traces ≡ length opened → AreReadBySame fewer workers (length traces)
     of_items traces number = subst (AreReadBySame fewer workers) (sym number) same
 
-    ingested_by : (cones : List (Standing B)) → AreIngested remaining files leaves bay_faults s fewer opened now cones →
-        AreIngested remaining files leaves bay_faults s workers opened now cones
+    ingested_by : (cones : List (Standing B)) → AreIngestedBehind past remaining files leaves bay_faults s fewer opened now cones →
+        AreIngestedBehind past remaining files leaves bay_faults s workers opened now cones
     ingested_by cones are = record {
       traces = are.traces;
       items = are.items;
@@ -80,22 +81,23 @@ module _ (s : Numbers) (fewer workers : ℕ) where
       fits = are.fits;
     }
 
-    module _ (bays later : List B) where
-      held_partly : (traces : List (List Item)) → length traces ≡ length opened → ArePartWoven files s fewer later traces → ArePartWoven files s workers later traces
-      held_partly traces number are cone bay there seen told = part_held cone traces (of_items traces number) seen (are cone bay there seen told)
+    module _ (bays held later : List B) where
+      held_partly : (traces : List (List Item)) → length traces ≡ length opened → ArePartWovenBehind past.before files s fewer later traces →
+          ArePartWovenBehind past.before files s workers later traces
+      held_partly traces number are cone bay there seen told = part_held cone traces (of_items traces number) past.before seen (are cone bay there seen told)
 
-      open_by : (still : ℕ → ℕ → Type 0) → AreOpenPartly remaining faults files bay_faults s fewer opened now bays later still →
-          AreOpenPartly remaining faults files bay_faults s workers opened now bays later still
+      open_by : (still : ℕ → ℕ → Type 0) → AreOpenPartlyBehind past remaining faults files bay_faults s fewer opened were now bays held later still →
+          AreOpenPartlyBehind past remaining faults files bay_faults s workers opened were now bays held later still
       open_by still are = record {
         traces = are.traces;
         items = are.items;
         woven = held_partly are.traces are.items.number are.woven;
         still = λ cone before after was is faultless seen told.
-            open_held cone are.traces (of_items are.traces are.items.number) still seen (are.still cone before after was is faultless seen told);
+            open_held cone are.traces (of_items are.traces are.items.number) past.before still seen (are.still cone before after was is faultless seen told);
       }
 
-      stops_by : (answer : Status) → StopShows remaining faults files bay_faults s fewer opened now bays later answer →
-          StopShows remaining faults files bay_faults s workers opened now bays later answer
+      stops_by : (answer : Status) → StopShowsBehind past remaining faults files bay_faults s fewer opened were now bays held later answer →
+          StopShowsBehind past remaining faults files bay_faults s workers opened were now bays held later answer
       stops_by answer (trace_fault trace failed part) = trace_fault trace failed (open_by _ part)
       stops_by answer (bad_trace trace at bad part) = bad_trace trace at bad (open_by _ part)
       stops_by answer (too_long trace long part) = too_long trace long (open_by _ part)
@@ -108,27 +110,27 @@ module _ (s : Numbers) (fewer workers : ℕ) where
       stops_by answer (out_of_memory same_traces same_bays) = out_of_memory same_traces same_bays
 
     -- what a crew of fewer leaves, said of more
-    pub ingested_fewer : (firsts backs : List (Standing B)) (result : Result (Unit {0}) Status) →
-        HasIngested remaining faults mark files leaves bay_faults bay_mark s fewer opened now firsts backs result →
-        HasIngested remaining faults mark files leaves bay_faults bay_mark s workers opened now firsts backs result
-    ingested_fewer firsts backs result has = record {
+    pub ingested_fewer : (bays : List B) (firsts backs : List (Standing B)) (result : Result (Unit {0}) Status) →
+        HasIngestedBehind past remaining faults mark files leaves bay_faults bay_mark s fewer opened were now bays firsts backs result →
+        HasIngestedBehind past remaining faults mark files leaves bay_faults bay_mark s workers opened were now bays firsts backs result
+    ingested_fewer bays firsts backs result has = record {
       later = has.later;
       traces_later = has.traces_later;
       read = reads result has.read;
       stopped = stopped result has.stopped;
-      exact = exact_turned remaining faults files bay_faults s opened now fewer workers (bays_of firsts) (bays_of backs) (bays_of firsts) (bays_of backs) _ _ _ _ (λ texts are. (
+      exact = exact_turned_behind remaining faults files bay_faults s past opened were now fewer workers bays (bays_of firsts) (bays_of backs) bays (bays_of firsts) (bays_of backs) _ _ _ _ (λ texts are. (
         record { told = are.told; faultless = are.faultless; traces_faultless = are.traces_faultless; bytes_are = are.bytes_are; few = are.few },
         λ ok. ok,
         λ one failed. failed,
       )) has.exact;
     }
       where
-        reads : (answer : Result (Unit {0}) Status) → OnOk answer (AreIngested remaining files leaves bay_faults s fewer opened now backs) →
-            OnOk answer (AreIngested remaining files leaves bay_faults s workers opened now backs)
+        reads : (answer : Result (Unit {0}) Status) → OnOk answer (AreIngestedBehind past remaining files leaves bay_faults s fewer opened now backs) →
+            OnOk answer (AreIngestedBehind past remaining files leaves bay_faults s workers opened now backs)
         reads (Ok done) are = ingested_by backs are
         reads (Err status) are = tt
 
-        stopped : (answer : Result (Unit {0}) Status) → IfErr answer (StopShows remaining faults files bay_faults s fewer opened now (bays_of firsts) (bays_of backs)) →
-            IfErr answer (StopShows remaining faults files bay_faults s workers opened now (bays_of firsts) (bays_of backs))
+        stopped : (answer : Result (Unit {0}) Status) → IfErr answer (StopShowsBehind past remaining faults files bay_faults s fewer opened were now bays (bays_of firsts) (bays_of backs)) →
+            IfErr answer (StopShowsBehind past remaining faults files bay_faults s workers opened were now bays (bays_of firsts) (bays_of backs))
         stopped (Ok done) shows = tt
-        stopped (Err status) shows = stops_by (bays_of firsts) (bays_of backs) status shows
+        stopped (Err status) shows = stops_by bays (bays_of firsts) (bays_of backs) status shows

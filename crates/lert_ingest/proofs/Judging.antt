@@ -19,11 +19,11 @@ use Rattle.lert_worker.specs.{Brings.{HasNoRest, IsOwn}, Ran.StillOpen, Ends.Sto
 use Rattle.lert_worker.specs.declared.end.WorkerEnd.TheVariants as end
 use Rattle.lert_worker.proofs.crew.Weaving.{turned_part, was_turned}
 use Rattle.lert_worker.specs.crew.Shares.{IsShare, LeftIn}
-use Rattle.lert_ingest.specs.{Back.{IsBack, IsFullAt}, Bays.{AreLater, ArePartWoven, HoldsItems, HoldsPart, HoldsWeight, IfHeld, IsLater, bays_of}}
-use Rattle.lert_ingest.specs.{Faults.{earliest, end_fault, fault_at, fault_of, full_fault, rank, state_fault}, Status.stop_status, Stops.{AreOpenPartly, StopShows}}
+use Rattle.lert_ingest.specs.{Back.{IsBack, IsFullAt}, Bays.{AreLater, ArePartWovenBehind, HoldsItems, HoldsPartBehind, HoldsWeight, IfHeld, IsLater, bays_of}}
+use Rattle.lert_ingest.specs.{Faults.{earliest, end_fault, fault_at, fault_of, full_fault, rank, state_fault}, Status.stop_status, Stops.{AreOpenPartlyBehind, StopShowsBehind}, Cones.mades_of}
 use Rattle.lert_ingest.specs.{Traces.most_items, declared.status.Status.Status}
 use Rattle.lert_ingest.specs.declared.status.Status.TheVariants as status
-use Rattle.lert_ingest.proofs.{BayLaws.{bay_at, slice_get-some, untold_since}, Crewed.{Crewed, first_fault, read_at, shared_all}, FaultOrder.{IsFirstOf, each_of, of_all, of_two}}
+use Rattle.lert_ingest.proofs.{BayLaws.{bay_at, made_at, slice_get-some, untold_since}, Crewed.{Crewed, first_fault, past, read_at, shared_all}, FaultOrder.{IsFirstOf, each_of, of_all, of_two}}
 use Rattle.lert_ingest.proofs.{Counting.{length_adds, weight_adds}, Holding.{enough, holds_first, holds_open, holds_part, no_rest_of}}
 use Rattle.lert_ingest.proofs.{RuleLaws.{IsOverCapacity, IsOverWeight, by_rule}, Told.{all_begun, all_read, are_items}}
 
@@ -38,8 +38,8 @@ full_ranks cone (fault.WeightFull weight more) one some = subst (λ (x : Status)
 full_ranks cone (fault.OldJournal place) one none = absurd (none-some one none)
 
 module _ {S B : Type 0} (crew : Crewed S B) where
-  open crew.read use {remaining, s_faults, s_mark, workers, some, opened, laters, shares, reads, was, readings, places, stopped, ends, run}
-  open crew use {files, leaves, b_faults, b_mark, s, firsts, backs, added, turned, left_by}
+  open crew.read use {remaining, s_faults, s_mark, workers, some, opened, given, were, laters, shares, reads, was, readings, places, stopped, ends, run}
+  open crew use {files, leaves, b_faults, b_mark, s, before, firsts, backs, added, turned, left_by}
 
   abbrev pub traces : List (List Item)
   traces = (all_read crew.read).items
@@ -60,7 +60,7 @@ module _ {S B : Type 0} (crew : Crewed S B) where
     pub closed : Standing B
     pub first_is : slice_get firsts cone ≡ Some first
     pub closed_is : slice_get backs cone ≡ Some closed
-    pub back : IsBack files leaves b_faults b_mark s workers cone (added cone) (turned cone) first closed
+    pub back : IsBack files leaves b_faults b_mark s workers cone (before cone) (added cone) (turned cone) first closed
     pub left : (by : ℕ) → by < workers → LeftIn s by cone (shares by) (reads by) (stopped by) (ends by) (added cone by) (turned cone by)
 
   pub cone_at : (cone : ℕ) → cone < length firsts → IsCone cone
@@ -84,20 +84,20 @@ module _ {S B : Type 0} (crew : Crewed S B) where
       (c, same_Some c.closed.bay bay (sym (bay_at backs cone c.closed c.closed_is) ∙ is))
 
   -- all bays later
-  pub bays_later : AreLater files b_faults b_mark (bays_of firsts) (bays_of backs)
+  pub bays_later : AreLater files b_faults b_mark (mades_of firsts) (bays_of backs)
   bays_later = record {
-    number = length-map backs (λ (c : Standing B). c.bay) ∙ (left_by.number ∙ sym (length-map firsts (λ (c : Standing B). c.bay)));
-    each = λ cone before now was_is is.
+    number = length-map backs (λ (c : Standing B). c.bay) ∙ (left_by.number ∙ sym (length-map firsts (λ (c : Standing B). c.made)));
+    each = λ cone old now was_is is.
         let c = cone_of_bay cone now is in
-        subst (λ (b : B). IsLater files b_faults b_mark b now) (same_Some c.0.first.bay before (sym (bay_at firsts cone c.0.first c.0.first_is) ∙ was_is))
-        (subst (IsLater files b_faults b_mark c.0.first.bay) c.1 c.0.back.later);
+        subst (λ (b : B). IsLater files b_faults b_mark b now) (same_Some c.0.first.made old (sym (made_at firsts cone c.0.first c.0.first_is) ∙ was_is))
+        (subst (IsLater files b_faults b_mark c.0.first.made) c.1 c.0.back.later);
   }
 
-  pub parts_woven : ArePartWoven files s workers (bays_of backs) traces
+  pub parts_woven : ArePartWovenBehind before files s workers (bays_of backs) traces
   parts_woven = λ cone bay is.
       let c = cone_of_bay cone bay is in
-      subst (λ (b : B). IfTold (files b) (HoldsPart s workers traces cone)) c.1
-      (holds_part files leaves b_faults b_mark s workers some cone traces shares reads stopped ends shared (added cone) (turned cone) c.0.left c.0.first c.0.closed c.0.back (begun))
+      subst (λ (b : B). IfTold (files b) (HoldsPartBehind before s workers traces cone)) c.1
+      (holds_part files leaves b_faults b_mark s workers some cone before traces shares reads stopped ends shared (added cone) (turned cone) c.0.left c.0.first c.0.closed c.0.back (begun))
 
   -- the worker of a trace
   pub worker_of : (by place trace : ℕ) → by < workers → slice_get (shares by) place ≡ Some trace → trace % workers ≡ by
@@ -125,22 +125,22 @@ module _ {S B : Type 0} (crew : Crewed S B) where
       let there : slice_get (shares by) (places by) ≡ Some trace = stop.1 ∙ ap Some (sym stop.0) in
       let at = read_at crew.read by (places by) trace below there in
       let of = at.4 in
-      let why = of.read_is.caused refl f (stop.3 at.0 at.2) in
+      let why = of.read_is.caused of.begun.no_fault f (stop.3 at.0 at.2) in
       record {
-        before = of.before;
+        before = of.first.made;
         now = at.0.source;
         given = at.0.given;
-        opened_is = of.was;
+        opened_is = of.begun.made_is;
         later_is = of.is;
-        means = subst (λ n. Means remaining s_faults of.before at.0.source n at.0.given f) of.read_is.limit_is
+        means = subst (λ n. Means remaining s_faults of.first.made at.0.source n at.0.given f) (of.read_is.limit_is ∙ of.begun.limit_is)
             (subst (λ (m : S). Means remaining s_faults m at.0.source at.0.limit at.0.given f) of.read_is.made_is why);
       }
 
   abbrev OpenPartly : (ℕ → ℕ → Type 0) → Type 0
-  OpenPartly = AreOpenPartly remaining s_faults files b_faults s workers opened laters (bays_of firsts) (bays_of backs)
+  OpenPartly = AreOpenPartlyBehind (past crew) remaining s_faults files b_faults s workers opened were laters (mades_of firsts) (bays_of firsts) (bays_of backs)
 
   abbrev Shows : Status → Type 0
-  Shows = StopShows remaining s_faults files b_faults s workers opened laters (bays_of firsts) (bays_of backs)
+  Shows = StopShowsBehind (past crew) remaining s_faults files b_faults s workers opened were laters (mades_of firsts) (bays_of firsts) (bays_of backs)
 
   -- ---- the fault that is answered
   module _ (one : Status) (found : first_fault crew ≡ Some one) where
@@ -156,7 +156,7 @@ module _ {S B : Type 0} (crew : Crewed S B) where
     rank_below cone c st is other some = (of_cone cone c other (ap (state_fault cone) is ∙ some)).ranked
 
     -- a cone of which no fault was counted may take more, where it tells its files
-    pub running_told : (cone : ℕ) (c : IsCone cone) → IsFaultless (b_faults c.first.bay) (b_faults c.closed.bay) → (seen : Files) → files c.closed.bay ≡ Some
+    pub running_told : (cone : ℕ) (c : IsCone cone) → IsFaultless (b_faults c.first.made) (b_faults c.closed.bay) → (seen : Files) → files c.closed.bay ≡ Some
         seen →
         c.closed.state ≡ state.Running
     running_told cone c faultless seen told = by_state c.closed.state refl
@@ -185,17 +185,17 @@ module _ {S B : Type 0} (crew : Crewed S B) where
       traces = traces;
       items = are_items crew.read;
       woven = parts_woven;
-      still = λ cone before now was_is is faultless seen told.
+      still = λ cone old now was_is is faultless seen told.
           let found = cone_of_bay cone now is in
           let c = found.0 in
-          let first_is : before ≡ c.first.bay = same_Some before c.first.bay (sym was_is ∙ bay_at firsts cone c.first c.first_is) in
-          let here : IsFaultless (b_faults c.first.bay) (b_faults c.closed.bay) =
-          subst (λ (b : B). IsFaultless (b_faults b) (b_faults c.closed.bay)) first_is (subst (λ (b : B). IsFaultless (b_faults before) (b_faults b)) (sym found.1) faultless) in
+          let first_is : old ≡ c.first.made = same_Some old c.first.made (sym was_is ∙ made_at firsts cone c.first c.first_is) in
+          let here : IsFaultless (b_faults c.first.made) (b_faults c.closed.bay) =
+          subst (λ (b : B). IsFaultless (b_faults b) (b_faults c.closed.bay)) first_is (subst (λ (b : B). IsFaultless (b_faults old) (b_faults b)) (sym found.1) faultless) in
           let seen_here = ap files found.1 ∙ told in
           let running = running_told cone c here seen seen_here in
-          holds_open files leaves b_faults b_mark s workers some cone traces shares reads stopped ends shared (added cone) (turned cone) c.left c.first c.closed c.back begun running
+          holds_open files leaves b_faults b_mark s workers some cone before traces shares reads stopped ends shared (added cone) (turned cone) c.left c.first c.closed c.back begun running
           open_trace
-          (λ trace opens. no_rest_of files leaves b_faults b_mark s workers some cone traces shares reads stopped ends shared (added cone) (turned cone) c.left c.first c.closed c.back
+          (λ trace opens. no_rest_of files leaves b_faults b_mark s workers some cone before traces shares reads stopped ends shared (added cone) (turned cone) c.left c.first c.closed c.back
           begun trace (no_rest cone trace c opens)) seen seen_here;
     }
 
@@ -218,14 +218,14 @@ module _ {S B : Type 0} (crew : Crewed S B) where
           opens = open_partly (λ _ other. other ≡ trace) (λ cone other c at. none_at (end.Trace trace f) is (λ e. absurd (let clash = e in cc)) cone other c tt (at ∙ same))
 
           bad : {f : TraceFault} (at : ℕ) (stop : IsStop trace f) → ((bytes : List ℕ) → remaining stop.before ≡ Some bytes → left bytes ≡ Some at) → Shows (status.BadTrace trace at)
-          bad at stop told = StopShows.bad_trace trace at (record { before = stop.before; was = stop.opened_is; told = told }) opens
+          bad at stop told = StopShowsBehind.bad_trace trace at (record { before = stop.before; was = stop.opened_is; told = told }) opens
 
           shows : (f : TraceFault) → IsStop trace f → Shows (stop_status trace f)
-          shows trace_fault.ReadFailed stop = StopShows.trace_fault trace (record { before = stop.before; now = stop.now; was = stop.opened_is; is = stop.later_is; rose = stop.means }) opens
+          shows trace_fault.ReadFailed stop = StopShowsBehind.trace_fault trace (record { before = stop.before; now = stop.now; was = stop.opened_is; is = stop.later_is; rose = stop.means }) opens
           shows (trace_fault.BadHeader at) stop = bad at stop (λ bytes told. (stop.means.1 bytes told).place)
           shows (trace_fault.CutKey at) stop = bad at stop (λ bytes told. (stop.means.1 bytes told).leaves.place)
           shows (trace_fault.ZeroWeight at) stop = bad at stop (λ bytes told. (stop.means.1 bytes told).leaves.place)
-          shows trace_fault.TooLong stop = StopShows.too_long trace (record { before = stop.before; was = stop.opened_is; told = stop.means.1 }) opens
+          shows trace_fault.TooLong stop = StopShowsBehind.too_long trace (record { before = stop.before; was = stop.opened_is; told = stop.means.1 }) opens
 
       -- a cone that refused a packet by its rule
       module _ (cone : ℕ) (f : ConeFault) (is : ends by ≡ end.Cone cone f) (above : 6 ≤ rank one) where
@@ -238,11 +238,11 @@ module _ {S B : Type 0} (crew : Crewed S B) where
         has : Contains (turned cone by) (e.0, f)
         has = subst (λ (xs : List (Packet × ConeFault)). Contains xs (e.0, f)) (sym e.1) (item_here (e.0, f) [])
 
-        full : IsFullAt s c.back.history e.0 f
+        full : IsFullAt s (before cone) c.back.history e.0 f
         full = elim (c.back.refusals by below e.0 f has) [ inl broke ↦ absurd (broke (running_all above cone c)) | inr refused ↦ refused ]
 
-        abbrev past : List Item
-        past = events_of full.past
+        abbrev had : List Item
+        had = events_of (before cone ++ full.past)
 
         abbrev refused : List Item
         refused = e.0.items
@@ -263,33 +263,33 @@ module _ {S B : Type 0} (crew : Crewed S B) where
             let bay_is = same_Some c.closed.bay bay (sym (bay_at backs cone c.closed c.closed_is) ∙ there) in
             so seen (ap files bay_is ∙ told)
 
-        by_capacity : IsOverCapacity s past refused f → Shows (status.CapacityFull cone (length past) (length refused))
-        by_capacity rule = StopShows.capacity_full cone (length past) (length refused) (record {
+        by_capacity : IsOverCapacity s had refused f → Shows (status.CapacityFull cone (length had) (length refused))
+        by_capacity rule = StopShowsBehind.capacity_full cone (length had) (length refused) (record {
           named = named;
           some = own_e.some;
           few = own_e.few;
           over = rule.over;
-          journal = held (HoldsItems s (length past) cone) (holds_first files leaves b_faults b_mark s workers some cone traces shares reads stopped ends shared (added cone) (turned cone)
-              c.left c.first c.closed c.back begun (λ items. length items ≡ length past) e.0 f full (running_all above cone c) refl);
+          journal = held (HoldsItems s (length had) cone) (holds_first files leaves b_faults b_mark s workers some cone before traces shares reads stopped ends shared (added cone) (turned cone)
+              c.left c.first c.closed c.back begun (λ items. length items ≡ length had) e.0 f full (running_all above cone c) refl);
         }) (record {
           traces = traces;
           items = are_items crew.read;
-          enough = enough files leaves b_faults b_mark s workers some cone traces shares reads stopped ends shared (added cone) (turned cone) c.left c.first c.closed c.back begun
+          enough = enough files leaves b_faults b_mark s workers some cone before traces shares reads stopped ends shared (added cone) (turned cone) c.left c.first c.closed c.back begun
               (λ items. length items) length_adds by below e.0 f has full;
         }) (stopped by) opens
 
-        by_weight : IsOverWeight s past refused f → Shows (status.WeightFull cone (weight_of weighed past) (weight_of weighed refused))
-        by_weight rule = StopShows.weight_full cone (weight_of weighed past) (weight_of weighed refused) (record {
+        by_weight : IsOverWeight s had refused f → Shows (status.WeightFull cone (weight_of weighed had) (weight_of weighed refused))
+        by_weight rule = StopShowsBehind.weight_full cone (weight_of weighed had) (weight_of weighed refused) (record {
           named = named;
           some = let w = weighs.0 in let n = own_e.some in omega (arith, w, n);
           few = let w = weighs.1 in let n = own_e.few in omega (arith, w, n);
           over = rule.over;
-          journal = held (HoldsWeight s (weight_of weighed past) cone) (holds_first files leaves b_faults b_mark s workers some cone traces shares reads stopped ends shared (added cone)
-              (turned cone) c.left c.first c.closed c.back begun (λ items. weight_of weighed items ≡ weight_of weighed past) e.0 f full (running_all above cone c) refl);
+          journal = held (HoldsWeight s (weight_of weighed had) cone) (holds_first files leaves b_faults b_mark s workers some cone before traces shares reads stopped ends shared (added cone)
+              (turned cone) c.left c.first c.closed c.back begun (λ items. weight_of weighed items ≡ weight_of weighed had) e.0 f full (running_all above cone c) refl);
         }) (record {
           traces = traces;
           items = are_items crew.read;
-          enough = enough files leaves b_faults b_mark s workers some cone traces shares reads stopped ends shared (added cone) (turned cone) c.left c.first c.closed c.back begun
+          enough = enough files leaves b_faults b_mark s workers some cone before traces shares reads stopped ends shared (added cone) (turned cone) c.left c.first c.closed c.back begun
               (weight_of weighed) weight_adds by below e.0 f has full;
         }) (stopped by) opens
           where
@@ -298,9 +298,9 @@ module _ {S B : Type 0} (crew : Crewed S B) where
             weighs = weight_within 2 refused own_e.weights
 
         by_refusal : full_fault cone f ≡ Some one → Shows one
-        by_refusal same = elim (by_rule s past refused f full.refused) [
-          | inl rule ↦ subst Shows (same_Some (status.CapacityFull cone (length past) (length refused)) one (sym (ap (full_fault cone) rule.fault_is) ∙ same)) (by_capacity rule)
-          | inr rule ↦ subst Shows (same_Some (status.WeightFull cone (weight_of weighed past) (weight_of weighed refused)) one (sym (ap (full_fault cone) rule.fault_is) ∙ same)) (by_weight rule)
+        by_refusal same = elim (by_rule s had refused f full.refused) [
+          | inl rule ↦ subst Shows (same_Some (status.CapacityFull cone (length had) (length refused)) one (sym (ap (full_fault cone) rule.fault_is) ∙ same)) (by_capacity rule)
+          | inr rule ↦ subst Shows (same_Some (status.WeightFull cone (weight_of weighed had) (weight_of weighed refused)) one (sym (ap (full_fault cone) rule.fault_is) ∙ same)) (by_weight rule)
         ]
 
       by_end : (e : WorkerEnd) → ends by ≡ e → end_fault e ≡ Some one → Shows one
@@ -319,16 +319,16 @@ module _ {S B : Type 0} (crew : Crewed S B) where
     by_state cone c state.Running is none = absurd (none-some one none)
     by_state cone c state.Finished is none = absurd (none-some one none)
     by_state cone c state.BrokenByBay is some =
-        subst Shows (same_Some (status.BayFault cone) one some) (StopShows.bay_fault cone (record {
-          before = c.first.bay;
+        subst Shows (same_Some (status.BayFault cone) one some) (StopShowsBehind.bay_fault cone (record {
+          before = c.first.made;
           now = c.closed.bay;
-          was = bay_at firsts cone c.first c.first_is;
+          was = made_at firsts cone c.first c.first_is;
           is = bay_at backs cone c.closed c.closed_is;
           rose = subst (λ (m : B). HasRisen (b_faults m) (b_faults c.closed.bay)) c.back.made_is (c.back.stands.by_bay is);
         }) open_broken)
     by_state cone c (state.BrokenByRead file at) is some =
-        subst Shows (same_Some (status.Malformed cone file at) one some) (StopShows.malformed cone file at
-        (untold_since files b_faults b_mark (bays_of firsts) (bays_of backs) cone bays_later (record {
+        subst Shows (same_Some (status.Malformed cone file at) one some) (StopShowsBehind.malformed cone file at
+        (untold_since files b_faults b_mark (mades_of firsts) (bays_of backs) cone bays_later (record {
           named = slice_get_within (bays_of backs) cone c.closed.bay (bay_at backs cone c.closed c.closed_is);
           untold = λ bay there seen told.
               let bay_is = same_Some c.closed.bay bay (sym (bay_at backs cone c.closed c.closed_is) ∙ there) in

@@ -17,3 +17,4 @@ pub mod Starting
 pub mod Assembling
 pub mod Finishing
 pub mod Fewer
+pub mod Freshly

@@ -95,11 +95,14 @@ pub record HoldsAll (s : Numbers) (workers : ℕ) (traces : List (List Item)) (c
 abbrev pub HoldsWeave : Numbers → ℕ → List (List Item) → ℕ → Files → Type 0
 HoldsWeave s workers traces cone = HoldsAll s workers traces cone (IsSoundClosed s cone)
 
--- the files of a cone are sound for a weave of beginnings of its part of the items of all traces
-pub record HoldsPart (s : Numbers) (workers : ℕ) (traces : List (List Item)) (cone : ℕ) (seen : Files) : Type 0 where
+-- the files of a cone are sound for a weave of beginnings of its part of the items of all traces, behind what there was before
+pub record HoldsPartBehind (before : ℕ → List Packet) (s : Numbers) (workers : ℕ) (traces : List (List Item)) (cone : ℕ) (seen : Files) : Type 0 where
   pub history : List Packet
   pub woven : IsPartWoven s cone workers traces history
-  pub sound : IsSound s cone history seen
+  pub sound : IsSound s cone (before cone ++ history) seen
+
+abbrev pub HoldsPart : Numbers → ℕ → List (List Item) → ℕ → Files → Type 0
+HoldsPart = HoldsPartBehind (λ _. [])
 
 -- the files of a cone are sound for packets of which this is so of the items of the first so many
 pub record HoldsFirst (s : Numbers) (are_so : List Item → Type 0) (cone : ℕ) (seen : Files) : Type 0 where
@@ -120,11 +123,14 @@ HoldsWeight s weight cone = HoldsFirst s (λ items. weight_of weighed items ≡ 
 
 -- The files of a cone are sound for a weave of beginnings of its part of the items of all traces, and not closed. Of a trace that
 -- was still open there each packet is whole, so that nothing of what waits for a whole packet was handed out.
-pub record HoldsOpen (s : Numbers) (workers : ℕ) (traces : List (List Item)) (open_trace : ℕ → ℕ → Type 0) (cone : ℕ) (seen : Files) : Type 0 where
+pub record HoldsOpenBehind (before : ℕ → List Packet) (s : Numbers) (workers : ℕ) (traces : List (List Item)) (open_trace : ℕ → ℕ → Type 0) (cone : ℕ) (seen : Files) : Type 0 where
   pub history : List Packet
   pub woven : IsPartWoven s cone workers traces history
-  pub sound : IsSoundAs s cone false history seen
+  pub sound : IsSoundAs s cone false (before cone ++ history) seen
   pub no_rest : (trace : ℕ) → open_trace cone trace → All (IsWhole s.packet) (of_trace history trace)
+
+abbrev pub HoldsOpen : Numbers → ℕ → List (List Item) → (ℕ → ℕ → Type 0) → ℕ → Files → Type 0
+HoldsOpen = HoldsOpenBehind (λ _. [])
 
 -- A run left the files of a cone without a packet: as they were, or, where they had no byte, sound for no packet, and not
 -- closed. A journal with a packet of the run is neither.
@@ -144,10 +150,16 @@ abbrev pub AreWoven : {B : Type 0} → (B → Option Files) → Numbers → ℕ 
 AreWoven {B = B} files s workers bays traces = (cone : ℕ) → IfHeld files bays cone (HoldsWeave s workers traces cone)
 
 -- each bay that tells its files holds a weave of beginnings
+abbrev pub ArePartWovenBehind : {B : Type 0} → (ℕ → List Packet) → (B → Option Files) → Numbers → ℕ → List B → List (List Item) → Type 0
+ArePartWovenBehind {B = B} before files s workers bays traces = (cone : ℕ) → IfHeld files bays cone (HoldsPartBehind before s workers traces cone)
+
 abbrev pub ArePartWoven : {B : Type 0} → (B → Option Files) → Numbers → ℕ → List B → List (List Item) → Type 0
-ArePartWoven {B = B} files s workers bays traces = (cone : ℕ) → IfHeld files bays cone (HoldsPart s workers traces cone)
+ArePartWoven files s workers bays traces = ArePartWovenBehind (λ _. []) files s workers bays traces
 
 -- and each of which no fault was counted holds one that isn't closed
+abbrev pub AreOpenWovenBehind : {B : Type 0} → (ℕ → List Packet) → (B → Option Files) → (B → ℕ) → Numbers → ℕ → (ℕ → ℕ → Type 0) → List B → List B → List (List Item) → Type 0
+AreOpenWovenBehind past files faults s workers open_trace bays later traces = EachBay (λ cone before now. IsFaultless (faults before) (faults now)
+    → IfTold (files now) (HoldsOpenBehind past s workers traces open_trace cone)) bays later
+
 abbrev pub AreOpenWoven : {B : Type 0} → (B → Option Files) → (B → ℕ) → Numbers → ℕ → (ℕ → ℕ → Type 0) → List B → List B → List (List Item) → Type 0
-AreOpenWoven files faults s workers open_trace bays later traces = EachBay (λ cone before now. IsFaultless (faults before) (faults now)
-    → IfTold (files now) (HoldsOpen s workers traces open_trace cone)) bays later
+AreOpenWoven files faults s workers open_trace bays later traces = AreOpenWovenBehind (λ _. []) files faults s workers open_trace bays later traces

@@ -3,6 +3,7 @@ pub mod Bays
 pub mod Cones
 pub mod Faults
 pub mod Ingest
+pub mod Past
 pub mod Readers
 pub mod Status
 pub mod Stops

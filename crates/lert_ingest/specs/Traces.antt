@@ -1,7 +1,7 @@
 -- What is known of the traces of a run: those that were opened, the same ones later, and the items of all.
-use Rattle.std.specs.Prelude.{◌≡◌, ◌⊎◌, ℕ, ◌+◌, ◌^◌, ◌<◌, ◌≤◌, List, [], flat_map, length, map, sum_by, Option, Some, None, slice_get}
+use Rattle.std.specs.Prelude.{◌≡◌, ℕ, ◌≤◌, List, [], drop, flat_map, length, map, sum_by, Option, Some, None, slice_get}
 use Rattle.lert_io.specs.{Fault.{HasRisen, IsFaultless}, Reading.IfTold}
-use Rattle.lert_spec.specs.{declared.item.Item.Item, declared.numbers.Numbers.Numbers, Counts.{weighed, weight_of}, Edges.{capacity, weight_room}, Mix.part_in}
+use Rattle.lert_spec.specs.{declared.item.Item.Item, declared.numbers.Numbers.Numbers, Counts.{weighed, weight_of}, Mix.part_in}
 use Rattle.lert_trace.specs.Trace.{left, whole}
 
 -- the most items that a trace may have, 2^36
@@ -22,11 +22,16 @@ pub record AreTracesLater {S : Type 0} (faults mark : S → ℕ) (opened later :
 abbrev pub AtTrace : {S : Type 0} → (S → S → Type 0) → List S → List S → ℕ → Type 0
 AtTrace {S = S} R opened later trace = (before now : S) → slice_get opened trace ≡ Some before → slice_get later trace ≡ Some now → R before now
 
--- the items of all traces: of each that tells its bytes all whole items
-pub record AreItemsOf {S : Type 0} (remaining : S → Option (List ℕ)) (opened : List S) (traces : List (List Item)) : Type 0 where
+-- the items that all traces have still to give, of each of which so many were given: of each that tells its bytes all whole items
+-- behind these
+pub record AreRestsOf {S : Type 0} (remaining : S → Option (List ℕ)) (given : ℕ → ℕ) (opened : List S) (traces : List (List Item)) : Type 0 where
   pub number : length traces ≡ length opened
   pub each : (trace : ℕ) (before : S) (items : List Item) → slice_get opened trace ≡ Some before → slice_get traces trace ≡ Some items
-      → IfTold (remaining before) (λ bytes. items ≡ whole bytes)
+      → IfTold (remaining before) (λ bytes. items ≡ drop (given trace) (whole bytes))
+
+-- the items of all traces
+abbrev pub AreItemsOf : {S : Type 0} → (S → Option (List ℕ)) → List S → List (List Item) → Type 0
+AreItemsOf remaining opened traces = AreRestsOf remaining (λ _. 0) opened traces
 
 -- all traces tell their bytes, and these are they
 abbrev pub AreBytesOf : {S : Type 0} → (S → Option (List ℕ)) → List S → List (List ℕ) → Type 0
@@ -73,19 +78,3 @@ part_length s cone traces = sum_by (λ items. length (part_in weighed s cone ite
 -- and what they weigh
 abbrev pub part_weight : Numbers → ℕ → List (List Item) → ℕ
 part_weight s cone traces = sum_by (λ items. weight_of weighed (part_in weighed s cone items)) traces
-
--- each cone takes its part of the items of all traces, by their number and by their weight
-abbrev pub AllFit : Numbers → List (List Item) → Type 0
-AllFit s traces = (cone : ℕ) → cone < 2 ^ s.cone_bits → (part_length s cone traces ≤ capacity s) × (part_weight s cone traces ≤ weight_room s)
-
--- a cone has more items in all traces than it takes, or more weight
-abbrev pub IsOver : Numbers → List (List Item) → ℕ → Type 0
-IsOver s traces cone = (capacity s < part_length s cone traces) ⊎ (weight_room s < part_weight s cone traces)
-
--- a cone has as many items in all traces as a beginning of its journal and a packet together, or more
-abbrev pub HasThem : Numbers → List (List Item) → ℕ → ℕ → ℕ → Type 0
-HasThem s traces cone n len = n + len ≤ part_length s cone traces
-
--- and as much weight
-abbrev pub HasWeight : Numbers → List (List Item) → ℕ → ℕ → ℕ → Type 0
-HasWeight s traces cone weight more = weight + more ≤ part_weight s cone traces
