@@ -175,7 +175,8 @@ class Service:
         if directory is not None and directory.given.items and not directory.has_room(more, self.wanted.full):
             self.end("its fullest cone is full enough")
             if self.is_sent_back:
-                # These come again behind those that it lost.
+                # These come again behind those that it lost, and so do the lines that are none.
+                self.state.bad -= sifted.bad
                 return
         if self.directory is None:
             self.begin(sifted)
@@ -394,7 +395,6 @@ class Service:
         self.is_stopping = True
         self.file.save(synced=True)
         self.measure()
-        state = self.state
-        parts = f"{state.bad} lines that are none, {told_lost(state.lost, self.wanted.weighs)}"
-        self.tell(f"ended: {state.records} records, {parts}")
+        parts = f"{self.state.bad} lines that are none, {told_lost(self.state.lost, self.wanted.weighs)}"
+        self.tell(f"ended: {self.state.records} records, {parts}")
         return DISK_IS_FULL if self.is_full else DONE
